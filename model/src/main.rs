@@ -5,10 +5,12 @@ mod calls;
 mod choose;
 mod cover;
 mod generate;
+mod oracle;
 mod params;
 mod recover;
 mod rng;
 mod script;
+mod simulate;
 mod state;
 
 use std::io::{self, BufRead, Write};
@@ -59,11 +61,19 @@ fn generate(args: &[String]) -> Option<io::Result<()>> {
     Some(out.flush())
 }
 
+/// SECONDS [SEED]
+fn simulate(args: &[String]) -> Option<io::Result<()>> {
+    let seed = if args.len() > 1 { number(args, 1)? } else { 1 };
+    let held = simulate::simulate(number(args, 0)?, seed);
+    std::process::exit(!held as i32);
+}
+
 fn main() {
     let args: Vec<String> = std::env::args().skip(1).collect();
     let result = match args.first().map(String::as_str) {
         Some("script") => Some(interpret()),
         Some("generate") => generate(&args[1..]),
+        Some("simulate") => simulate(&args[1..]),
         _ => None,
     };
     match result {
@@ -71,6 +81,7 @@ fn main() {
             eprintln!("usage: model script");
             eprintln!("       model generate run|hostile|fill|small SEED CALLS [N B Z S G L]");
             eprintln!("       model generate --coverage SECONDS [SEED]");
+            eprintln!("       model simulate SECONDS [SEED]");
             std::process::exit(2);
         }
         Some(Err(e)) if e.kind() != io::ErrorKind::BrokenPipe => {
