@@ -2,6 +2,7 @@
 
 use crate::params::{Params, SPARE};
 use crate::state::State;
+use std::cell::Cell;
 
 pub const HEADER: usize = 41;
 
@@ -15,7 +16,11 @@ pub struct Record {
 
 impl Record {
     pub fn read(bytes: &[u8]) -> Record {
-        Record { address: be64(&bytes[0..8]), stamp: be64(&bytes[8..16]), stripe: be32(&bytes[16..20]) }
+        Record {
+            address: be64(&bytes[0..8]),
+            stamp: be64(&bytes[8..16]),
+            stripe: be32(&bytes[16..20]),
+        }
     }
 
     pub fn bytes(&self) -> [u8; SPARE] {
@@ -44,10 +49,18 @@ pub fn xor_into(to: &mut [u8], from: &[u8]) {
 /// What a call answers.
 #[derive(Clone, Copy, PartialEq, Eq, Debug)]
 pub enum Answer {
-    Sent { stamp: u64, stripe: usize, drive: usize },
+    Sent {
+        stamp: u64,
+        stripe: usize,
+        drive: usize,
+    },
     Landed(u64),
     Closed(usize),
-    Copied { stamp: u64, stripe: usize, drive: usize },
+    Copied {
+        stamp: u64,
+        stripe: usize,
+        drive: usize,
+    },
     Reset(usize),
     Part(usize),
     Never,
@@ -85,9 +98,16 @@ pub struct Stores {
 }
 
 enum Store {
-    Reset { drive: usize, zone: usize },
+    Reset {
+        drive: usize,
+        zone: usize,
+    },
     /// A block with its spare, from this offset of `bytes`.
-    Put { drive: usize, zone: usize, from: usize },
+    Put {
+        drive: usize,
+        zone: usize,
+        from: usize,
+    },
 }
 
 impl Stores {
@@ -118,6 +138,8 @@ pub struct Array {
     pub lent: [Option<u64>; 5],
     /// Stores that the last storing call had due, for choosing where to cut.
     pub due: u64,
+    /// A word on what the last call met, for the coverage table.
+    pub note: Cell<&'static str>,
 }
 
 impl Array {
@@ -133,12 +155,24 @@ impl Array {
             state: State::zero(),
             lent: [None; 5],
             due: 0,
+            note: Cell::new(""),
         }
     }
 
     pub fn new(p: Params) -> Array {
         let [image, pointers, addresses, compact, inflight] = p.lengths().map(|len| vec![0; len]);
-        Array { p, image, pointers, addresses, compact, inflight, state: State::zero(), lent: [None; 5], due: 0 }
+        Array {
+            p,
+            image,
+            pointers,
+            addresses,
+            compact,
+            inflight,
+            state: State::zero(),
+            lent: [None; 5],
+            due: 0,
+            note: Cell::new(""),
+        }
     }
 
     pub fn buffers(&self) -> [&Vec<u8>; 5] {
@@ -155,14 +189,20 @@ impl Array {
         }
     }
 
+    /// A refusal, with a word on its reason.
+    pub fn refuse(&self, k: u8, why: &'static str) -> Answer {
+        self.note.set(why);
+        Answer::Refused(k)
+    }
+
     /// Refusals 1 and 2 that every call shares.
     pub fn in_order(&self) -> Result<(), Answer> {
         if self.p.n == 0 {
-            return Err(Answer::Refused(1));
+            return Err(self.refuse(1, "parameters"));
         }
         let lengths = self.p.lengths();
         if (0..5).any(|i| self.lent[i].is_some_and(|len| len != lengths[i] as u64)) {
-            return Err(Answer::Refused(2));
+            return Err(self.refuse(2, "buffer"));
         }
         Ok(())
     }

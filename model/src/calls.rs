@@ -42,16 +42,27 @@ impl Array {
         }
     }
 
-    /// Refusal 7.
-    fn too_many(&self, need: Need) -> bool {
+    /// Refusal 7, with its reason.
+    pub fn too_many(&self, need: Need) -> Option<&'static str> {
+        let group = self.state.next_stripe / self.p.g;
         match need {
-            Need::Filling(_) => false,
-            Need::Stripe => {
-                let group = self.state.next_stripe / self.p.g;
-                self.state.in_flight() == FLIGHTS || self.state.flights.iter().flatten().any(|f| f.stripe / self.p.g != group)
-            }
-            Need::Segment => self.state.in_flight() > 0,
+            Need::Filling(_) => None,
+            Need::Stripe if self.state.in_flight() == FLIGHTS => Some("eight"),
+            Need::Stripe => self
+                .state
+                .flights
+                .iter()
+                .flatten()
+                .any(|f| f.stripe / self.p.g != group)
+                .then_some("group"),
+            Need::Segment => (self.state.in_flight() > 0).then_some("segment"),
         }
+    }
+
+    /// Refusal 6 for a serial, with a word on whether 7 would apply too.
+    fn no_serial(&self, need: Need) -> Option<&'static str> {
+        let ended = need == Need::Segment && self.state.next_serial.is_none();
+        ended.then_some(if self.state.in_flight() > 0 { "serial before 7" } else { "serial" })
     }
 
     /// The sealed segment with fewest live blocks, lowest zone on a tie. Places outside the image are left out.
@@ -133,6 +144,7 @@ impl Array {
             if !self.apply(&stores, count) {
                 return None;
             }
+            self.note.set("opens");
             state.next_serial = serial.checked_add(1);
             state.open = Some(zone);
             state.next_stripe = 0;
@@ -185,25 +197,25 @@ impl Array {
     fn try_write(&mut self, address: u64, block: &[u8], count: u64) -> Result<Answer, Answer> {
         self.in_order()?;
         if block.len() != self.p.b {
-            return Err(Answer::Refused(2));
+            return Err(self.refuse(2, "block"));
         }
         if self.state.missing.is_some() {
-            return Err(Answer::Refused(3));
+            return Err(self.refuse(3, ""));
         }
         if address >= self.p.l {
-            return Err(Answer::Refused(4));
+            return Err(self.refuse(4, ""));
         }
         let need = self.need();
-        let stamp = self.state.next_stamp.ok_or(Answer::Refused(6))?;
-        if need == Need::Segment && self.state.next_serial.is_none() {
-            return Err(Answer::Refused(6));
+        let stamp = self.state.next_stamp.ok_or_else(|| self.refuse(6, "stamp"))?;
+        if let Some(why) = self.no_serial(need) {
+            return Err(self.refuse(6, why));
         }
-        if self.too_many(need) {
-            return Err(Answer::Refused(7));
+        if let Some(why) = self.too_many(need) {
+            return Err(self.refuse(7, why));
         }
         let empty = self.empty_zones();
         if empty <= 1 || need == Need::Segment && empty <= 2 {
-            return Err(Answer::Refused(8));
+            return Err(self.refuse(8, if empty <= 1 { "one" } else { "two" }));
         }
         let mut faults = Faults::default();
         self.check_state(&mut faults);
@@ -244,9 +256,12 @@ impl Array {
         self.in_order()?;
         let p = self.p;
         if self.state.missing.is_some() {
-            return Err(Answer::Refused(3));
+            return Err(self.refuse(3, ""));
         }
-        let slot = self.waiting(drive, stripe).ok_or(Answer::Refused(5))?;
+        let number = drive >= p.n as u64 || stripe >= p.s as u64;
+        let slot = self
+            .waiting(drive, stripe)
+            .ok_or_else(|| self.refuse(5, if number { "number" } else { "not waiting" }))?;
         let (drive, stripe) = (drive as usize, stripe as usize);
         let zone = self.state.open.expect("a stripe in flight has a segment");
         let mut flight = self.state.flights[slot].unwrap();
@@ -279,7 +294,11 @@ impl Array {
 
         // The chunk, then the footers.
         let record = match p.position(stripe, drive) {
-            Some(i) => Record { address: flight.addresses[i], stamp: flight.stamps[i], stripe: stripe as u32 },
+            Some(i) => Record {
+                address: flight.addresses[i],
+                stamp: flight.stamps[i],
+                stripe: stripe as u32,
+            },
             None => Record {
                 address: flight.addresses[..p.data()].iter().fold(0, |x, a| x ^ a),
                 stamp: flight.stamps[..p.data()].iter().fold(0, |x, s| x ^ s),
@@ -291,7 +310,12 @@ impl Array {
         let at = self.flight_at(slot, drive);
         put[..p.b].copy_from_slice(&self.inflight[at..at + p.b]);
         put[p.b..].copy_from_slice(&record.bytes());
+        if complete {
+            self.note.set("completes");
+        }
         if last {
+            let behind = |d: usize| self.pointer(d, zone) + (d == drive) as usize == 1 + p.s;
+            self.note.set(if (0..p.n).all(behind) { "footers" } else { "odd footers" });
             for d in 0..p.n {
                 for i in 0..p.f {
                     let put = stores.put(&p, d, zone);
@@ -311,7 +335,12 @@ impl Array {
             for i in (0..p.data()).filter(|&i| mine(flight.addresses[i])) {
                 let a = flight.addresses[i];
                 let d = p.data_drive(stripe, i);
-                let new = Key { stamp: flight.stamps[i], serial: self.serial(0, zone), drive: d, offset: flight.offsets[d] };
+                let new = Key {
+                    stamp: flight.stamps[i],
+                    serial: self.serial(0, zone),
+                    drive: d,
+                    offset: flight.offsets[d],
+                };
                 let old = match best.iter().rev().find(|(b, _)| *b == a) {
                     Some((_, key)) => Some(*key),
                     None => self.key_of(self.entry(a)),
@@ -352,7 +381,12 @@ impl Array {
         }
         let (d, z, block) = self.p.split(place)?;
         let record = self.record(d, z, block - 1, self.is_sealed(z, None));
-        Some(Key { stamp: record.stamp, serial: self.serial(0, z), drive: d, offset: block - 1 })
+        Some(Key {
+            stamp: record.stamp,
+            serial: self.serial(0, z),
+            drive: d,
+            offset: block - 1,
+        })
     }
 
     pub fn close(&mut self, count: u64) -> Answer {
@@ -365,12 +399,12 @@ impl Array {
         self.in_order()?;
         let p = self.p;
         if self.state.missing.is_some() {
-            return Err(Answer::Refused(3));
+            return Err(self.refuse(3, ""));
         }
-        let slot = self.state.filling(p.data()).ok_or(Answer::Refused(5))?;
+        let slot = self.state.filling(p.data()).ok_or_else(|| self.refuse(5, "none filling"))?;
         let scarce = self.empty_zones() <= 1;
         if scarce && self.chosen().is_some_and(|c| c.waiting()) {
-            return Err(Answer::Refused(5));
+            return Err(self.refuse(5, "scarce"));
         }
         let mut faults = Faults::default();
         self.check_state(&mut faults);
@@ -397,7 +431,7 @@ impl Array {
     /// Checks of both reads; then the place, none for never written.
     fn look_up(&self, address: u64) -> Result<Option<(usize, usize, usize)>, Answer> {
         if address >= self.p.l {
-            return Err(Answer::Refused(4));
+            return Err(self.refuse(4, ""));
         }
         let place = self.entry(address);
         let mut faults = Faults::default();
@@ -434,7 +468,7 @@ impl Array {
     fn try_fill(&self, address: u64, out: &mut [u8]) -> Result<Answer, Answer> {
         self.in_order()?;
         if out.len() != self.p.b {
-            return Err(Answer::Refused(2));
+            return Err(self.refuse(2, "block"));
         }
         match self.look_up(address)? {
             None => out.fill(0),
@@ -462,22 +496,22 @@ impl Array {
         self.in_order()?;
         let p = self.p;
         if self.state.missing.is_some() {
-            return Err(Answer::Refused(3));
+            return Err(self.refuse(3, ""));
         }
-        let chosen = self.chosen().ok_or(Answer::Refused(5))?;
+        let chosen = self.chosen().ok_or_else(|| self.refuse(5, "none sealed"))?;
         if !chosen.live.is_empty() && !chosen.waiting() {
-            return Err(Answer::Refused(5));
+            return Err(self.refuse(5, "all in flight"));
         }
         let need = self.need();
         if !chosen.live.is_empty() {
-            if need == Need::Segment && self.state.next_serial.is_none() {
-                return Err(Answer::Refused(6));
+            if let Some(why) = self.no_serial(need) {
+                return Err(self.refuse(6, why));
             }
-            if self.too_many(need) {
-                return Err(Answer::Refused(7));
+            if let Some(why) = self.too_many(need) {
+                return Err(self.refuse(7, why));
             }
             if need == Need::Segment && self.empty_zones() <= 1 {
-                return Err(Answer::Refused(8));
+                return Err(self.refuse(8, ""));
             }
         }
         let mut faults = Faults::default();
@@ -511,7 +545,11 @@ impl Array {
                 let bytes = self.block(d, z, block).to_vec();
                 match self.put_block(need, &bytes, (record.address, record.stamp, Kind::Copy), count) {
                     None => Ok(Answer::Cut),
-                    Some((stripe, drive)) => Ok(Answer::Copied { stamp: record.stamp, stripe, drive }),
+                    Some((stripe, drive)) => Ok(Answer::Copied {
+                        stamp: record.stamp,
+                        stripe,
+                        drive,
+                    }),
                 }
             }
         }

@@ -24,8 +24,21 @@ struct Mood {
     /// Addresses written: the first so many of L, from a moving start.
     spread: u64,
     start: u64,
-    /// A drive whose chunks land last.
-    slow: Option<usize>,
+    /// Which chunks land first.
+    order: Order,
+}
+
+#[derive(Clone, Copy)]
+enum Order {
+    Any,
+    /// Those of all drives but one.
+    Slow(usize),
+    /// Those of the newest stripe.
+    Newest,
+    /// Those of the oldest stripe.
+    Oldest,
+    /// Those of all stripes but the oldest, but rarely of that.
+    Hold,
 }
 
 #[derive(Clone, Copy, PartialEq, Eq)]
@@ -59,7 +72,13 @@ pub fn draw_params(rng: &mut Rng) -> Params {
         97..=98 => 2048,
         _ => 4096,
     };
-    let n = if b > 512 { n.min(4) } else if rng.chance(50) { rng.between(3, 4) } else { n };
+    let n = if b > 512 {
+        n.min(4)
+    } else if rng.chance(50) {
+        rng.between(3, 4)
+    } else {
+        n
+    };
     let z = rng.between(4, 6);
     let s = if rng.chance(60) { rng.between(1, 5) } else { rng.between(1, 12) };
     let g = match rng.below(10) {
@@ -101,8 +120,30 @@ pub fn params_command(p: &Params) -> Command {
 
 impl Chooser {
     pub fn new(rng: Rng, style: Style) -> Chooser {
-        let mood = Mood { write: 0, land: 0, close: 0, reclaim: 0, read: 0, restart: 0, refused: 0, cut: 0, lose: 0, spread: 1, start: 0, slow: None };
-        Chooser { rng, style, mood, left: 0, untrusted: None, seeds: 0, queue: VecDeque::new(), refusals: 100 }
+        let mood = Mood {
+            write: 0,
+            land: 0,
+            close: 0,
+            reclaim: 0,
+            read: 0,
+            restart: 0,
+            refused: 0,
+            cut: 0,
+            lose: 0,
+            spread: 1,
+            start: 0,
+            order: Order::Any,
+        };
+        Chooser {
+            rng,
+            style,
+            mood,
+            left: 0,
+            untrusted: None,
+            seeds: 0,
+            queue: VecDeque::new(),
+            refusals: 100,
+        }
     }
 
     /// After new parameters.
@@ -130,7 +171,11 @@ impl Chooser {
             write: *rng.pick(&[30, 60, 60, 100]),
             land: *rng.pick(&[20, 80, 150, 300]),
             close: *rng.pick(&[0, 2, 5, 20]),
-            reclaim: if fill { *rng.pick(&[20, 60, 150]) } else { *rng.pick(&[0, 10, 40, 100]) },
+            reclaim: if fill {
+                *rng.pick(&[20, 60, 150])
+            } else {
+                *rng.pick(&[0, 10, 40, 100])
+            },
             read: if fill { 4 } else { *rng.pick(&[5, 15]) },
             restart: if fill { *rng.pick(&[0, 1, 3]) } else { *rng.pick(&[0, 2, 6, 20]) },
             refused: *rng.pick(&[2, 6]),
@@ -138,7 +183,13 @@ impl Chooser {
             lose: *rng.pick(&[0, 15, 40, 70]),
             spread,
             start: rng.below(p.l),
-            slow: rng.chance(25).then(|| rng.index(p.n)),
+            order: match rng.below(8) {
+                0 | 1 => Order::Slow(rng.index(p.n)),
+                2 => Order::Newest,
+                3 => Order::Oldest,
+                4 | 5 => Order::Hold,
+                _ => Order::Any,
+            },
         };
     }
 
@@ -298,14 +349,26 @@ impl Chooser {
         let need = array.need();
         let empty = array.empty_zones();
         let scarce = empty <= 1 || need == Need::Segment && empty <= 2;
-        let write = if scarce { m.write / 10 } else { m.write };
+        let crowded = array.too_many(need).is_some();
+        let write = if scarce {
+            m.write / 10
+        } else if crowded {
+            m.write / 5
+        } else {
+            m.write
+        };
         let land = if waiting.is_empty() { 0 } else { m.land };
-        let close = if matches!(need, Need::Filling(_)) { m.close + if waiting.is_empty() { 5 } else { 0 } } else { m.close / 8 };
-        let sealed = (0..p.z).any(|z| array.is_sealed(z, None));
-        let reclaim = match (sealed, scarce) {
-            (false, _) => m.reclaim / 20,
-            (true, true) => m.reclaim.max(40),
-            (true, false) => m.reclaim,
+        let close = if matches!(need, Need::Filling(_)) {
+            m.close + if waiting.is_empty() { 5 } else { 0 }
+        } else {
+            m.close / 8
+        };
+        let reclaim = match array.chosen() {
+            None => m.reclaim / 20,
+            Some(c) if c.live.is_empty() => m.reclaim.max(20),
+            Some(c) if !c.waiting() || crowded => m.reclaim / 8,
+            Some(_) if scarce => m.reclaim.max(40),
+            Some(_) => m.reclaim,
         };
         let total = write + land + close + reclaim + m.read + m.restart + refused;
         if total == 0 {
@@ -326,7 +389,16 @@ impl Chooser {
                 Write(a, seed, if self.rng.chance(15) { 0 } else { u64::MAX })
             }
         } else if is(land) {
-            let quick: Vec<_> = waiting.iter().copied().filter(|&(d, _)| Some(d) != m.slow).collect();
+            let newest = waiting.iter().map(|w| w.1).max();
+            let oldest = waiting.iter().map(|w| w.1).min();
+            let first = |&(d, s): &(usize, usize)| match m.order {
+                Order::Any => true,
+                Order::Slow(slow) => d != slow,
+                Order::Newest => Some(s) == newest,
+                Order::Oldest => Some(s) == oldest,
+                Order::Hold => Some(s) != oldest,
+            };
+            let quick: Vec<_> = waiting.iter().copied().filter(first).collect();
             let from = if quick.is_empty() || self.rng.chance(5) { &waiting } else { &quick };
             let (d, s) = *self.rng.pick(from);
             self.count(array, m.cut, |count| Land(d as u64, s as u64, count))

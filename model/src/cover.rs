@@ -9,33 +9,105 @@ use std::time::{Duration, Instant};
 
 #[derive(Default)]
 pub struct Cover {
-    pairs: BTreeMap<(usize, String), u64>,
-    faults: BTreeMap<(usize, &'static str), u64>,
+    /// By call, answer, and a word on what the call met.
+    pairs: BTreeMap<(usize, String, &'static str), u64>,
     pub calls: u64,
 }
 
-/// The calls, each with the refusals that it can give and with its own answers.
-const CALLS: [(&str, &[u8], &[&str]); 8] = [
-    ("write", &[2, 3, 4, 6, 7, 8, 9], &["sent", "cut"]),
-    ("land", &[2, 3, 5, 9], &["landed", "cut"]),
-    ("close", &[2, 3, 5, 9], &["closed"]),
-    ("reclaim", &[2, 3, 5, 6, 7, 8, 9], &["copied", "reset", "cut"]),
-    ("read", &[2, 4, 9], &["part", "never", "lost"]),
-    ("fill", &[2, 4, 9], &["filled"]),
-    ("restart", &[1, 2, 6, 8, 9], &["restarted", "cut"]),
-    ("rebuild", &[1, 2, 9], &["rebuilt", "cut"]),
+/// The calls, each with the answers that it can give and what it can meet in each.
+type Row = (&'static str, &'static [(&'static str, &'static [&'static str])]);
+
+const FAULTS: &[&str] = &[
+    "pointer", "header", "unequal", "serial", "twice", "group", "repeated", "address", "decoded", "footer", "unsealed",
 ];
 
-/// The faults that refusal 9 can have in each call.
-const FAULTS: [&[&str]; 8] = [
-    &["state"],
-    &["landing", "above", "outside", "notdata", "notbelow"],
-    &["outside"],
-    &["state", "outside", "notdata"],
-    &["state", "outside", "notdata", "notbelow"],
-    &["state", "outside", "notdata", "notbelow", "decode"],
-    &["pointer", "header", "unequal", "serial", "twice", "group", "repeated", "address", "decoded", "footer", "unsealed"],
-    &["pointer", "header", "unequal", "serial", "twice", "group", "repeated", "address", "decoded", "footer", "unsealed"],
+const CALLS: [Row; 8] = [
+    (
+        "write",
+        &[
+            ("sent", &["", "opens"]),
+            ("cut", &[""]),
+            ("2", &["buffer", "block"]),
+            ("3", &[""]),
+            ("4", &[""]),
+            ("6", &["stamp", "serial", "serial before 7"]),
+            ("7", &["eight", "group", "segment"]),
+            ("8", &["one", "two"]),
+            ("9", &["state"]),
+        ],
+    ),
+    (
+        "land",
+        &[
+            ("landed", &["", "completes", "footers", "odd footers"]),
+            ("cut", &["", "completes", "footers", "odd footers"]),
+            ("2", &["buffer"]),
+            ("3", &[""]),
+            ("5", &["number", "not waiting"]),
+            ("9", &["landing", "above", "outside", "notdata", "notbelow"]),
+        ],
+    ),
+    (
+        "close",
+        &[
+            ("closed", &[""]),
+            ("2", &["buffer"]),
+            ("3", &[""]),
+            ("5", &["none filling", "scarce"]),
+            ("9", &["outside"]),
+        ],
+    ),
+    (
+        "reclaim",
+        &[
+            ("copied", &["", "opens"]),
+            ("reset", &[""]),
+            ("cut", &[""]),
+            ("2", &["buffer"]),
+            ("3", &[""]),
+            ("5", &["none sealed", "all in flight"]),
+            ("6", &["serial", "serial before 7"]),
+            ("7", &["eight", "group", "segment"]),
+            ("8", &[""]),
+            ("9", &["state", "outside", "notdata"]),
+        ],
+    ),
+    (
+        "read",
+        &[
+            ("part", &[""]),
+            ("never", &[""]),
+            ("lost", &[""]),
+            ("2", &["buffer"]),
+            ("4", &[""]),
+            ("9", &["state", "outside", "notdata", "notbelow"]),
+        ],
+    ),
+    (
+        "fill",
+        &[
+            ("filled", &[""]),
+            ("2", &["buffer"]),
+            ("4", &[""]),
+            ("9", &["state", "outside", "notdata", "notbelow", "decode"]),
+        ],
+    ),
+    (
+        "restart",
+        &[
+            ("restarted", &["none missing", "missing", "footers", "rewrite", "rewrite of none"]),
+            ("cut", &["none missing", "footers", "rewrite", "rewrite of none"]),
+            ("1", &[""]),
+            ("2", &["buffer"]),
+            ("6", &[""]),
+            ("8", &[""]),
+            ("9", FAULTS),
+        ],
+    ),
+    (
+        "rebuild",
+        &[("rebuilt", &[""]), ("cut", &[""]), ("1", &[""]), ("2", &["buffer"]), ("9", FAULTS)],
+    ),
 ];
 
 fn index(command: &Command) -> usize {
@@ -71,60 +143,62 @@ fn word(answer: &Answer) -> String {
 }
 
 impl Cover {
-    pub fn note(&mut self, command: &Command, answer: &Answer) {
+    pub fn note(&mut self, command: &Command, answer: &Answer, note: &'static str) {
         self.calls += 1;
-        let i = index(command);
-        *self.pairs.entry((i, word(answer))).or_default() += 1;
-        if let Answer::Bad(_, why) = answer {
-            *self.faults.entry((i, why)).or_default() += 1;
-        }
+        let note = match answer {
+            Answer::Bad(_, why) => why,
+            _ => note,
+        };
+        *self.pairs.entry((index(command), word(answer), note)).or_default() += 1;
     }
 
+    /// Prints the table; the number of lines that should have been met and weren't.
     fn print(&self) -> u64 {
         let mut unreached = 0;
         let mut seen = self.pairs.clone();
-        for (i, (name, refusals, answers)) in CALLS.iter().enumerate() {
-            let mut line = format!("{name:8}");
-            for key in answers.iter().map(|a| a.to_string()).chain(refusals.iter().map(|k| k.to_string())) {
-                let n = seen.remove(&(i, key.clone())).unwrap_or(0);
-                unreached += (n == 0) as u64;
-                line += &format!("  {key}:{n}");
+        for (i, (name, answers)) in CALLS.iter().enumerate() {
+            for (answer, notes) in answers.iter() {
+                let counts: Vec<u64> = notes
+                    .iter()
+                    .map(|note| seen.remove(&(i, answer.to_string(), *note)).unwrap_or(0))
+                    .collect();
+                unreached += counts.iter().filter(|&&n| n == 0).count() as u64;
+                let what = if answer.len() == 1 {
+                    format!("refused {answer}")
+                } else {
+                    answer.to_string()
+                };
+                let parts: Vec<String> = notes
+                    .iter()
+                    .zip(&counts)
+                    .filter(|(note, _)| !note.is_empty())
+                    .map(|(note, n)| format!("{note} {n}"))
+                    .collect();
+                println!("{name:8} {what:10} {:9}  {}", counts.iter().sum::<u64>(), parts.join(", "));
             }
-            println!("{line}");
         }
-        println!("refusal 9 by its first fault in the lowest zone");
-        let mut faults = self.faults.clone();
-        for (i, (name, _, _)) in CALLS.iter().enumerate() {
-            let mut line = format!("{name:8}");
-            for why in FAULTS[i] {
-                let n = faults.remove(&(i, *why)).unwrap_or(0);
-                unreached += (n == 0) as u64;
-                line += &format!("  {why}:{n}");
-            }
-            println!("{line}");
-        }
-        for ((i, key), n) in seen.iter().map(|((i, k), n)| ((*i, k.as_str()), n)).chain(faults.iter().map(|((i, k), n)| ((*i, *k), n))) {
-            println!("unexpected: {} {key}: {n}", CALLS[i].0);
+        for ((i, answer, note), n) in seen {
+            println!("unexpected: {} {answer} {note}: {n}", CALLS[i].0);
             unreached += 1;
         }
         unreached
     }
 }
 
-/// Counts for so many seconds; true if every possible pair was met.
-pub fn coverage(seconds: u64, seed: u64) -> bool {
+/// Counts for so many seconds, over all kinds or one; true if every possible line was met.
+pub fn coverage(seconds: u64, seed: u64, only: Option<&str>) -> bool {
     let mut cover = Cover::default();
     let mut rng = Rng::new(seed);
     let start = Instant::now();
     let mut scripts = 0u64;
     while start.elapsed() < Duration::from_secs(seconds) {
-        let kind = *rng.pick(&KINDS);
+        let kind = only.unwrap_or(*rng.pick(&KINDS));
         let calls = *rng.pick(&[60, 200, 600]);
         generate(kind, rng.next(), calls, None, &mut cover);
         scripts += 1;
     }
     println!("{scripts} scripts, {} calls", cover.calls);
     let unreached = cover.print();
-    println!("{unreached} pairs unreached");
+    println!("{unreached} unreached");
     unreached == 0
 }

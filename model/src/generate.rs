@@ -38,13 +38,20 @@ pub struct Generator<'a> {
 /// A script of about `calls` calls.
 pub fn generate(kind: &str, seed: u64, calls: u64, given: Option<Params>, cover: &mut Cover) -> Vec<Command> {
     let mut rng = Rng::new(seed ^ kind.bytes().fold(0, |x, b| x * 256 + b as u64));
-    let drawn = if kind == "small" { draw_small(&mut rng) } else { draw_params(&mut rng) };
+    let small = kind == "small" || kind == "hostile" && rng.chance(40);
+    let drawn = if small { draw_small(&mut rng) } else { draw_params(&mut rng) };
     let p = given.unwrap_or(drawn);
     let (style, hostile) = match kind {
         "run" => (Style::Run, false),
         "fill" => (Style::Fill, false),
         "hostile" => (if rng.chance(30) { Style::Fill } else { Style::Run }, true),
-        _ => *rng.pick(&[(Style::Run, false), (Style::Run, false), (Style::Run, true), (Style::Fill, true), (Style::Fill, false)]),
+        _ => *rng.pick(&[
+            (Style::Run, false),
+            (Style::Run, false),
+            (Style::Run, true),
+            (Style::Fill, true),
+            (Style::Fill, false),
+        ]),
     };
     let mut g = Generator {
         script: vec![],
@@ -75,7 +82,7 @@ impl Generator<'_> {
             Outcome::Answer(answer, _) => {
                 self.calls += 1;
                 self.chooser.observe(&command, &answer);
-                self.cover.note(&command, &answer);
+                self.cover.note(&command, &answer, self.array.note.get());
                 if let Restart(..) = command {
                     self.stuck = match answer {
                         Answer::Refused(_) | Answer::Bad(..) => self.stuck + 1,
@@ -338,7 +345,7 @@ impl Generator<'_> {
         if self.array.p.n == 0 {
             return;
         }
-        let done = match self.rng().below(26) {
+        let done = match self.rng().below(32) {
             0 | 1 => self.change_pointer(),
             2 => self.change_pointers_of_zone(),
             3 | 4 => self.change_header(),
@@ -358,18 +365,27 @@ impl Generator<'_> {
             22 => self.rebuild_on_change(),
             23 => self.landing_pointer(),
             24 => self.closing_outside(),
+            25 | 26 => self.change_serials(),
+            27 | 28 => self.twin(),
+            29 | 30 => self.odd_footers(),
             _ => self.decode_hidden(),
         };
         if !done {
             return;
         }
         self.some_calls(5);
-        let back = match self.rng().below(4) {
-            0 => false,
-            _ => !self.undo.is_empty(),
-        };
-        if back {
+        if self.rng().chance(75) {
             self.take_back();
+        }
+        // A count that has ended is rarely left so for long.
+        let ended = self.array.state.next_stamp.is_none() || self.array.state.next_serial.is_none();
+        if ended && self.rng().chance(80) {
+            self.take_back();
+            self.emit(Restart(255, u64::MAX));
+            if self.array.state.next_stamp.is_none() || self.array.state.next_serial.is_none() {
+                let p = self.array.p;
+                self.params(p);
+            }
         }
     }
 
@@ -391,7 +407,11 @@ impl Generator<'_> {
     fn change_pointer(&mut self) -> bool {
         let p = self.array.p;
         let d = self.rng().index(p.n);
-        let z = if self.rng().chance(70) { self.used_zone() } else { self.rng().index(p.z) };
+        let z = if self.rng().chance(70) {
+            self.used_zone()
+        } else {
+            self.rng().index(p.z)
+        };
         let to = self.some_pointer(self.array.pointer(d, z));
         self.forge(|a| a.set_pointer(d, z, to))
     }
@@ -407,7 +427,11 @@ impl Generator<'_> {
         let p = self.array.p;
         let z = self.used_zone();
         let d = self.rng().index(p.n);
-        let i = if self.rng().chance(60) { self.rng().index(41) } else { self.rng().index(p.stride()) };
+        let i = if self.rng().chance(60) {
+            self.rng().index(41)
+        } else {
+            self.rng().index(p.stride())
+        };
         let bits = 1 + self.rng().below(255) as u8;
         let all = self.rng().chance(30);
         self.forge(|a| {
@@ -445,6 +469,134 @@ impl Generator<'_> {
                 a.image[at..at + 8].copy_from_slice(&value.to_be_bytes());
             }
         })
+    }
+
+    /// Serials and copied serials of several segments from a few values; then a restart.
+    fn change_serials(&mut self) -> bool {
+        let p = self.array.p;
+        let mut values = vec![0, 1, u64::MAX];
+        for z in 0..p.z {
+            let serial = self.array.serial(0, z);
+            values.extend([serial, serial, serial.wrapping_add(1), serial.wrapping_sub(1)]);
+        }
+        let mut list = vec![];
+        for _ in 0..1 + self.rng().below(4) {
+            let z = self.used_zone();
+            let from = if self.rng().chance(40) { 25 } else { 33 };
+            let value = *self.rng().pick(&values);
+            let only = if self.rng().chance(35) { Some(self.rng().index(p.n)) } else { None };
+            list.push((z, from, value, only));
+        }
+        let done = self.forge(|a| {
+            for &(z, from, value, only) in &list {
+                for d in (0..p.n).filter(|&d| only.is_none_or(|o: usize| o == d)) {
+                    let at = a.at(d, z, 0) + from;
+                    a.image[at..at + 8].copy_from_slice(&value.to_be_bytes());
+                }
+            }
+        });
+        if done {
+            let command = self.any_restart();
+            self.emit(command);
+        }
+        done
+    }
+
+    /// Live blocks of the segment that reclaim takes get the address and stamp of something in flight.
+    fn twin(&mut self) -> bool {
+        let p = self.array.p;
+        if !self.healthy() {
+            return false;
+        }
+        if self.array.state.in_flight() == 0 || self.rng().chance(30) {
+            let a = self.rng().below(p.l);
+            let seed = self.chooser.seed();
+            self.emit(Write(a, seed, u64::MAX));
+            if self.rng().chance(50) {
+                self.emit(Close(u64::MAX));
+            }
+        }
+        let Some(chosen) = self.array.chosen() else { return false };
+        let flying: Vec<(u64, u64)> = self
+            .array
+            .state
+            .flights
+            .iter()
+            .flatten()
+            .flat_map(|f| (0..f.filled).map(|i| (f.addresses[i], f.stamps[i])))
+            .collect();
+        if flying.is_empty() || chosen.live.is_empty() {
+            return false;
+        }
+        let some = self.rng().chance(50);
+        let mut records = vec![];
+        for &place in &chosen.live {
+            if !some || self.rng().chance(50) {
+                records.push((place, *self.rng().pick(&flying)));
+            }
+        }
+        let which = 1 + self.rng().below(2);
+        let done = self.forge(|a| {
+            for &(place, (address, stamp)) in &records {
+                let (d, z, block) = p.split(place).unwrap();
+                if (1..=p.s).contains(&block) {
+                    let r = Record {
+                        address,
+                        stamp,
+                        ..a.record(d, z, block - 1, true)
+                    };
+                    set_record(a, d, z, block - 1, &r, which);
+                }
+            }
+        });
+        for _ in 0..1 + self.rng().below(3) {
+            let command = if self.rng().chance(70) {
+                Reclaim(u64::MAX)
+            } else {
+                Close(u64::MAX)
+            };
+            self.emit(command);
+        }
+        done
+    }
+
+    /// The last landing of a segment with other pointers than behind the data.
+    fn odd_footers(&mut self) -> bool {
+        let p = self.array.p;
+        if !self.healthy() || self.array.state.next_stripe != p.s {
+            return false;
+        }
+        self.emit(Close(u64::MAX));
+        let waiting = Chooser::waiting(&self.array);
+        let Some((&(d, s), first)) = waiting.split_last() else {
+            return false;
+        };
+        for &(d, s) in first {
+            self.emit(Land(d as u64, s as u64, u64::MAX));
+        }
+        let Some(z) = self.array.state.open else { return false };
+        let mut pointers = vec![];
+        for _ in 0..1 + self.rng().below(2) {
+            let e = self.rng().index(p.n);
+            let to = if self.rng().chance(80) {
+                self.rng().index(2 + p.s)
+            } else {
+                self.some_pointer(1 + p.s)
+            };
+            pointers.push((e, to));
+        }
+        let done = self.forge(|a| {
+            for &(e, to) in pointers.iter().filter(|&&(e, _)| e != d) {
+                a.set_pointer(e, z, to);
+            }
+        });
+        let count = if self.rng().chance(70) {
+            u64::MAX
+        } else {
+            self.rng().below((1 + p.n * p.f) as u64)
+        };
+        self.emit(Land(d as u64, s as u64, count));
+        done
     }
 
     /// A data record, in its spare, in the footer, or in both.
@@ -529,9 +681,21 @@ impl Generator<'_> {
         let p = self.array.p;
         let mut entries = vec![];
         // An address in flight makes a completing landing look at it.
-        let flying: Vec<u64> = self.array.state.flights.iter().flatten().flat_map(|f| f.addresses[..f.filled].to_vec()).filter(|&a| a < p.l).collect();
+        let flying: Vec<u64> = self
+            .array
+            .state
+            .flights
+            .iter()
+            .flatten()
+            .flat_map(|f| f.addresses[..f.filled].to_vec())
+            .filter(|&a| a < p.l)
+            .collect();
         for _ in 0..1 + self.rng().below(3) {
-            let a = if !flying.is_empty() && self.rng().chance(50) { *self.rng().pick(&flying) } else { self.rng().below(p.l) };
+            let a = if !flying.is_empty() && self.rng().chance(50) {
+                *self.rng().pick(&flying)
+            } else {
+                self.rng().below(p.l)
+            };
             let place = self.some_place();
             entries.push((a, place));
         }
@@ -628,7 +792,9 @@ impl Generator<'_> {
         let sealed = survey.sealed[z];
         let find = |a: &Array, e: usize| (0..p.s).find(|&o| a.record(e, z, o, sealed).stripe as usize == s);
         let done = self.forge(|a| {
-            let (Some(at), Some(parity)) = (find(a, d), find(a, p.parity_drive(s))) else { return };
+            let (Some(at), Some(parity)) = (find(a, d), find(a, p.parity_drive(s))) else {
+                return;
+            };
             let mut r = a.record(d, z, at, sealed);
             let mut q = a.record(p.parity_drive(s), z, parity, sealed);
             q.stamp ^= r.stamp ^ stamp;
@@ -777,7 +943,11 @@ impl Generator<'_> {
 
     fn some_serial(&mut self) -> u64 {
         let p = self.array.p;
-        let most = (0..p.z).filter(|&z| !self.array.is_empty(z)).map(|z| self.array.serial(0, z)).max().unwrap_or(0);
+        let most = (0..p.z)
+            .filter(|&z| !self.array.is_empty(z))
+            .map(|z| self.array.serial(0, z))
+            .max()
+            .unwrap_or(0);
         match self.rng().below(6) {
             0 => u64::MAX,
             1 => u64::MAX - 1,
@@ -817,7 +987,18 @@ impl Generator<'_> {
                 let level = a.pointer(0, z);
                 let o = level.wrapping_sub(1);
                 if (0..p.n).all(|d| a.pointer(d, z) == level) && o < p.s {
-                    set_record(a, ragged, z, o, &Record { address: PADDING, stamp: 0, stripe: o as u32 }, 0);
+                    set_record(
+                        a,
+                        ragged,
+                        z,
+                        o,
+                        &Record {
+                            address: PADDING,
+                            stamp: 0,
+                            stripe: o as u32,
+                        },
+                        0,
+                    );
                     a.set_pointer(ragged, z, level + 1);
                 }
             }
@@ -860,7 +1041,9 @@ impl Generator<'_> {
 
     fn forge_without_restart(&mut self) -> bool {
         let p = self.array.p;
-        let Some(z) = (0..p.z).find(|&z| self.array.is_empty(z)) else { return false };
+        let Some(z) = (0..p.z).find(|&z| self.array.is_empty(z)) else {
+            return false;
+        };
         let serial = self.some_serial();
         let chunks: Vec<usize> = (0..p.n).map(|_| self.rng().index(p.s + 1)).collect();
         self.forge(|a| forge_segment(a, z, serial, 0, Some(&chunks)))
@@ -911,7 +1094,12 @@ impl Generator<'_> {
             self.emit(Restart(d, 0));
         }
         let Some(m) = self.array.state.missing else { return false };
-        let lost: Vec<u64> = (0..p.l).filter(|&a| p.split(self.array.entry(a)).is_some_and(|(d, _, _)| d == m)).collect();
+        let lost: Vec<u64> = (0..p.l)
+            .filter(|&a| {
+                p.split(self.array.entry(a))
+                    .is_some_and(|(d, _, k)| d == m && (1..=p.s).contains(&k))
+            })
+            .collect();
         if lost.is_empty() {
             return false;
         }
@@ -961,7 +1149,11 @@ fn forge_segment(a: &mut Array, z: usize, serial: u64, copied: u64, chunks: Opti
         a.image[at..at + p.b].copy_from_slice(&block);
         let have = chunks.map_or(p.s, |c| c[d]);
         for o in 0..have {
-            let r = Record { address: PADDING, stamp: 0, stripe: o as u32 };
+            let r = Record {
+                address: PADDING,
+                stamp: 0,
+                stripe: o as u32,
+            };
             set_record(a, d, z, o, &r, if chunks.is_none() { 1 } else { 0 });
         }
         a.set_pointer(d, z, if chunks.is_none() { p.cap } else { 1 + have });

@@ -35,10 +35,10 @@ fn number(args: &[String], i: usize) -> Option<u64> {
     args.get(i)?.parse().ok()
 }
 
-/// KIND SEED CALLS [N B Z S G L], or --coverage SECONDS [SEED].
+/// KIND SEED CALLS [N B Z S G L], or --coverage SECONDS [SEED [KIND]].
 fn generate(args: &[String]) -> Option<io::Result<()>> {
     if args.first()? == "--coverage" {
-        let all = cover::coverage(number(args, 1)?, number(args, 2).unwrap_or(1));
+        let all = cover::coverage(number(args, 1)?, number(args, 2).unwrap_or(1), args.get(3).map(String::as_str));
         std::process::exit(!all as i32);
     }
     let kind = args.first().filter(|k| generate::KINDS.contains(&k.as_str()))?;
@@ -80,7 +80,7 @@ fn main() {
         None => {
             eprintln!("usage: model script");
             eprintln!("       model generate run|hostile|fill|small SEED CALLS [N B Z S G L]");
-            eprintln!("       model generate --coverage SECONDS [SEED]");
+            eprintln!("       model generate --coverage SECONDS [SEED [KIND]]");
             eprintln!("       model simulate SECONDS [SEED]");
             std::process::exit(2);
         }

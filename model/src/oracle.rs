@@ -24,8 +24,15 @@ fn number(bytes: &[u8]) -> u64 {
     bytes.iter().fold(0, |x, &b| x << 8 | b as u64)
 }
 
-/// Address table and compact table.
-pub fn tables(p: &Params, image: &[u8], pointers: &[u8], missing: Option<usize>) -> (Vec<u8>, Vec<u8>) {
+/// What the drives say with this drive missing.
+pub struct Says {
+    pub addresses: Vec<u8>,
+    pub compact: Vec<u8>,
+    /// Stripes with some chunk but not counted.
+    pub uncounted: u64,
+}
+
+pub fn says(p: &Params, image: &[u8], pointers: &[u8], missing: Option<usize>) -> Says {
     let size = p.b + 20;
     let block = |d: usize, z: usize, k: usize| &image[((d * p.z + z) * p.cap + k) * size..][..size];
     let pointer = |d: usize, z: usize| number(&pointers[(d * p.z + z) * 4..][..4]) as usize;
@@ -38,6 +45,7 @@ pub fn tables(p: &Params, image: &[u8], pointers: &[u8], missing: Option<usize>)
 
     let mut compact = vec![0; p.n * p.z * p.s];
     let mut candidates: Vec<Candidate> = vec![];
+    let mut uncounted = 0;
     for &z in left.iter().filter(|z| !dropped(**z)) {
         let sealed = present.iter().all(|d| pointer(*d, z) == p.cap);
         let mut chunks: Vec<Chunk> = vec![];
@@ -54,19 +62,33 @@ pub fn tables(p: &Params, image: &[u8], pointers: &[u8], missing: Option<usize>)
                 };
                 let stripe = number(&record[16..20]) as usize;
                 compact[(drive * p.z + z) * p.s + offset] = (stripe % p.g) as u8;
-                chunks.push(Chunk { drive, offset, address: number(&record[0..8]), stamp: number(&record[8..16]), stripe });
+                chunks.push(Chunk {
+                    drive,
+                    offset,
+                    address: number(&record[0..8]),
+                    stamp: number(&record[8..16]),
+                    stripe,
+                });
             }
         }
         for stripe in 0..p.s {
             let of: Vec<&Chunk> = chunks.iter().filter(|c| c.stripe == stripe).collect();
             if of.len() < present.len() {
+                uncounted += !of.is_empty() as u64;
                 continue;
             }
             let parity = p.n - 1 - stripe % p.n;
             let mut add = |drive: usize, offset: usize, address: u64, stamp: u64| {
                 if drive != parity && address < p.l {
                     let place = ((drive * p.z + z) * p.cap + 1 + offset) as u32;
-                    candidates.push(Candidate { address, stamp, serial: serial(z), drive, offset, place });
+                    candidates.push(Candidate {
+                        address,
+                        stamp,
+                        serial: serial(z),
+                        drive,
+                        offset,
+                        place,
+                    });
                 }
             };
             for c in &of {
@@ -85,5 +107,9 @@ pub fn tables(p: &Params, image: &[u8], pointers: &[u8], missing: Option<usize>)
     for c in candidates {
         addresses[4 * c.address as usize..][..4].copy_from_slice(&c.place.to_be_bytes());
     }
-    (addresses, compact)
+    Says {
+        addresses,
+        compact,
+        uncounted,
+    }
 }

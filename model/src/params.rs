@@ -42,7 +42,17 @@ impl Params {
         let per = b as usize / SPARE;
         let s = s as usize;
         let f = s.div_ceil(per);
-        Some(Params { n: n as usize, b: b as usize, z: z as usize, s, g: g as usize, l, f, cap: 1 + s + f, per })
+        Some(Params {
+            n: n as usize,
+            b: b as usize,
+            z: z as usize,
+            s,
+            g: g as usize,
+            l,
+            f,
+            cap: 1 + s + f,
+            per,
+        })
     }
 
     /// Bytes of a block with its spare.

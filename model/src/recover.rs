@@ -180,7 +180,11 @@ impl Array {
         if Some(d) != survey.missing {
             return stored(d);
         }
-        let mut r = Record { address: 0, stamp: 0, stripe: s as u32 };
+        let mut r = Record {
+            address: 0,
+            stamp: 0,
+            stripe: s as u32,
+        };
         for e in (0..self.p.n).filter(|&e| e != d) {
             let other = stored(e);
             r.address ^= other.address;
@@ -213,7 +217,12 @@ impl Array {
                         continue;
                     }
                     let offset = if Some(d) == survey.missing { s } else { survey.offset(&p, z, d, s) };
-                    let key = Key { stamp: r.stamp, serial: survey.serial[z], drive: d, offset };
+                    let key = Key {
+                        stamp: r.stamp,
+                        serial: survey.serial[z],
+                        drive: d,
+                        offset,
+                    };
                     let old = &mut best[r.address as usize];
                     if old.is_none_or(|old| key.beats(&old)) {
                         *old = Some(key);
@@ -234,7 +243,7 @@ impl Array {
     fn try_restart(&mut self, missing: u64, count: u64) -> Result<Answer, Answer> {
         let p = self.p;
         if p.n == 0 || missing >= p.n as u64 && missing != 255 {
-            return Err(Answer::Refused(1));
+            return Err(self.refuse(1, ""));
         }
         self.in_order()?;
         let missing = (missing != 255).then_some(missing as usize);
@@ -243,6 +252,7 @@ impl Array {
         let mut state = State::zero();
         state.missing = missing;
         state.next_stamp = survey.greatest_stamp.checked_add(1);
+        self.note.set(if missing.is_some() { "missing" } else { "none missing" });
 
         if missing.is_none() {
             // Step 4, planned whole before the first store.
@@ -258,6 +268,7 @@ impl Array {
                 let chunks = (0..p.n).map(|d| (self.pointer(d, z) - 1).min(p.s)).sum::<usize>();
                 if counted.len() == p.s {
                     changed = true;
+                    self.note.set("footers");
                     for d in 0..p.n {
                         for block in self.pointer(d, z)..p.cap {
                             self.footer(d, z, block - 1 - p.s, stores.put(&p, d, z));
@@ -265,8 +276,9 @@ impl Array {
                     }
                 } else if counted.iter().enumerate().any(|(k, &s)| k != s) || chunks != counted.len() * p.n {
                     changed = true;
-                    let serial = survey.greatest_serial.checked_add(1).ok_or(Answer::Refused(6))?;
-                    let to = (0..p.z).find(|&y| !survey.remains[y]).ok_or(Answer::Refused(8))?;
+                    self.note.set(if counted.is_empty() { "rewrite of none" } else { "rewrite" });
+                    let serial = survey.greatest_serial.checked_add(1).ok_or_else(|| self.refuse(6, ""))?;
+                    let to = (0..p.z).find(|&y| !survey.remains[y]).ok_or_else(|| self.refuse(8, ""))?;
                     self.plan_rewrite(&survey, z, to, serial, &counted, &mut stores);
                 }
             }
@@ -293,7 +305,11 @@ impl Array {
         }
         for (k, &s) in counted.iter().enumerate() {
             let mut block = vec![0; p.b];
-            let mut parity = Record { address: 0, stamp: 0, stripe: k as u32 };
+            let mut parity = Record {
+                address: 0,
+                stamp: 0,
+                stripe: k as u32,
+            };
             for i in 0..p.data() {
                 let e = p.data_drive(s, i);
                 let r = self.counted_record(survey, z, s, e);
@@ -310,7 +326,10 @@ impl Array {
                     }
                     Some(i) => {
                         let e = p.data_drive(s, i);
-                        let r = Record { stripe: k as u32, ..self.counted_record(survey, z, s, e) };
+                        let r = Record {
+                            stripe: k as u32,
+                            ..self.counted_record(survey, z, s, e)
+                        };
                         put[..p.b].copy_from_slice(self.block(e, z, 1 + survey.offset(&p, z, e, s)));
                         put[p.b..].copy_from_slice(&r.bytes());
                     }
@@ -331,7 +350,7 @@ impl Array {
     fn try_rebuild(&mut self, drive: u64, count: u64) -> Result<Answer, Answer> {
         let p = self.p;
         let named = self.state.missing.filter(|&d| p.n > 0 && d as u64 == drive);
-        let d = named.ok_or(Answer::Refused(1))?;
+        let d = named.ok_or_else(|| self.refuse(1, ""))?;
         self.in_order()?;
         let survey = self.survey(Some(d))?;
         let lowest = (d == 0) as usize;

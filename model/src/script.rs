@@ -148,6 +148,7 @@ pub fn run(array: &mut Array, command: &Command) -> Outcome {
         }
         CutLen(buf, len) => array.lent[buf] = len,
         _ => {
+            array.note.set("");
             let (answer, filled) = call(array, command);
             return Outcome::Answer(answer, filled);
         }

@@ -7,6 +7,7 @@ use crate::params::Params;
 use crate::rng::Rng;
 use crate::script::Command::{self, *};
 use crate::script::{block, run, Outcome};
+use std::panic::{catch_unwind, AssertUnwindSafe};
 use std::time::{Duration, Instant};
 
 /// What a finished restart reads at each address: the number of the send, or none for never written.
@@ -49,7 +50,14 @@ fn prefix(bytes: &[u8]) -> u64 {
 impl Host {
     fn new(p: &Params) -> Host {
         let l = p.l as usize;
-        Host { sends: vec![], sent_at: vec![vec![]; l], acknowledged: vec![None; l], stripes: vec![], last: None, since: vec![false; l] }
+        Host {
+            sends: vec![],
+            sent_at: vec![vec![]; l],
+            acknowledged: vec![None; l],
+            stripes: vec![],
+            last: None,
+            since: vec![false; l],
+        }
     }
 
     fn send_of(&self, p: &Params, a: usize, bytes: &[u8]) -> Option<usize> {
@@ -104,7 +112,9 @@ impl Host {
             self.floor(a, found)?;
             if let Some(old) = before(a) {
                 if old != found {
-                    return Err(format!("address {a}: reads {found:?}, the restart before read {old:?} and nothing was sent"));
+                    return Err(format!(
+                        "address {a}: reads {found:?}, the restart before read {old:?} and nothing was sent"
+                    ));
                 }
             }
             reading.push(found);
@@ -123,11 +133,11 @@ impl Host {
 
 /// Demand 2: the tables in memory are what the drives say.
 fn check_tables(array: &Array) -> Result<(), String> {
-    let (addresses, compact) = oracle::tables(&array.p, &array.image, &array.pointers, array.state.missing);
-    if addresses != array.addresses {
+    let says = oracle::says(&array.p, &array.image, &array.pointers, array.state.missing);
+    if says.addresses != array.addresses {
         return Err("the address table is not what the drives say".into());
     }
-    if compact != array.compact {
+    if says.compact != array.compact {
         return Err("the compact table is not what the drives say".into());
     }
     Ok(())
@@ -151,6 +161,18 @@ fn call(array: &mut Array, command: &Command) -> Option<Answer> {
     match run(array, command) {
         Outcome::Answer(answer, _) => Some(answer),
         _ => None,
+    }
+}
+
+/// The uncounted stripes that a restart in order finds.
+fn uncounted(array: &Array, command: &Command) -> u64 {
+    let p = &array.p;
+    match *command {
+        Restart(m, _) if m == 255 || m < p.n as u64 => {
+            let missing = (m != 255).then_some(m as usize);
+            oracle::says(p, &array.image, &array.pointers, missing).uncounted
+        }
+        _ => 0,
     }
 }
 
@@ -184,12 +206,24 @@ impl History<'_> {
             self.cut_everywhere(&command)?;
         }
         self.script.push(command);
-        let before = if self.chooser.rng.below(16) == 0 { Some(self.array.clone()) } else { None };
-        let Some(answer) = call(&mut self.array, &command) else { return Ok(()) };
+        let before = if self.chooser.rng.below(16) == 0 {
+            Some(self.array.clone())
+        } else {
+            None
+        };
+        let uncounted = uncounted(&self.array, &command);
+        let Some(answer) = call(&mut self.array, &command) else {
+            return Ok(());
+        };
         self.chooser.observe(&command, &answer);
         self.counts.calls += 1;
         let flat = |what: String| Violation { what, extra: vec![] };
         self.judge(&command, &answer).map_err(flat)?;
+        if let Answer::Restarted(n) = answer {
+            if n != uncounted {
+                return Err(flat(format!("{n} stripes uncounted, {uncounted} on the drives")));
+            }
+        }
         if let (Answer::Refused(_), Some(old)) = (answer, before) {
             if old.buffers() != self.array.buffers() || format!("{:?}", old.state) != format!("{:?}", self.array.state) {
                 return Err(flat("a refusal changed something".into()));
@@ -222,7 +256,10 @@ impl History<'_> {
             }
             (Write(a, seed, _), Answer::Sent { stripe, drive, .. }) => {
                 let i = host.sends.len();
-                host.sends.push(Send { seed, prefix: prefix(&block(seed, p.b)) });
+                host.sends.push(Send {
+                    seed,
+                    prefix: prefix(&block(seed, p.b)),
+                });
                 host.sent_at[a as usize].push(i);
                 host.since[a as usize] = true;
                 if drive >= p.n || stripe >= p.s {
@@ -240,7 +277,9 @@ impl History<'_> {
             }
             (Reclaim(_), Answer::Reset(_)) => self.counts.resets += 1,
             (Land(d, s, _), Answer::Landed(n)) => {
-                let Some(k) = host.stripes.iter().position(|x| x.0 == s) else { return Err("a stripe landed that isn't in flight".into()) };
+                let Some(k) = host.stripes.iter().position(|x| x.0 == s) else {
+                    return Err("a stripe landed that isn't in flight".into());
+                };
                 let stripe = &mut host.stripes[k];
                 if stripe.1 >> d & 1 == 1 {
                     return Err("a chunk landed twice".into());
@@ -298,21 +337,29 @@ impl History<'_> {
         let command = Restart(m, u64::MAX);
         extra.push(command);
         self.counts.copies += 1;
+        let uncounted = uncounted(copy, &command);
         let checked = match call(copy, &command) {
+            Some(Answer::Restarted(n)) if n != uncounted => Err(format!("{n} stripes uncounted, {uncounted} on the drives")),
             Some(Answer::Restarted(_)) => match last {
                 Some(last) => self.host.check(copy, &|a| Some(last[a])),
                 None => self.host.check(copy, &self.host.before()),
             },
             other => Err(format!("{command} answers {other:?}")),
         };
-        checked.and_then(|r| check_tables(copy).map(|_| r)).map_err(|what| Violation { what, extra: extra.clone() })
+        checked.and_then(|r| check_tables(copy).map(|_| r)).map_err(|what| Violation {
+            what,
+            extra: extra.clone(),
+        })
     }
 
     /// After a finished restart on a copy: a rebuild cut anywhere and repeated, or a restart cut, then every choice.
     fn go_on(&mut self, mut copy: Array, m: u64, mut extra: Vec<Command>, depth: u32) -> Result<(), Violation> {
         let reading = {
             let host = &self.host;
-            host.check(&copy, &|_| None).map_err(|what| Violation { what, extra: extra.clone() })?
+            host.check(&copy, &|_| None).map_err(|what| Violation {
+                what,
+                extra: extra.clone(),
+            })?
         };
         if m == 255 {
             for next in Self::choices(&copy, None) {
@@ -337,9 +384,15 @@ impl History<'_> {
         let command = Rebuild(m, u64::MAX);
         extra.push(command);
         if call(&mut copy, &command) != Some(Answer::Rebuilt) {
-            return Err(Violation { what: format!("{command} does not finish"), extra });
+            return Err(Violation {
+                what: format!("{command} does not finish"),
+                extra,
+            });
         }
-        check_tables(&copy).map_err(|what| Violation { what, extra: extra.clone() })?;
+        check_tables(&copy).map_err(|what| Violation {
+            what,
+            extra: extra.clone(),
+        })?;
         for next in Self::choices(&copy, None) {
             let mut again = copy.clone();
             let mut extra = extra.clone();
@@ -368,7 +421,10 @@ impl History<'_> {
             let extra = vec![command];
             let answer = call(&mut copy, &command);
             if answer != Some(Answer::Cut) || !copy.addresses.iter().chain(&copy.compact).all(|&b| b == 0) {
-                return Err(Violation { what: format!("{command} answers {answer:?} with {total} stores due"), extra });
+                return Err(Violation {
+                    what: format!("{command} answers {answer:?} with {total} stores due"),
+                    extra,
+                });
             }
             self.counts.cuts += 1;
             let untrusted = match command {
@@ -402,10 +458,20 @@ pub fn simulate(seconds: u64, seed: u64) -> bool {
         let style = if rng.chance(30) { Style::Fill } else { Style::Run };
         let mut chooser = Chooser::new(Rng::new(rng.next()), style);
         chooser.refusals = 50;
-        let mut h = History { array: Array::new(p), chooser, host: Host::new(&p), script: vec![params_command(&p)], counts: &mut counts };
+        let mut h = History {
+            array: Array::new(p),
+            chooser,
+            host: Host::new(&p),
+            script: vec![params_command(&p)],
+            counts: &mut counts,
+        };
         h.counts.histories += 1;
         for _ in 0..rng.between(50, 1500) {
-            if let Err(v) = h.step() {
+            let step = catch_unwind(AssertUnwindSafe(|| h.step()));
+            if let Err(v) = step.unwrap_or(Err(Violation {
+                what: "the model panics".into(),
+                extra: vec![],
+            })) {
                 violation = Some((v.what, [h.script, v.extra].concat()));
                 break;
             }

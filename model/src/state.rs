@@ -62,7 +62,14 @@ pub struct State {
 impl State {
     /// All zeros: before the first restart and after a cut.
     pub fn zero() -> State {
-        State { missing: None, next_stamp: Some(0), next_serial: Some(0), open: None, next_stripe: 0, flights: [None; FLIGHTS] }
+        State {
+            missing: None,
+            next_stamp: Some(0),
+            next_serial: Some(0),
+            open: None,
+            next_stripe: 0,
+            flights: [None; FLIGHTS],
+        }
     }
 
     /// A state number is out of range.

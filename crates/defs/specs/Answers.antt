@@ -47,9 +47,11 @@ values Rebuilt = []
 unfoldable pub isRefused : Answer → Bool
 isRefused r = leb (kind r) 1
 
+-- refused with number n
 unfoldable pub isRefusedAs : ℕ → Answer → Bool
 isRefusedAs n r = isRefused r && eqb (getD (values r) 0 0) n
 
+-- 01, Store count: cut
 unfoldable pub isCut : Answer → Bool
 isCut r = eqb (kind r) 2
 

@@ -52,6 +52,7 @@ pub record Field : Type 0 where
 abbrev pub field : ℕ → ℕ → Field
 field w n = record { width = w; value = n }
 
+-- the fields one after the other
 unfoldable pub bytesOf : List Field → List ℕ
 bytesOf [] = []
 bytesOf (f ∷ fs) = toBe (f .width) (f .value) ++ bytesOf fs

@@ -23,6 +23,7 @@ unfoldable pub ninth : List ℕ → Opt Answer → Opt Answer
 ninth [] r = r
 ninth (z ∷ zs) r = some (BadZone (least z zs))
 
+-- 01, Refusals: a condition that holds gives its number
 unfoldable pub ruled : ℕ → Bool → Opt Answer → Opt Answer
 ruled n true r = some (Refused n)
 ruled n false r = r
@@ -43,10 +44,12 @@ pub record Plan : Type 0 where
 abbrev pub mkPlan : List Store → Answer → Memory → List ℕ → Plan
 mkPlan ss a m b = record { stores = ss; answer = a; memory = m; block = b }
 
+-- a call is refused, or something is due
 pub data Verdict : Type 0 where
   refused : Answer → Verdict
   due : Plan → Verdict
 
+-- due, where no check holds
 unfoldable pub decided : Opt Answer → Plan → Verdict
 decided none q = due q
 decided (some a) q = refused a
@@ -67,6 +70,7 @@ mkAfter a d m b = record { answer = a; drives = d; memory = m; block = b }
 unfoldable pub cutMemory : Params → Memory → Memory
 cutMemory p m = mkMemory zeroState (replicate (addressesLen p) 0) (replicate (compactLen p) 0) (m .inflight)
 
+-- 01, Store count: all stores made, or just so many and cut
 unfoldable pub limited : {D : Type 0} → Bool → Params → (Store → D → D) → ℕ → D → Memory → List ℕ → Plan → After D
 limited true p f n d m b q = mkAfter (q .answer) (storeAll f (q .stores) d) (q .memory) (q .block)
 limited false p f n d m b q = mkAfter Cut (storeAll f (take n (q .stores)) d) (cutMemory p m) b

@@ -35,6 +35,7 @@ closeChecks p long v m =
     ∷ rule 5 (not (hasFilling p st) || (few && left))
     ∷ zones (stateFaults p st ++ cond few (tableFaults p (m .addresses)) []) ∷ []
 
+-- 01, Closing: no store is due
 unfoldable pub closePlan : Params → Memory → Plan
 closePlan p m =
     let st = m .state in
@@ -42,6 +43,7 @@ closePlan p m =
     let q = padded p i (dataCount p - filledIn st i) st (m .inflight) in
     mkPlan [] (Closed (stripeIn st i)) (mkMemory (q .state) (m .addresses) (m .compact) (q .inflight)) []
 
+-- 01, Closing: the call
 unfoldable pub closeVerdict : Params → Bool → View → Memory → Verdict
 closeVerdict p long v m =
     let q = closePlan p m in

@@ -18,6 +18,7 @@ firstCount = 1
 abbrev pub lastCount : ℕ
 lastCount = 18446744073709551615
 
+-- a stamp, a serial of this number
 abbrev pub aStamp : ℕ → Stamp
 aStamp n = record { 0 = n }
 

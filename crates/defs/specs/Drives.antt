@@ -18,6 +18,7 @@ pub record Chunk : Type 0 where
 abbrev pub mkChunk : List ℕ → List ℕ → Chunk
 mkChunk b s = record { block = b; spare = s }
 
+-- what is read outside the image
 unfoldable pub noChunk : Chunk
 noChunk = mkChunk [] []
 
@@ -29,6 +30,7 @@ pub record Zone : Type 0 where
 abbrev pub mkZone : ℕ → List Chunk → Zone
 mkZone n bs = record { pointer = n; blocks = bs }
 
+-- what is read outside the drives
 unfoldable pub noZone : Zone
 noZone = mkZone 0 []
 
@@ -40,17 +42,21 @@ stored q = take (q .pointer) (q .blocks)
 abbrev pub View : Type 0
 View = List (List Zone)
 
+-- 01, The array: a zone of a drive
 unfoldable pub zoneAt : View → ℕ → ℕ → Zone
 zoneAt v d z = getD (getD v d []) z noZone
 
+-- 01, The array: its write pointer
 unfoldable pub pointerAt : View → ℕ → ℕ → ℕ
 pointerAt v d z = zoneAt v d z .pointer
 
+-- 01, The array: a block of a zone with its spare
 unfoldable pub chunkAt : View → ℕ → ℕ → ℕ → Chunk
 chunkAt v d z b = getD (zoneAt v d z .blocks) b noChunk
 
 -- ---- the view of the bytes
 
+-- 01, The array: each block followed by its spare
 unfoldable pub chunkOf : Params → List ℕ → Chunk
 chunkOf p bs = mkChunk (take (p .B) bs) (drop (p .B) bs)
 
@@ -73,14 +79,15 @@ pub data Store : Type 0 where
   put : ℕ → ℕ → List ℕ → List ℕ → Store
   reset : ℕ → ℕ → Store
 
--- 01: one block with its spare at the zone's pointer, which is raised by 1
+-- 01, The array: one block with its spare at the zone's pointer, which is raised by 1
 unfoldable pub putZone : List ℕ → List ℕ → Zone → Zone
 putZone b s q = mkZone (suc (q .pointer)) (set (q .blocks) (q .pointer) (mkChunk b s))
 
--- 01: pointer 0, bytes kept
+-- 01, The array: pointer 0, bytes kept
 unfoldable pub resetZone : Zone → Zone
 resetZone q = mkZone 0 (q .blocks)
 
+-- one zone replaced
 unfoldable pub setZone : View → ℕ → ℕ → Zone → View
 setZone v d z q = set v d (set (getD v d []) z q)
 
@@ -97,12 +104,15 @@ pub record Disk : Type 0 where
 abbrev pub mkDisk : List ℕ → List ℕ → Disk
 mkDisk im ptrs = record { image = im; pointers = ptrs }
 
+-- 01, The array: where a pointer lies
 unfoldable pub pointerByte : Params → ℕ → ℕ → ℕ
 pointerByte p d z = 4 * (d * p .Z + z)
 
+-- 01, The array: a pointer, 4 big-endian bytes
 unfoldable pub pointerOf : Params → List ℕ → ℕ → ℕ → ℕ
 pointerOf p ptrs d z = beOf (part (pointerByte p d z) 4 ptrs)
 
+-- 01, The array: a pointer replaced
 unfoldable pub setPointer : Params → List ℕ → ℕ → ℕ → ℕ → List ℕ
 setPointer p ptrs d z n = splice ptrs (pointerByte p d z) (toBe 4 n)
 
@@ -124,6 +134,7 @@ storeAll f (s ∷ ss) d = storeAll f ss (f s d)
 unfoldable pub segmentNumbers : Params → List ℕ
 segmentNumbers p = below (p .Z)
 
+-- 01, What a zone holds: the zone of segment g on drive d
 unfoldable pub zoneOn : ℕ → ℕ → ℕ
 zoneOn g d = g
 
@@ -135,6 +146,7 @@ placeSegment p q = placeZone p q
 unfoldable pub emptyOnAll : Params → View → ℕ → Bool
 emptyOnAll p v g = all (λ d. eqb (pointerAt v d (zoneOn g d)) 0) (drivesOf p)
 
+-- 01, Refusals, 8: zones empty on all drives, rising
 unfoldable pub emptyZones : Params → View → List ℕ
 emptyZones p v = keep (emptyOnAll p v) (segmentNumbers p)
 
@@ -148,9 +160,11 @@ sealedIn p v gone g = all (λ d. eqb (pointerAt v d (zoneOn g d)) (capacity p)) 
 unfoldable pub dataStored : Params → Zone → ℕ
 dataStored p q = min (q .pointer - 1) (p .S)
 
+-- the blocks of chunks
 unfoldable pub blocksOf : List Chunk → List (List ℕ)
 blocksOf cs = map (λ (c : Chunk). c .block) cs
 
+-- the spares of chunks
 unfoldable pub sparesOf : List Chunk → List (List ℕ)
 sparesOf cs = map (λ (c : Chunk). c .spare) cs
 

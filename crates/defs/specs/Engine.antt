@@ -30,6 +30,7 @@ pub data Call : Type 0 where
   restart : ℕ → ℕ → Call
   rebuild : ℕ → ℕ → Call
 
+-- 01, Store count: the number
 unfoldable pub storeCount : Call → ℕ
 storeCount (write a b n) = n
 storeCount (land d s n) = n
@@ -74,6 +75,7 @@ callOn p long k m c =
     let v = viewOf p (k .image) (k .pointers) in
     outcome p (storeDisk p) (storeCount c) k m (lentBlock c) (verdict p long v m c)
 
+-- 01, The calls: the same, with the lengths checked
 unfoldable pub callDisk : Params → Disk → Memory → Call → After Disk
 callDisk p k m c = callOn p (lentOk p k m) k m c
 
@@ -92,21 +94,26 @@ pub record Lent : Type 0 where
   pub inflight : List ℕ
   pub state : List ℕ
 
+-- what a call of the host leaves
 pub record Left : Type 0 where
   pub answer : Answer
   pub lent : Lent
   pub block : List ℕ
 
+-- image and pointers of what is lent
 unfoldable pub lentDisk : Lent → Disk
 lentDisk l = mkDisk (l .image) (l .pointers)
 
+-- the rest of it, the state decoded
 unfoldable pub lentMemory : Lent → Memory
 lentMemory l = mkMemory (stateOf (l .state)) (l .addresses) (l .compact) (l .inflight)
 
+-- the six buffers again
 unfoldable pub lentAll : Disk → Memory → List ℕ → Lent
 lentAll k m s =
     record { image = k .image; pointers = k .pointers; addresses = m .addresses; compact = m .compact; inflight = m .inflight; state = s }
 
+-- a refusal leaves all as it came
 unfoldable pub leftBy : Lent → After Disk → Bool → Left
 leftBy l r true = record { answer = r .answer; lent = l; block = r .block }
 leftBy l r false = record { answer = r .answer; lent = lentAll (r .drives) (r .memory) (stateBytes (r .memory .state)); block = r .block }

@@ -32,6 +32,7 @@ pub data Event : Type 0 where
   calls : Call → Event
   boots : ℕ → ℕ → Memory → List ℕ → List ℕ → Event
 
+-- the event's call
 unfoldable pub callOf : Event → Call
 callOf (calls c) = c
 callOf (boots d n m im ps) = restart d n
@@ -70,10 +71,12 @@ happens p w e =
     let u = before p w e in
     callDisk p (u .disk) (u .memory) (callOf e)
 
+-- the number, where the test holds
 unfoldable pub onlyIf : Bool → Opt ℕ → Opt ℕ
 onlyIf true o = o
 onlyIf false o = none
 
+-- demand 3: the drive that a restart in order names
 unfoldable pub orderly : Params → World → Opt ℕ → Opt ℕ
 orderly p w none = none
 orderly p w (some d) = onlyIf (inOrder p w d) (some d)
@@ -160,16 +163,19 @@ pub record Mark : Type 0 where
   pub world : World
   pub sentThen : ℕ
 
+-- demand 3: the world, what was sent, the untrusted drive, and the last finished restart
 pub record Hist : Type 0 where
   pub world : World
   pub sends : List Send
   pub untrusted : ℕ
   pub mark : Opt Mark
 
+-- demand 3: a finished restart is remembered
 unfoldable pub marked : Bool → World → ℕ → Opt Mark → Opt Mark
 marked true w n o = some (record { world = w; sentThen = n })
 marked false w n o = o
 
+-- demand 3: one event
 unfoldable pub step : Params → Hist → Event → Hist
 step p h e =
     let r = happens p (h .world) e in
@@ -186,6 +192,7 @@ step p h e =
 unfoldable pub emptyDisk : Params → Disk → Bool
 emptyDisk p k = eqb (length (k .image)) (imageLen p) && sameList (k .pointers) (replicate (pointersLen p) 0)
 
+-- 01, How tightly, 4: the history of no event
 unfoldable pub began : Params → Disk → Hist
 began p k = record {
   world = mkWorld k (mkMemory zeroState (replicate (addressesLen p) 0) (replicate (compactLen p) 0) (replicate (inflightLen p) 0));
@@ -205,11 +212,13 @@ allowed p h e = not (isRefusedAs 6 (happens p (h .world) e .answer)) && namesAll
 
 -- ---- what a finished restart reads
 
+-- 01, How tightly, 4: what an address reads
 pub data Seen : Type 0 where
   unwritten : Seen
   got : List ℕ → Seen
   failed : Seen
 
+-- 01, How tightly, 4: the block that the second read fills
 unfoldable pub seenFilled : After Disk → Seen
 seenFilled r = cond (eqb (kind (r .answer)) 11) (got (r .block)) failed
 

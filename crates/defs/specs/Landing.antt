@@ -71,6 +71,7 @@ entryFaults p v tb e =
     let ws = cond (eqb q neverPlace) [] zs in
     cond (ltb (e .address) (p .L)) ws []
 
+-- 01, Refusals, 9: the bad zones of a landing
 unfoldable pub landFaults : Params → View → Memory → ℕ → ℕ → List ℕ
 landFaults p v m d s =
     let st = m .state in
@@ -93,6 +94,7 @@ heldCand p v a q =
     let o = placeBlock p q - 1 in
     record { address = a; stamp = recordAt p v 0 d g o .stamp; serial = serialAt v g; drive = d; offset = o; place = q }
 
+-- 01, The calls: none where the address was never written
 unfoldable pub held : Params → View → List ℕ → ℕ → Opt Cand
 held p v tb a =
     let q = placeAt tb a in
@@ -107,6 +109,7 @@ landedCand p v g st i k =
     let o = offsetIn st i d in
     record { address = e .address; stamp = e .stamp; serial = serialAt v g; drive = d; offset = o; place = placeOf p d (zoneOn g d) (1 + o) }
 
+-- 01, The calls: all of the stripe's records
 unfoldable pub landedCands : Params → View → ℕ → State → ℕ → List Cand
 landedCands p v g st i = map (landedCand p v g st i) (below (filledIn st i))
 
@@ -120,6 +123,7 @@ pointed p v tb cs (c ∷ ds) t =
 
 -- ---- the call
 
+-- 01, Refusals: the checks of a landing
 unfoldable pub landChecks : Params → Bool → View → Memory → ℕ → ℕ → List Check
 landChecks p long v m d s =
     let st = m .state in
@@ -142,6 +146,7 @@ landStore p v m d s =
     let i = slotOf st s in
     put d (zoneOn (openSegment st) d) (slotBlock p (m .inflight) i d) (recordBytes (flightRec p st i d))
 
+-- 01, Landing: the chunk, on completion the table, at the end of a segment the footers
 unfoldable pub landPlan : Params → View → Memory → ℕ → ℕ → Plan
 landPlan p v m d s =
     let st = m .state in
@@ -161,6 +166,7 @@ landPlan p v m d s =
     mkPlan (w ∷ cond (seals p st i d) ss []) (Landed (cond done (writesIn st i) 0))
     (mkMemory (cond (seals p st i d) (setClosed st₃) st₃) (cond done tb′ (m .addresses)) (set (m .compact) (compactAt p d z o) (compactEntry p s)) (m .inflight)) []
 
+-- 01, Landing: the call
 unfoldable pub landVerdict : Params → Bool → View → Memory → ℕ → ℕ → Verdict
 landVerdict p long v m d s =
     let q = landPlan p v m d s in

@@ -5,6 +5,7 @@ use Prim.Native.Nat.{ℕ, zero, suc, _+_, _-_, _/_, _%_, min, max}
 use lib.Dec.{eqb}
 use lib.ListN.{length, getD, take, drop, replicate}
 
+-- one, or none
 pub data Opt (A : Type 0) : Type 0 where
   none : Opt A
   some : A → Opt A
@@ -18,17 +19,21 @@ upFrom i (suc n) = i ∷ upFrom (suc i) n
 unfoldable pub below : ℕ → List ℕ
 below n = upFrom 0 n
 
+-- every element passes the test
 unfoldable pub all : {A : Type 0} → (A → Bool) → List A → Bool
 all f [] = true
 all f (a ∷ l) = f a && all f l
 
+-- some element passes the test
 unfoldable pub any : {A : Type 0} → (A → Bool) → List A → Bool
 any f [] = false
 any f (a ∷ l) = f a || any f l
 
+-- the number is in the list
 unfoldable pub isMember : ℕ → List ℕ → Bool
 isMember n l = any (λ k. eqb n k) l
 
+-- a before l, where the test holds
 unfoldable pub consIf : {A : Type 0} → Bool → A → List A → List A
 consIf true a l = a ∷ l
 consIf false a l = l
@@ -42,10 +47,12 @@ keep f (a ∷ l) = consIf (f a) a (keep f l)
 unfoldable pub tally : {A : Type 0} → (A → Bool) → List A → ℕ
 tally f l = length (keep f l)
 
+-- nothing in the list
 unfoldable pub isNil : {A : Type 0} → List A → Bool
 isNil [] = true
 isNil (a ∷ l) = false
 
+-- 0 where the test holds, else one more
 unfoldable pub sucUnless : Bool → ℕ → ℕ
 sucUnless true n = 0
 sucUnless false n = suc n
@@ -55,18 +62,22 @@ unfoldable pub indexOf : {A : Type 0} → (A → Bool) → List A → ℕ
 indexOf f [] = 0
 indexOf f (a ∷ l) = sucUnless (f a) (indexOf f l)
 
+-- the lists of f one after the other
 unfoldable pub flat : {A B : Type 0} → (A → List B) → List A → List B
 flat f [] = []
 flat f (a ∷ l) = f a ++ flat f l
 
+-- the sum
 unfoldable pub total : List ℕ → ℕ
 total [] = 0
 total (n ∷ l) = n + total l
 
+-- the greatest, 0 if there is none
 unfoldable pub greatest : List ℕ → ℕ
 greatest [] = 0
 greatest (n ∷ l) = max n (greatest l)
 
+-- the least of n and the list
 unfoldable pub least : ℕ → List ℕ → ℕ
 least n [] = n
 least n (k ∷ l) = least (min n k) l
@@ -76,6 +87,7 @@ unfoldable pub firstOr : ℕ → List ℕ → ℕ
 firstOr n [] = n
 firstOr n (k ∷ l) = k
 
+-- equal lists
 unfoldable pub sameList : List ℕ → List ℕ → Bool
 sameList [] [] = true
 sameList [] (b ∷ t) = false
@@ -99,6 +111,7 @@ zipped f (x ∷ xs) (y ∷ ys) = f x y ∷ zipped f xs ys
 
 -- ---- masks of drives or positions, numbered 0 to 7
 
+-- the powers of two below 256
 unfoldable pub powers : List ℕ
 powers = 1 ∷ 2 ∷ 4 ∷ 8 ∷ 16 ∷ 32 ∷ 64 ∷ 128 ∷ []
 

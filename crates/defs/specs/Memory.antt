@@ -27,6 +27,7 @@ mkMemory st tb cs fl = record { state = st; addresses = tb; compact = cs; inflig
 
 -- ---- the state: fields that stand for themselves
 
+-- 01, Write: the state, field by field
 abbrev pub mkState : ℕ → ℕ → ℕ → ℕ → ℕ → ℕ → List ℕ → List ℕ → List ℕ → List ℕ → List ℕ → List ℕ → List ℕ → State
 mkState live gone stamp serial opened next ns fs ws ms ads ts os = record {
   live = live;
@@ -48,9 +49,11 @@ mkState live gone stamp serial opened next ns fs ws ms ads ts os = record {
 unfoldable pub slotCount : ℕ
 slotCount = 8
 
+-- 01, Write: the eighths of the in-flight buffer
 unfoldable pub slots : List ℕ
 slots = below slotCount
 
+-- 01, Write: the index of position or drive k of eighth i
 unfoldable pub cell : ℕ → ℕ → ℕ
 cell i k = 8 * i + k
 
@@ -66,6 +69,7 @@ zeroState = idleState 0 0 0 0 0 0
 
 -- ---- the state's bytes: sections of numbers of one width, in the order of the fields
 
+-- numbers of one width, so many
 pub record Section : Type 0 where
   pub width : ℕ
   pub count : ℕ
@@ -73,11 +77,13 @@ pub record Section : Type 0 where
 abbrev pub section : ℕ → ℕ → Section
 section w n = record { width = w; count = n }
 
+-- 01, The array: the sections of the state
 unfoldable pub stateSections : List Section
 stateSections =
     section 1 1 ∷ section 1 1 ∷ section 8 1 ∷ section 8 1 ∷ section 4 1 ∷ section 4 1
     ∷ section 4 8 ∷ section 1 8 ∷ section 1 8 ∷ section 1 8 ∷ section 8 64 ∷ section 8 64 ∷ section 4 64 ∷ []
 
+-- the bytes of a section
 unfoldable pub sectionLen : Section → ℕ
 sectionLen s = s .width * s .count
 
@@ -85,6 +91,7 @@ sectionLen s = s .width * s .count
 unfoldable pub sectionAt : ℕ → ℕ
 sectionAt k = total (map sectionLen (take k stateSections))
 
+-- 01, The array: the state's bytes in all
 unfoldable pub stateLen : ℕ
 stateLen = total (map sectionLen stateSections)
 
@@ -92,11 +99,13 @@ stateLen = total (map sectionLen stateSections)
 unfoldable pub numbersAt : ℕ → ℕ → ℕ → List ℕ → List ℕ
 numbersAt w n at bs = map (λ i. beOf (part (at + w * i) w bs)) (below n)
 
+-- the numbers of section k
 unfoldable pub sectionOf : List ℕ → ℕ → List ℕ
 sectionOf bs k =
     let s = getD stateSections k (section 0 0) in
     numbersAt (s .width) (s .count) (sectionAt k) bs
 
+-- the one number of section k
 unfoldable pub numberOf : List ℕ → ℕ → ℕ
 numberOf bs k = getD (sectionOf bs k) 0 0
 
@@ -106,12 +115,15 @@ stateNumbers st =
     (st .live ∷ []) ∷ (st .missing ∷ []) ∷ (st .stamp .0 ∷ []) ∷ (st .serial .0 ∷ []) ∷ (st .opened ∷ []) ∷ (st .next ∷ [])
     ∷ st .numbers ∷ st .filled ∷ st .writes ∷ st .landed ∷ st .addresses ∷ st .stamps ∷ st .offsets ∷ []
 
+-- a section in bytes
 unfoldable pub sectionBytes : Section → List ℕ → List ℕ
 sectionBytes s ns = flat (toBe (s .width)) ns
 
+-- 01, The array: the state as bytes
 unfoldable pub stateBytes : State → List ℕ
 stateBytes st = flat (λ (bs : List ℕ). bs) (zipped sectionBytes stateSections (stateNumbers st))
 
+-- 01, The array: and back
 unfoldable pub stateOf : List ℕ → State
 stateOf bs =
     mkState (numberOf bs 0) (numberOf bs 1) (numberOf bs 2) (numberOf bs 3) (numberOf bs 4) (numberOf bs 5) (sectionOf bs 6) (sectionOf bs 7)
@@ -119,12 +131,15 @@ stateOf bs =
 
 -- ---- questions to the state: the stripe in eighth i
 
+-- 01, Write: its number
 unfoldable pub stripeIn : State → ℕ → ℕ
 stripeIn st i = getD (st .numbers) i 0
 
+-- 01, Write: how many data positions are filled
 unfoldable pub filledIn : State → ℕ → ℕ
 filledIn st i = getD (st .filled) i 0
 
+-- 01, Write: which drives have it
 unfoldable pub landedIn : State → ℕ → ℕ
 landedIn st i = getD (st .landed) i 0
 
@@ -140,18 +155,23 @@ entryIn st i k = mkRec (getD (st .addresses) (cell i k) 0) (getD (st .stamps) (c
 unfoldable pub entriesIn : State → ℕ → List Rec
 entriesIn st i = map (entryIn st i) (below (filledIn st i))
 
+-- 01, Landing: the offset at which drive d has it
 unfoldable pub offsetIn : State → ℕ → ℕ → ℕ
 offsetIn st i d = getD (st .offsets) (cell i d) 0
 
+-- 01, Write: the open segment
 unfoldable pub openSegment : State → ℕ
 openSegment st = st .opened - 1
 
+-- 01, Write: the eighth is free
 unfoldable pub isFree : State → ℕ → Bool
 isFree st i = eqb (filledIn st i) 0
 
+-- 01, Write: all data positions are filled
 unfoldable pub isFull : Params → State → ℕ → Bool
 isFull p st i = leb (dataCount p) (filledIn st i)
 
+-- 01, Write: the stripe is filling
 unfoldable pub isFilling : Params → State → ℕ → Bool
 isFilling p st i = not (isFree st i) && not (isFull p st i)
 
@@ -163,9 +183,11 @@ inFlight st = keep (λ i. not (isFree st i)) slots
 unfoldable pub freeSlot : State → ℕ
 freeSlot st = indexOf (isFree st) slots
 
+-- 01, Write: the filling stripe's eighth; 8 if there is none
 unfoldable pub fillingSlot : Params → State → ℕ
 fillingSlot p st = indexOf (isFilling p st) slots
 
+-- 01, Write: a stripe is filling
 unfoldable pub hasFilling : Params → State → Bool
 hasFilling p st = any (isFilling p st) slots
 
@@ -173,6 +195,7 @@ hasFilling p st = any (isFilling p st) slots
 unfoldable pub holdsAt : State → ℕ → ℕ → ℕ → Bool
 holdsAt st a t j = ltb (j % 8) (filledIn st (j / 8)) && eqb (getD (st .addresses) j 0) a && eqb (getD (st .stamps) j 0) t
 
+-- 01, Reclaim: some stripe in flight holds the address with the stamp
 unfoldable pub holds : State → ℕ → ℕ → Bool
 holds st a t = any (holdsAt st a t) (below 64)
 
@@ -181,16 +204,19 @@ unfoldable pub slotOk : Params → State → ℕ → Bool
 slotOk p st i =
     ltb (stripeIn st i) (p .S) && leb (filledIn st i) (dataCount p) && ltb (getD (st .writes) i 0) (2 ^ dataCount p) && ltb (landedIn st i) (2 ^ p .N)
 
+-- 01, Refusals, 9: no state number out of range
 unfoldable pub stateOk : Params → State → Bool
 stateOk p st =
     eqb (st .live) 1 && ltb (st .missing) (2 ^ p .N) && leb (ones (st .missing)) 1 && leb (st .opened) (p .Z) && leb (st .next) (p .S)
     && all (slotOk p st) slots && all (λ o. ltb o (p .S)) (st .offsets)
 
+-- 01, Refusals, 9: a state number out of range names zone 0
 unfoldable pub stateFaults : Params → State → List ℕ
 stateFaults p st = consIf (not (stateOk p st)) 0 []
 
 -- ---- the state with a part changed
 
+-- 01, Write: the last stamp given out
 unfoldable pub setStamp : State → ℕ → State
 setStamp st t =
     mkState (st .live) (st .missing) t (st .serial .0) (st .opened) (st .next) (st .numbers) (st .filled) (st .writes) (st .landed)
@@ -227,6 +253,7 @@ addEntry st i a t w =
 unfoldable pub landedMask : State → ℕ → ℕ → ℕ
 landedMask st i d = bitOr (landedIn st i) (only d)
 
+-- 01, Landing: its bit set and its offset remembered
 unfoldable pub markLanded : State → ℕ → ℕ → ℕ → State
 markLanded st i d o =
     mkState (st .live) (st .missing) (st .stamp .0) (st .serial .0) (st .opened) (st .next) (st .numbers) (st .filled)
@@ -244,6 +271,7 @@ freeStripe st i =
 unfoldable pub placeAt : List ℕ → ℕ → ℕ
 placeAt tb a = beOf (part (4 * a) 4 tb)
 
+-- 01, The array: a place replaced
 unfoldable pub setPlace : List ℕ → ℕ → ℕ → List ℕ
 setPlace tb a q = splice tb (4 * a) (toBe 4 q)
 
@@ -258,12 +286,15 @@ shownAt p v cs d z s =
 
 -- ---- in-flight buffer: an eighth, then by drive
 
+-- 01, Write: where the block of a drive lies in eighth i
 unfoldable pub slotByte : Params → ℕ → ℕ → ℕ
 slotByte p i d = (i * p .N + d) * p .B
 
+-- 01, Write: the block of a drive in eighth i
 unfoldable pub slotBlock : Params → List ℕ → ℕ → ℕ → List ℕ
 slotBlock p fl i d = part (slotByte p i d) (p .B) fl
 
+-- 01, Write: that block replaced
 unfoldable pub setSlotBlock : Params → List ℕ → ℕ → ℕ → List ℕ → List ℕ
 setSlotBlock p fl i d b = splice fl (slotByte p i d) b
 

@@ -6,6 +6,7 @@ use lib.Dec.{leb}
 use Rattle.defs.specs.declared.Params.{Params}
 use Rattle.defs.specs.Lists.{below, isMember, keep, total, only, isIn}
 
+-- 01, The array: the six parameters
 abbrev pub mkParams : ℕ → ℕ → ℕ → ℕ → ℕ → ℕ → Params
 mkParams n b z s g l = record { N = n; B = b; Z = z; S = s; G = g; L = l }
 
@@ -35,6 +36,7 @@ inRange p =
 unfoldable pub recordWidths : List ℕ
 recordWidths = 8 ∷ 8 ∷ 4 ∷ []
 
+-- 01, What a zone holds: the record in bytes, and so a spare
 unfoldable pub spareLen : ℕ
 spareLen = total recordWidths
 
@@ -54,9 +56,11 @@ capacity p = 1 + p .S + footers p
 unfoldable pub unitLen : Params → ℕ
 unitLen p = p .B + spareLen
 
+-- 01, The array: a zone in bytes
 unfoldable pub zoneLen : Params → ℕ
 zoneLen p = capacity p * unitLen p
 
+-- 01, The array: a drive in bytes
 unfoldable pub driveLen : Params → ℕ
 driveLen p = p .Z * zoneLen p
 
@@ -64,15 +68,19 @@ driveLen p = p .Z * zoneLen p
 unfoldable pub imageLen : Params → ℕ
 imageLen p = p .N * driveLen p
 
+-- 01, The array: 4 bytes a zone
 unfoldable pub pointersLen : Params → ℕ
 pointersLen p = 4 * (p .N * p .Z)
 
+-- 01, The array: 4 bytes an address
 unfoldable pub addressesLen : Params → ℕ
 addressesLen p = 4 * p .L
 
+-- 01, What a zone holds: one byte for each drive, zone and offset
 unfoldable pub compactLen : Params → ℕ
 compactLen p = p .N * p .Z * p .S
 
+-- 01, The array: 8 × N × B bytes
 unfoldable pub inflightLen : Params → ℕ
 inflightLen p = 8 * p .N * p .B
 
@@ -84,9 +92,11 @@ placeOf p d z b = (d * p .Z + z) * capacity p + b
 unfoldable pub placeBlock : Params → ℕ → ℕ
 placeBlock p q = q % capacity p
 
+-- 01, The array: the zone of a place
 unfoldable pub placeZone : Params → ℕ → ℕ
 placeZone p q = q / capacity p % p .Z
 
+-- 01, The array: the drive of a place
 unfoldable pub placeDrive : Params → ℕ → ℕ
 placeDrive p q = q / capacity p / p .Z
 
@@ -106,8 +116,10 @@ named d = only d
 unfoldable pub drivesOf : Params → List ℕ
 drivesOf p = below (p .N)
 
+-- 01, Restart: the drives that are present
 unfoldable pub present : Params → ℕ → List ℕ
 present p gone = keep (λ d. not (isIn gone d)) (drivesOf p)
 
+-- 01, Restart: the drives that are missing
 unfoldable pub absent : Params → ℕ → List ℕ
 absent p gone = keep (isIn gone) (drivesOf p)

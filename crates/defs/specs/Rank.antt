@@ -16,7 +16,7 @@ pub record Cand : Type 0 where
   pub offset : ℕ
   pub place : ℕ
 
--- 01: greater stamp, then greater serial, then lower drive, then lower offset
+-- 01, The calls: greater stamp, then greater serial, then lower drive, then lower offset
 unfoldable pub beats : Cand → Cand → Bool
 beats a b =
     ltb (b .stamp) (a .stamp)
@@ -24,6 +24,7 @@ beats a b =
     && (ltb (b .serial) (a .serial)
     || (eqb (a .serial) (b .serial) && (ltb (a .drive) (b .drive) || (eqb (a .drive) (b .drive) && ltb (a .offset) (b .offset))))))
 
+-- 01, The calls: the better of two
 unfoldable pub better : Opt Cand → Cand → Opt Cand
 better none c = some c
 better (some b) c = some (cond (beats c b) c b)

@@ -32,12 +32,14 @@ pub data Found : Type 0 where
   here : ℕ → Found
   away : ℕ → Found
 
+-- 01, Read: where the table says that it lies
 unfoldable pub lookup : Params → ℕ → List ℕ → ℕ → Found
 lookup p gone tb a =
     let q = placeAt tb a in
     let r = cond (isIn gone (placeDrive p q)) (away q) (here q) in
     cond (eqb q neverPlace) nowhere r
 
+-- 01, Refusals, 9: a place to be read
 unfoldable pub foundFaults : Params → View → ℕ → Found → List ℕ
 foundFaults p v gone nowhere = []
 foundFaults p v gone (here q) = placeFaults p v gone q
@@ -67,6 +69,7 @@ readPiece p v gone cs nowhere = mkPiece (replicate (p .B) 0) (mkRec 0 0 0)
 readPiece p v gone cs (here q) = storedAt p v gone (placeDrive p q) (placeZone p q) (placeBlock p q - 1)
 readPiece p v gone cs (away q) = decodedAt p v gone cs (placeZone p q) (placeBlock p q - 1)
 
+-- 01, Read: the part of the image, never written, or on the missing drive
 unfoldable pub readAnswer : Params → Found → Answer
 readAnswer p nowhere = Never
 readAnswer p (here q) = Part (placeByte p q)

@@ -22,6 +22,7 @@ use Rattle.defs.specs.Segments.{Segment, segments, counted, pieceOf, put
 unfoldable pub namesMissing : Params → State → ℕ → Bool
 namesMissing p st d = ltb d (p .N) && eqb (st .missing) (named d)
 
+-- 01, Refusals: the checks of a rebuild
 unfoldable pub rebuildChecks : Params → Bool → View → Memory → ℕ → List Segment → List Check
 rebuildChecks p long v m d gs =
     rule 1 (not (inRange p) || not (namesMissing p (m .state) d)) ∷ rule 2 (not long) ∷ imageChecks p v (named d) gs

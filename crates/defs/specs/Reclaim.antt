@@ -32,6 +32,7 @@ tableFaults p tb = consIf (any (λ q. leb (p .N) (placeDrive p q)) (placesIn p t
 unfoldable pub segmentPlaces : Params → ℕ → List ℕ
 segmentPlaces p g = flat (λ d. map (placeOf p d (zoneOn g d)) (below (capacity p))) (drivesOf p)
 
+-- 01, Reclaim: the live blocks of segment g
 unfoldable pub liveIn : Params → List ℕ → ℕ → List ℕ
 liveIn p qs g = keep (λ q. isMember q qs) (segmentPlaces p g)
 
@@ -44,17 +45,21 @@ flying p v st q =
 
 -- ---- the segment that reclaim takes
 
+-- 01, Reclaim: a sealed segment with its live blocks
 pub record Victim : Type 0 where
   pub segment : ℕ
   pub live : List ℕ
 
+-- 01, Reclaim: segment g with its live blocks
 unfoldable pub victimOf : Params → List ℕ → ℕ → Victim
 victimOf p qs g = record { segment = g; live = liveIn p qs g }
 
+-- 01, Reclaim: the one with fewer, the first on a tie
 unfoldable pub fewer : Opt Victim → Victim → Opt Victim
 fewer none b = some b
 fewer (some a) b = some (cond (ltb (length (b .live)) (length (a .live))) b a)
 
+-- 01, Reclaim: the one with fewest
 unfoldable pub fewest : Opt Victim → List Victim → Opt Victim
 fewest a [] = a
 fewest a (b ∷ bs) = fewest (fewer a b) bs
@@ -65,14 +70,17 @@ victim p v tb =
     let qs = placesIn p tb in
     fewest none (map (victimOf p qs) (keep (sealedIn p v 0) (segmentNumbers p)))
 
+-- 01, Refusals, 5: no sealed segment
 unfoldable pub isNone : Opt Victim → Bool
 isNone none = true
 isNone (some w) = false
 
+-- 01, Reclaim: the number of the segment taken
 unfoldable pub victimSegment : Opt Victim → ℕ
 victimSegment none = 0
 victimSegment (some w) = w .segment
 
+-- 01, Reclaim: its live blocks
 unfoldable pub victimLive : Opt Victim → List ℕ
 victimLive none = []
 victimLive (some w) = w .live
@@ -83,6 +91,7 @@ idle p v st w = keep (λ q. not (flying p v st q)) (victimLive w)
 
 -- ---- reclaim
 
+-- 01, Refusals: the checks of reclaim
 unfoldable pub reclaimChecks : Params → Bool → View → Memory → Opt Victim → List Check
 reclaimChecks p long v m w =
     let st = m .state in
@@ -97,10 +106,12 @@ reclaimChecks p long v m w =
 unfoldable pub clearedRow : Params → List ℕ → ℕ → ℕ → List ℕ
 clearedRow p cs d z = splice cs (compactAt p d z 0) (replicate (p .S) 0)
 
+-- 01, What a zone holds: the rows of a segment zeroed
 unfoldable pub cleared : Params → ℕ → List ℕ → List ℕ → List ℕ
 cleared p g [] cs = cs
 cleared p g (d ∷ ds) cs = cleared p g ds (clearedRow p cs d (zoneOn g d))
 
+-- 01, Reclaim: the reset
 unfoldable pub resetPlan : Params → Memory → ℕ → Plan
 resetPlan p m g =
     mkPlan (resetStores p g) (Reset g) (mkMemory (m .state) (m .addresses) (cleared p g (drivesOf p) (m .compact)) (m .inflight)) []
@@ -114,6 +125,7 @@ copyPlan p v m q =
     let w = sending p v (m .state) (m .inflight) (r .address) (r .stamp) 0 (chunkAt v d (placeZone p q) (placeBlock p q) .block) in
     mkPlan (w .stores) (Copied (aStamp (r .stamp)) (w .stripe) (w .drive)) (mkMemory (w .state) (m .addresses) (m .compact) (w .inflight)) []
 
+-- 01, Reclaim: the call
 unfoldable pub reclaimVerdict : Params → Bool → View → Memory → Verdict
 reclaimVerdict p long v m =
     let w = victim p v (m .addresses) in

@@ -19,6 +19,7 @@ use Rattle.defs.specs.Rank.{Cand, best, placeOr, candsOf}
 unfoldable pub lowDrive : Params → ℕ → ℕ
 lowDrive p gone = firstOr 0 (present p gone)
 
+-- 01, Restart, 2: a segment's header on a drive
 unfoldable pub headerAt : View → ℕ → ℕ → List ℕ
 headerAt v d g = chunkAt v d (zoneOn g d) 0 .block
 
@@ -51,6 +52,7 @@ pub record Segment : Type 0 where
 unfoldable pub recordsIn : Params → Bool → Zone → List Rec
 recordsIn p w q = map (recordIn p w q) (below (dataStored p q))
 
+-- 01, Restart, 1 to 3: segment g as read
 unfoldable pub segmentOf : Params → View → ℕ → ℕ → Segment
 segmentOf p v gone g =
     let b = headerAt v (lowDrive p gone) g in
@@ -71,6 +73,7 @@ segments p v gone = map (segmentOf p v gone) (remaining p v gone)
 
 -- ---- chunks of a segment
 
+-- the records of its chunks on a drive, by offset
 unfoldable pub recsOn : Segment → ℕ → List Rec
 recsOn g d = getD (g .recs) d []
 
@@ -78,6 +81,7 @@ recsOn g d = getD (g .recs) d []
 unfoldable pub offsetOn : Segment → ℕ → ℕ → ℕ
 offsetOn g d s = indexOf (λ (r : Rec). eqb (r .stripe) s) (recsOn g d)
 
+-- 01, Restart, 3: the drive has the stripe's chunk
 unfoldable pub hasChunk : Segment → ℕ → ℕ → Bool
 hasChunk g s d = any (λ (r : Rec). eqb (r .stripe) s) (recsOn g d)
 
@@ -85,6 +89,7 @@ hasChunk g s d = any (λ (r : Rec). eqb (r .stripe) s) (recsOn g d)
 unfoldable pub counts : Params → ℕ → Segment → ℕ → Bool
 counts p gone g s = all (hasChunk g s) (present p gone)
 
+-- 01, Restart, 3: the stripes that count, rising
 unfoldable pub counted : Params → ℕ → Segment → List ℕ
 counted p gone g = keep (counts p gone g) (below (p .S))
 
@@ -92,6 +97,7 @@ counted p gone g = keep (counts p gone g) (below (p .S))
 unfoldable pub uncounted : Params → ℕ → Segment → List ℕ
 uncounted p gone g = keep (λ s. any (hasChunk g s) (present p gone) && not (counts p gone g s)) (below (p .S))
 
+-- 01, Restart, 3: the chunk of a stripe as stored
 unfoldable pub storedPiece : Segment → ℕ → ℕ → Piece
 storedPiece g s d =
     let o = offsetOn g d s in
@@ -112,6 +118,7 @@ putPiece d z q = put d z (q .block) (recordBytes (q .rec))
 unfoldable pub storedRec : Segment → ℕ → ℕ → Rec
 storedRec g s d = getD (recsOn g d) (offsetOn g d s) (mkRec 0 0 0)
 
+-- 01, Restart, 3: its record, stored or decoded
 unfoldable pub recOf : Params → ℕ → Segment → ℕ → ℕ → Rec
 recOf p gone g s d =
     let a = storedRec g s d in
@@ -126,6 +133,7 @@ offsetOf gone g s d =
 
 -- ---- the tables that the drives say
 
+-- 01, The calls: the record of a counted stripe on a drive, as it competes
 unfoldable pub candOf : Params → ℕ → Segment → ℕ → ℕ → Cand
 candOf p gone g s d =
     let r = recOf p gone g s d in
@@ -136,6 +144,7 @@ candOf p gone g s d =
 unfoldable pub segmentCands : Params → ℕ → Segment → List Cand
 segmentCands p gone g = flat (λ s. map (candOf p gone g s) (dataDrives p s)) (counted p gone g)
 
+-- 01, The calls: all completed records
 unfoldable pub candidates : Params → ℕ → List Segment → List Cand
 candidates p gone gs = flat (segmentCands p gone) gs
 
@@ -147,9 +156,11 @@ addressTable p cs = flat (λ a. toBe 4 (placeOr (best none (candsOf a cs)))) (be
 unfoldable pub compactRow : Params → List Rec → List ℕ
 compactRow p rs = padTo (p .S) (map (λ (r : Rec). compactEntry p (r .stripe)) rs)
 
+-- 01, What a zone holds: the records of a zone of a remaining segment
 unfoldable pub rowOf : Params → List Segment → ℕ → ℕ → List Rec
 rowOf p gs d z = flat (λ (g : Segment). cond (eqb (zoneOn (g .seg) d) z) (recsOn g d) []) gs
 
+-- 01, What a zone holds: for each drive, zone and offset, in that order
 unfoldable pub compactTable : Params → List Segment → List ℕ
 compactTable p gs = flat (λ d. flat (λ z. compactRow p (rowOf p gs d z)) (below (p .Z))) (drivesOf p)
 
@@ -157,8 +168,10 @@ compactTable p gs = flat (λ d. flat (λ z. compactRow p (rowOf p gs d z)) (belo
 unfoldable pub greatestStamp : List Cand → ℕ
 greatestStamp cs = greatest (map (λ (c : Cand). c .stamp) cs)
 
+-- 01, Restart: the greatest remaining serial
 unfoldable pub greatestSerial : List Segment → ℕ
 greatestSerial gs = greatest (map (λ (g : Segment). g .serial) gs)
 
+-- 01, Restart, 4: the unsealed segments
 unfoldable pub unsealed : List Segment → List Segment
 unsealed gs = keep (λ (g : Segment). not (g .full)) gs

@@ -28,6 +28,7 @@ opens p st = not (hasFilling p st) && mustOpen p st
 unfoldable pub noStamp : State → Bool
 noStamp st = eqb (st .stamp .0) lastCount
 
+-- 01, Refusals, 6: no next serial where a segment must be opened
 unfoldable pub noSerial : Params → State → Bool
 noSerial p st = opens p st && eqb (st .serial .0) lastCount
 
@@ -35,6 +36,7 @@ noSerial p st = opens p st && eqb (st .serial .0) lastCount
 unfoldable pub otherGroup : Params → State → ℕ → Bool
 otherGroup p st i = not (eqb (group p (stripeIn st i)) (group p (st .next)))
 
+-- 01, Refusals, 7: wait
 unfoldable pub mustWait : Params → State → Bool
 mustWait p st =
     not (hasFilling p st)
@@ -47,6 +49,7 @@ scarce p v n = leb (length (emptyZones p v)) n
 
 -- ---- a data position filled
 
+-- 01, Write: what filling a position leaves
 pub record Placed : Type 0 where
   pub state : State
   pub inflight : List ℕ
@@ -64,6 +67,7 @@ placed p st fl i a t w b =
 
 -- ---- a block sent: write or copy
 
+-- 01, Write: what sending a block leaves
 pub record Sending : Type 0 where
   pub stores : List Store
   pub state : State
@@ -81,6 +85,7 @@ openedBy p v st =
 unfoldable pub slotFor : Params → State → ℕ
 slotFor p st = cond (hasFilling p st) (fillingSlot p st) (freeSlot st)
 
+-- 01, Write: the state with that stripe begun
 unfoldable pub begunBy : Params → State → State → State
 begunBy p st st₁ =
     let st₂ = beginStripe st₁ (freeSlot st) in
@@ -116,6 +121,7 @@ writePlan p v m a b =
     let q = sending p v st (m .inflight) a t 1 b in
     mkPlan (q .stores) (Sent (aStamp t) (q .stripe) (q .drive)) (mkMemory (setStamp (q .state) t) (m .addresses) (m .compact) (q .inflight)) b
 
+-- 01, Write: the call
 unfoldable pub writeVerdict : Params → Bool → View → Memory → ℕ → List ℕ → Verdict
 writeVerdict p long v m a b =
     let q = writePlan p v m a b in

@@ -1,0 +1,19 @@
+use mathlib.Core.Path.{_∙_}
+use borrow.Author.Needs.{needs}
+use lib.ListN.{length, replicate, length-replicate}
+use Rattle.defs.specs.Engine.Call.{close}
+use Rattle.laws.specs.Splice.{splice-all}
+use Rattle.blocks.proofs.clear.Statement.{statement}
+use Rattle.blocks.proofs.clear.Tie as tie
+
+clear-part-requires : tie.Need-clear-part-requires
+clear-part-requires c κs = search needs
+
+same-length : tie.Need-same-length
+same-length c = search needs
+
+returns : tie.Need-returns
+returns c = c .before .before .clear-part .ensures ∙ splice-all (c .before .before .before .before .before .args .dst .now) (replicate (length (c .before .before .before .before .before .args .dst .now)) 0) (length-replicate (length (c .before .before .before .before .before .args .dst .now)) 0)
+
+pub clear-spec : {M : Type 1} → statement M
+clear-spec = tie.close (tie.spec clear-part-requires same-length returns)

@@ -1,0 +1,18 @@
+use mathlib.Core.Path.{_∙_}
+use borrow.Author.Needs.{needs}
+use Rattle.defs.specs.Engine.Call.{close}
+use Rattle.laws.specs.Splice.{splice-all}
+use Rattle.blocks.proofs.copy.Statement.{statement}
+use Rattle.blocks.proofs.copy.Tie as tie
+
+copy-part-requires : tie.Need-copy-part-requires
+copy-part-requires c κs = search needs
+
+same-length : tie.Need-same-length
+same-length c = search needs
+
+returns : tie.Need-returns
+returns c = c .before .before .copy-part .ensures ∙ splice-all (c .before .before .before .before .before .before .args .dst .now) (c .before .before .before .before .before .before .args .src .now) (c .before .before .before .before .before .before .pre)
+
+pub copy-spec : {M : Type 1} → statement M
+copy-spec = tie.close (tie.spec copy-part-requires same-length returns)

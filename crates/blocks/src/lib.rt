@@ -1,0 +1,122 @@
+// Blocks of bytes and parts of buffers: copied, cleared, compared, exclusive-ored (01, What a zone holds).
+ghost use mathlib.Core.Path.{_≡_};
+ghost use Prim.Native.Nat.{_+_, _≤_, _<_};
+ghost use lib.ListN.{length, replicate};
+ghost use Rattle.defs.specs.Bytes.{part, splice, xors};
+ghost use Rattle.defs.specs.Lists.{sameList};
+ghost use Rattle.laws.specs.Turns.{Apart};
+
+// Puts src into dst from index at.
+pub fn copy_part(dst: &mut [u8], at: usize, src: &[u8])
+    requires { ⌜ at + length (now src) ≤ length (now dst) ⌝ }
+    ensures { λ _. ⌜ now (dst .exit) ≡ splice (now (dst .entry)) at (now (src .entry)) ⌝ }
+{
+    let mut i = 0;
+    while i < src.len() {
+        dst[at + i] = src[i];
+        i += 1;
+    }
+}
+
+// Puts n zeros into dst from index at.
+pub fn clear_part(dst: &mut [u8], at: usize, n: usize)
+    requires { ⌜ at + n ≤ length (now dst) ⌝ }
+    ensures { λ _. ⌜ now (dst .exit) ≡ splice (now (dst .entry)) at (replicate n 0) ⌝ }
+{
+    let mut i = 0;
+    while i < n {
+        dst[at + i] = 0;
+        i += 1;
+    }
+}
+
+// Exclusive-ors src into dst from index at.
+pub fn xor_part(dst: &mut [u8], at: usize, src: &[u8])
+    requires { ⌜ at + length (now src) ≤ length (now dst) ⌝ }
+    ensures { λ _. ⌜ now (dst .exit) ≡ splice (now (dst .entry)) at (xors (part at (length (now (src .entry))) (now (dst .entry))) (now (src .entry))) ⌝ }
+{
+    let mut i = 0;
+    while i < src.len() {
+        dst[at + i] = dst[at + i] ^ src[i];
+        i += 1;
+    }
+}
+
+// Copies the n bytes from index b to index a of the same buffer.
+pub fn copy_within(buf: &mut [u8], a: usize, b: usize, n: usize)
+    requires { ⌜ (a + n ≤ length (now buf)) × (b + n ≤ length (now buf)) × Apart a b n ⌝ }
+    ensures { λ _. ⌜ now (buf .exit) ≡ splice (now (buf .entry)) a (part b n (now (buf .entry))) ⌝ }
+{
+    let mut i = 0;
+    while i < n {
+        buf[a + i] = buf[b + i];
+        i += 1;
+    }
+}
+
+// Exclusive-ors the n bytes from index b into those from index a of the same buffer.
+pub fn xor_within(buf: &mut [u8], a: usize, b: usize, n: usize)
+    requires { ⌜ (a + n ≤ length (now buf)) × (b + n ≤ length (now buf)) × Apart a b n ⌝ }
+    ensures { λ _. ⌜ now (buf .exit) ≡ splice (now (buf .entry)) a (xors (part a n (now (buf .entry))) (part b n (now (buf .entry)))) ⌝ }
+{
+    let mut i = 0;
+    while i < n {
+        buf[a + i] = buf[a + i] ^ buf[b + i];
+        i += 1;
+    }
+}
+
+// The bytes of src in dst.
+pub fn copy(dst: &mut [u8], src: &[u8])
+    requires { ⌜ length (now src) ≡ length (now dst) ⌝ }
+    ensures { λ _. ⌜ now (dst .exit) ≡ now (src .entry) ⌝ }
+{
+    copy_part(dst, 0, src);
+}
+
+// Zeros in dst.
+pub fn clear(dst: &mut [u8])
+    ensures { λ _. ⌜ now (dst .exit) ≡ replicate (length (now (dst .entry))) 0 ⌝ }
+{
+    let n = dst.len();
+    clear_part(dst, 0, n);
+}
+
+// The exclusive or of dst and src in dst.
+pub fn xor_into(dst: &mut [u8], src: &[u8])
+    requires { ⌜ length (now src) ≡ length (now dst) ⌝ }
+    ensures { λ _. ⌜ now (dst .exit) ≡ xors (now (dst .entry)) (now (src .entry)) ⌝ }
+{
+    xor_part(dst, 0, src);
+}
+
+// Whether a and b are equal.
+pub fn same(a: &[u8], b: &[u8]) -> bool
+    ensures { λ r. ⌜ r ≡ sameList (now (a .entry)) (now (b .entry)) ⌝ }
+{
+    if a.len() != b.len() {
+        return false;
+    }
+    let mut i = 0;
+    while i < a.len() {
+        if a[i] != b[i] {
+            return false;
+        }
+        i += 1;
+    }
+    true
+}
+
+// Whether a is all zeros.
+pub fn is_zero(a: &[u8]) -> bool
+    ensures { λ r. ⌜ r ≡ sameList (now (a .entry)) (replicate (length (now (a .entry))) 0) ⌝ }
+{
+    let mut i = 0;
+    while i < a.len() {
+        if a[i] != 0 {
+            return false;
+        }
+        i += 1;
+    }
+    true
+}

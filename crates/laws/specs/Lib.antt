@@ -1,0 +1,9 @@
+pub mod Splice
+pub mod Be
+pub mod Ranges
+pub mod Xor
+pub mod Mask
+pub mod Fields
+pub mod Stores
+pub mod Geometry
+pub mod Turns
