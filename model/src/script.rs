@@ -119,7 +119,7 @@ pub enum Outcome {
     Ok,
     /// Parameters outside their ranges.
     NoParams,
-    /// A command that names no drive.
+    /// A command that names no drive, or buffers beyond reason.
     Error,
     /// A call's answer, with the block that the second read filled.
     Answer(Answer, Option<Vec<u8>>),
@@ -130,6 +130,8 @@ pub fn run(array: &mut Array, command: &Command) -> Outcome {
     match *command {
         Params([n, b, z, s, g, l]) => match Params::new(n, b, z, s, g, l) {
             None => return Outcome::NoParams,
+            // More than a test machine can lend.
+            Some(p) if p.lengths().iter().sum::<usize>() > 1 << 32 => return Outcome::Error,
             Some(p) => *array = Array::new(p),
         },
         Junk(buf, seed) => stream(seed, array.buffer_mut(buf)),

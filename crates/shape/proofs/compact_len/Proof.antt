@@ -1,0 +1,21 @@
+use mathlib.Core.Path.{refl}
+use native.Mathlib.Omega.{arith}
+use Rattle.defs.specs.Engine.Call.{close}
+use Rattle.defs.specs.Params.{compactLen}
+use Rattle.laws.specs.Geometry.{ranged, zones-all, compact-high}
+use Rattle.shape.proofs.compact_len.Statement.{statement}
+use Rattle.shape.proofs.compact_len.Tie as tie
+
+mul-result : tie.Need-mul-result
+mul-result c = let r = ranged (c .before .args .p) (c .before .pre) in omega (arith, zones-all (c .before .args .p) r)
+
+mul-result-2 : tie.Need-mul-result-2
+unfolding compactLen
+mul-result-2 c = let r = ranged (c .before .before .args .p) (c .before .before .pre) in omega (arith, compact-high (c .before .before .args .p) r)
+
+returns : tie.Need-returns
+unfolding compactLen
+returns c = let r = ranged (c .before .before .args .p) (c .before .before .pre) in (refl, compact-high (c .before .before .args .p) r)
+
+pub compact-len-spec : {M : Type 1} → statement M
+compact-len-spec = tie.close (tie.spec mul-result mul-result-2 returns)

@@ -1,0 +1,21 @@
+use mathlib.Core.Path.{refl}
+use native.Mathlib.Omega.{arith}
+use Rattle.defs.specs.Engine.Call.{close}
+use Rattle.defs.specs.Params.{inflightLen}
+use Rattle.laws.specs.Geometry.{ranged, inflight-high}
+use Rattle.shape.proofs.inflight_len.Statement.{statement}
+use Rattle.shape.proofs.inflight_len.Tie as tie
+
+mul-result : tie.Need-mul-result
+mul-result c = let r = ranged (c .before .args .p) (c .before .pre) in omega arith
+
+mul-result-2 : tie.Need-mul-result-2
+unfolding inflightLen
+mul-result-2 c = let r = ranged (c .before .before .args .p) (c .before .before .pre) in omega (arith, inflight-high (c .before .before .args .p) r)
+
+returns : tie.Need-returns
+unfolding inflightLen
+returns c = let r = ranged (c .before .before .args .p) (c .before .before .pre) in (refl, inflight-high (c .before .before .args .p) r)
+
+pub inflight-len-spec : {M : Type 1} → statement M
+inflight-len-spec = tie.close (tie.spec mul-result mul-result-2 returns)

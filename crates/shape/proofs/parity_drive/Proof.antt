@@ -1,0 +1,25 @@
+use mathlib.Core.Path.{refl}
+use Prim.Native.Nat.{_%_, _<_}
+use native.Mathlib.Omega.{arith}
+use native.Mathlib.Nat.{mod-lt}
+use Rattle.defs.specs.Engine.Call.{close}
+use Rattle.defs.specs.Layout.{parityDrive}
+use Rattle.laws.specs.Geometry.{ranged}
+use Rattle.shape.proofs.parity_drive.Statement.{statement}
+use Rattle.shape.proofs.parity_drive.Tie as tie
+
+sub-result : tie.Need-sub-result
+sub-result c = let r = ranged (c .before .args .p) (c .before .pre) in let l : c .before .args .stripe % c .before .args .p .N < c .before .args .p .N = mod-lt (c .before .args .stripe) (omega (arith, r .drives-low)) in omega arith
+
+rem-result : tie.Need-rem-result
+rem-result c = let r = ranged (c .before .before .args .p) (c .before .before .pre) in let l : c .before .before .args .stripe % c .before .before .args .p .N < c .before .before .args .p .N = mod-lt (c .before .before .args .stripe) (omega (arith, r .drives-low)) in omega arith
+
+sub-result-2 : tie.Need-sub-result-2
+sub-result-2 c = let r = ranged (c .before .before .args .p) (c .before .before .pre) in let l : c .before .before .args .stripe % c .before .before .args .p .N < c .before .before .args .p .N = mod-lt (c .before .before .args .stripe) (omega (arith, r .drives-low)) in omega arith
+
+returns : tie.Need-returns
+unfolding parityDrive
+returns c = let r = ranged (c .before .before .args .p) (c .before .before .pre) in let l : c .before .before .args .stripe % c .before .before .args .p .N < c .before .before .args .p .N = mod-lt (c .before .before .args .stripe) (omega (arith, r .drives-low)) in (refl, omega arith)
+
+pub parity-drive-spec : {M : Type 1} → statement M
+parity-drive-spec = tie.close (tie.spec sub-result rem-result sub-result-2 returns)
