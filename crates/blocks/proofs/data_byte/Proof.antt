@@ -1,0 +1,18 @@
+use mathlib.Core.Path.{ap, _∙_}
+use borrow.Author.Needs.{needs}
+use Rattle.defs.specs.Engine.Call.{close}
+use Rattle.defs.specs.Memory.{slotByte}
+use Rattle.blocks.proofs.data_byte.Statement.{statement}
+use Rattle.blocks.proofs.data_byte.Tie as tie
+
+data-drive-requires : tie.Need-data-drive-requires
+data-drive-requires c κs = search needs
+
+slot-byte-requires : tie.Need-slot-byte-requires
+slot-byte-requires c κs = search needs
+
+returns : tie.Need-returns
+returns c = (c .slot-byte .ensures .0 ∙ ap (slotByte (c .before .before .args .p) (c .before .before .args .slot)) (c .before .data-drive .ensures .0), c .slot-byte .ensures .1)
+
+pub data-byte-spec : {M : Type 1} → statement M
+data-byte-spec = tie.close (tie.spec data-drive-requires slot-byte-requires returns)

@@ -1,0 +1,18 @@
+use borrow.Author.Needs.{needs}
+use Rattle.defs.specs.Engine.Call.{close}
+use Rattle.laws.specs.Geometry.{ranged, unit-high}
+use Rattle.records.proofs.is_header.Statement.{statement}
+use Rattle.records.proofs.is_header.Tie as tie
+
+slice-aggregate-matches-header : tie.Need-slice-aggregate-matches-header
+slice-aggregate-matches-header c = search needs
+
+matches-header-requires : tie.Need-matches-header-requires
+matches-header-requires c κs = (c .before .before .pre .0, c .before .before .pre .1, unit-high (c .before .before .args .p) (ranged (c .before .before .args .p) (c .before .before .pre .0)))
+
+returns : tie.Need-returns
+returns c = search needs
+
+pub is-header-spec : {M : Type 1} → statement M
+is-header-spec =
+    tie.close (tie.spec slice-aggregate-matches-header matches-header-requires returns)
