@@ -8,7 +8,7 @@ use lib.Arith.{digits-lt, digits-div, digits-mod, lt-of-le-ne}
 use lib.Dec.{leb, ltb, eqb}
 use native.Mathlib.Nat.{suc-mul, mul-assoc, le-of-eq, le-trans, sub-le, mul-le-mul-right, mul-le-mul, div-add-mod', div-mul-le-self, le-div-iff-mul-le, div-lt-iff-lt-mul, lt-div-mul-add}
 use borrow.Author.Tests.{leb-true, eqb-false, not-true, lt-ltb, le-ltb, le-leb, eq-eqb, ne-eqb}
-use Rattle.defs.specs.Drives.{pointerByte}
+use Rattle.defs.specs.Drives.{pointerByte, zoneOn}
 use Rattle.defs.specs.Layout.{parityDrive, dataDrive, dataPosition, isData}
 use Rattle.defs.specs.Lists.{all, isMember, total}
 use Rattle.defs.specs.Memory.{compactAt, slotByte}
@@ -223,6 +223,11 @@ place-lt p d z b hd hz hb = digits-lt (digits-lt hd hz) hb
 
 pub zone-index-lt : (p : Params) (d z : ℕ) → d < p .N → z < p .Z → d * p .Z + z < p .N * p .Z
 zone-index-lt p d z hd hz = digits-lt hd hz
+
+-- the zone of a segment on a drive
+pub zone-on-lt : (p : Params) (g d : ℕ) → g < p .Z → zoneOn g d < p .Z
+unfolding zoneOn
+zone-on-lt p g d h = h
 
 -- ---- parts of the lent buffers lie within them
 

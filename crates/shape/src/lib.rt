@@ -5,7 +5,7 @@ ghost use Prim.Native.Nat.{_+_, _≤_, _<_};
 ghost use Rattle.defs.specs.Lists.{isMember};
 ghost use Rattle.defs.specs.Params.{between, blockSizes, inRange, dataCount, perFooter, footers, capacity, unitLen, imageLen, pointersLen, addressesLen, compactLen, inflightLen, placeOf, placeBlock, placeZone, placeDrive, placeByte};
 ghost use Rattle.defs.specs.Layout.{parityDrive, dataDrive, dataPosition, isData, group, compactEntry};
-ghost use Rattle.defs.specs.Drives.{pointerByte};
+ghost use Rattle.defs.specs.Drives.{pointerByte, zoneOn};
 ghost use Rattle.defs.specs.Memory.{compactAt, slotByte};
 use defs::Params;
 use defs::Place;
@@ -285,4 +285,11 @@ pub fn slot_byte(p: Params, slot: usize, drive: usize) -> usize
     ensures { λ r. ⌜ (r ≡ slotByte p slot drive) × (r + p .B ≤ inflightLen p) × (r < 262144) ⌝ }
 {
     (slot * p.N + drive) * p.B
+}
+
+// The zone of a segment on a drive.
+pub fn zone_on(segment: usize, drive: usize) -> usize
+    ensures { λ r. ⌜ r ≡ zoneOn segment drive ⌝ }
+{
+    segment
 }
