@@ -11,6 +11,7 @@ pub mod Values
 pub mod Segs
 pub mod Stripes
 pub mod Cands
+pub mod SegFacts
 pub mod Refuse
 pub mod Table
 pub mod Reading

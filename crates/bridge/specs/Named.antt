@@ -11,7 +11,7 @@ use lib.ListN.{List·getD-eq-default}
 use Rattle.defs.specs.declared.Params.{Params}
 use Rattle.defs.specs.Lists.Opt.{some}
 use Rattle.defs.specs.Lists.{below, all, any, isNil, firstOr, powers, only, isIn}
-use Rattle.defs.specs.Params.{named, drivesOf, present, absent}
+use Rattle.defs.specs.Params.{noDrive, named, drivesOf, present, absent}
 use Rattle.defs.specs.Segments.{lowDrive}
 use Rattle.laws.specs.Geometry.{Ranged}
 use Rattle.machine.specs.Exec.{true≢false, and-1, and-2, not-2, allB, all-true}
@@ -57,6 +57,10 @@ isIn-named m d l = go (decLt m 8)
 -- it names none just where m is no drive
 pub named-none : (m : ℕ) → 8 ≤ m → named m ≡ 0
 named-none m l = named-out m l
+
+pub none-named : named noDrive ≡ 0
+unfolding noDrive
+none-named = named-out noDrive (omega arith)
 
 powers-pos : allB 8 (λ (m : ℕ). not (eqb (named m) 0)) ≡ true
 unfolding allB named only powers

@@ -14,7 +14,7 @@ use Rattle.defs.specs.declared.Params.{Params}
 use Rattle.defs.specs.Calls.{Check, ninth, ruled, firstRefusal}
 use Rattle.defs.specs.Calls.Check.{rule}
 use Rattle.defs.specs.Counts.{paddingAddress, lastCount}
-use Rattle.defs.specs.Drives.{Chunk, mkChunk, noChunk, Zone, noZone, View, zoneAt, pointerAt, chunkAt, segmentNumbers, zoneOn, sealedIn, dataStored, blocksOf, footersOf, zeroSpare}
+use Rattle.defs.specs.Drives.{Chunk, mkChunk, noChunk, Zone, noZone, View, zoneAt, pointerAt, chunkAt, segmentNumbers, zoneOn, dataStored, blocksOf, footersOf, zeroSpare}
 use Rattle.defs.specs.Faults.{pointerFaults, sameChunk, headerFault, serialFault, outside, twice, stripeFault, badRec, storedBad, decodedBad, addressFault, footersStored, sameBlocks, footerFaultIn, footerFault, clashes, segmentFault, segmentFaults, imageChecks}
 use Rattle.defs.specs.Layout.{parityDrive, isData, group, inGroupOf, headerBlock, headerSerial, headerCopied, Rec, mkRec, recordOf, footerBlock}
 use Rattle.defs.specs.Lists.Opt.{none}
@@ -25,8 +25,7 @@ use Rattle.defs.specs.Segments.{lowDrive, headerAt, leftBy1, isCopy, remaining,
 use Rattle.laws.specs.Geometry.{Ranged, addresses-all}
 use Rattle.laws.specs.Ranges.{and-both, length-upFrom, getD-upFrom, getD-map, sameList-refl}
 use Rattle.machine.specs.Accept.{accepted}
-use Rattle.machine.specs.Exec.{true≢false}
-use Rattle.machine.specs.Facts.{Ghost, InV, Good, Choice, R, Off, Used, Ragged, used}
+use Rattle.machine.specs.Facts.{Ghost, InV, Good, Choice, R, Off}
 use Rattle.machine.specs.Final.{right}
 use Rattle.machine.specs.History.{at}
 use Rattle.machine.specs.Put.{off-in}
@@ -37,9 +36,10 @@ use Rattle.machine.specs.View.Item.{chunk}
 use Rattle.bridge.specs.Cands.{rec-of}
 use Rattle.bridge.specs.Items.{valueOf, chunkItem, itemsIn, items-in, chunk-of}
 use Rattle.bridge.specs.Member.{Has, false-of, or-false, and-false-1, and-false-2, keep-has, has-keep, keep-nil, upFrom-has, below-has, has-below, none-any, map-has, has-getD, isNil-has}
-use Rattle.bridge.specs.Named.{present-has, has-absent, none-present}
+use Rattle.bridge.specs.Named.{has-absent, none-present}
 use Rattle.bridge.specs.Ranges.{parOf}
-use Rattle.bridge.specs.Segs.{OnDrives, zone-bytes, zone-low, zone-len, zone-facts, head-serials, trusted, low-serials, remaining-has}
+use Rattle.bridge.specs.SegFacts.{segment-fields, seg-low, seg-R, begun-on, serial-is, copied-is, seg-used, ragged-of}
+use Rattle.bridge.specs.Segs.{OnDrives, zone-bytes, zone-low, zone-facts, head-serials, trusted, low-serials}
 use Rattle.bridge.specs.Shape.{ZoneShape, shape-zone}
 use Rattle.bridge.specs.Stripes.{spareRecs, length-spareRecs, getD-spareRecs, stored-below, pointer-is, zones-by, recs-on, pieceAt, counted-stripe}
 use Rattle.bridge.specs.Values.{pieceValue}
@@ -85,15 +85,6 @@ few f (a ∷ l) h e = go (f a) refl (few f l (h .1) (λ x y i j. e x y (inr i) (
     go true q ih = unfold consIf in (let n : keep f l ≡ [] = keep-nil f l (λ x i. false-of (f x) (λ t. let w : a ≡ x = e a x (inl refl) (inr i) q t in let j : ⊥ = omega (arith, w, h .0 x i) in j)) in
         let z : length (keep f l) ≡ 0 = ap length n in omega arith)
     go false q ih = unfold consIf in ih
-
-pub all-false : {A : Type 0} (f : A → Bool) (l : List A) → all f l ≡ false → (a : A) × Has a l × (f a ≡ false)
-unfolding all
-all-false f [] e = true≢false (sym e)
-all-false {A} f (b ∷ l) e = go (f b) refl e (all-false f l)
-  where
-    go : (t : Bool) → f b ≡ t → (t && all f l) ≡ false → (all f l ≡ false → (a : A) × Has a l × (f a ≡ false)) → (a : A) × Has a (b ∷ l) × (f a ≡ false)
-    go true q e ih = (ih e .0, inr (ih e .1), ih e .2)
-    go false q e ih = (b, inl refl, q)
 
 keep-map : {A B : Type 0} (f : B → Bool) (h : A → B) (l : List A) → keep f (map h l) ≡ map h (keep (λ (a : A). f (h a)) l)
 unfolding keep
@@ -169,10 +160,6 @@ module _ (p : Params) (r : Ranged p) (g : Ghost) (v : View) (k : OnDrives p r g 
   abbrev G : ℕ → Segment
   G z = segmentOf p v (named m) z
 
-  pub segment-fields : (z : ℕ) → (G z .seg ≡ z) × (G z .serial ≡ headerSerial (headerAt v (lowDrive p (named m)) z)) × (G z .copied ≡ headerCopied (headerAt v (lowDrive p (named m)) z)) × (G z .full ≡ sealedIn p v (named m) z)
-  unfolding segmentOf
-  segment-fields z = (refl, refl, refl, refl)
-
   -- ---- pointers
   pointers-fine : pointerFaults p v (named m) ≡ []
   unfolding pointerFaults
@@ -182,13 +169,13 @@ module _ (p : Params) (r : Ranged p) (g : Ghost) (v : View) (k : OnDrives p r g 
 
   module _ (z : ℕ) (i : Has z (remaining p v (named m))) where
     b : z < p .Z
-    b = remaining-has p r g v k m c z i .0
+    b = seg-low p r g v k m c z i
 
     R? : R (parOf p r) (g .hd) (itemsIn p v) m z
-    R? = remaining-has p r g v k m c z i .1
+    R? = seg-R p r g v k m c z i
 
     begun : (d : ℕ) → d < p .N → d ≢ m → 0 < pointerAt v d z
-    begun d l n = omega (arith, R? .left d l n, zone-len p r g v k d z l (trusted p r g v k m c d l n) b)
+    begun = begun-on p r g v k m c z i
 
     -- ---- headers
     header-fine : headerFault p (named m) (G z) ≡ false
@@ -204,27 +191,18 @@ module _ (p : Params) (r : Ranged p) (g : Ghost) (v : View) (k : OnDrives p r g 
             let w : (headerSerial (headerAt v (lowDrive p (named m)) z) ≡ g .hd .ser z) × (headerCopied (headerAt v (lowDrive p (named m)) z) ≡ g .hd .cop z) = low-serials p r g v k m c z (R? .left) in
             let h : blockIn (zoneAt v d z) 0 ≡ mkChunk (headerBlock p d z (headerSerial (headerAt v d z)) (headerCopied (headerAt v d z))) zeroSpare = whole d l n in
             let e : mkChunk (headerBlock p d z (headerSerial (headerAt v d z)) (headerCopied (headerAt v d z))) zeroSpare ≡ mkChunk (headerBlock p d (zoneOn (G z .seg) d) (G z .serial) (G z .copied)) zeroSpare =
-            ap₂ (λ (x y : ℕ). mkChunk (headerBlock p d z x y) zeroSpare) (a .0 ∙ sym (w .0) ∙ sym (segment-fields z .1)) (a .1 ∙ sym (w .1) ∙ sym (segment-fields z .2))
+            ap₂ (λ (x y : ℕ). mkChunk (headerBlock p d z x y) zeroSpare) (a .0 ∙ sym (w .0) ∙ sym (segment-fields p r g v k m c z .1)) (a .1 ∙ sym (w .1) ∙ sym (segment-fields p r g v k m c z .2))
             ∙ ap (λ (x : ℕ). mkChunk (headerBlock p d x (G z .serial) (G z .copied)) zeroSpare) (sym (on d)) in
             subst (λ (x : Chunk). sameChunk x (headerBlock p d (zoneOn (G z .seg) d) (G z .serial) (G z .copied)) zeroSpare ≡ true) (sym (h ∙ e)) (chunk-self (headerBlock p d (zoneOn (G z .seg) d) (G z .serial) (G z .copied)) zeroSpare)
           where
             on : (d : ℕ) → zoneOn (G z .seg) d ≡ z
-            on d = unfold zoneOn in segment-fields z .0
+            on d = unfold zoneOn in segment-fields p r g v k m c z .0
 
             whole : (d : ℕ) → d < p .N → d ≢ m → blockIn (zoneAt v d z) 0 ≡ mkChunk (headerBlock p d z (headerSerial (headerAt v d z)) (headerCopied (headerAt v d z))) zeroSpare
             whole d l n = unfold headerAt chunkAt zoneOn in zone-bytes p r g v k d z l (trusted p r g v k m c d l n) b .head (subst (λ (x : ℕ). 0 < x) (sym (pointer-is v d z)) (begun d l n))
 
             chunk-self : (x y : List ℕ) → sameChunk (mkChunk x y) x y ≡ true
             chunk-self x y = unfold sameChunk in and-both (sameList x x) (sameList y y) (sameList-refl x) (sameList-refl y)
-
-    serial-is : G z .serial ≡ g .hd .ser z
-    serial-is = segment-fields z .1 ∙ low-serials p r g v k m c z (R? .left) .0
-
-    copied-is : G z .copied ≡ g .hd .cop z
-    copied-is = segment-fields z .2 ∙ low-serials p r g v k m c z (R? .left) .1
-
-    Used? : Used (parOf p r) (g .un) (itemsIn p v) z
-    Used? = used (parOf p r) g (itemsIn p v) m z c (R? .left)
 
     -- ---- stripe numbers
     off-rec : (d o : ℕ) → d < p .N → d ≢ m → o < dataStored p (zoneAt v d z)
@@ -335,23 +313,11 @@ module _ (p : Params) (r : Ranged p) (g : Ghost) (v : View) (k : OnDrives p r g 
         ap (footerFaultIn p) (zones-by p r g v k m c z d l)
         ∙ footers-made p r d z (zoneAt v d z) (shape-zone p v (k .shape) d z l b) (zone-bytes p r g v k d z l (trusted p r g v k m c d l n) b)))
 
-    -- an unsealed one is ragged
-    ragged-of : G z .full ≡ false → Ragged (parOf p r) m (itemsIn p v) z
-    unfolding sealedIn zoneOn
-    ragged-of e =
-        let a : (d : ℕ) × Has d (present p (named m)) × (eqb (pointerAt v d z) (capacity p) ≡ false) = all-false (λ d. eqb (pointerAt v d z) (capacity p)) (present p (named m)) (sym (segment-fields z .3) ∙ e) in
-        let l : (a .0 < p .N) × (a .0 ≢ m) = present-has p r m (a .0) (a .1) in
-        let t : a .0 ≢ g .un = trusted p r g v k m c (a .0) (l .0) (l .1) in
-        let n : length (itemsIn p v (a .0) z) ≡ pointerAt v (a .0) z = zone-len p r g v k (a .0) z (l .0) t b in
-        let w : pointerAt v (a .0) z ≢ capacity p = eqb-false (pointerAt v (a .0) z) (capacity p) (a .2) in
-        let h : pointerAt v (a .0) z ≤ capacity p = subst (λ (x : ℕ). x ≤ capacity p) (pointer-is v (a .0) z) (zone-bytes p r g v k (a .0) z (l .0) t b .low) in
-        (a .0, l, omega (arith, n, begun (a .0) (l .0) (l .1)), omega (arith, n, w, h))
-
   -- ---- serials
   serials-fine : (z : ℕ) → Has z (remaining p v (named m)) → serialFault (segments p v (named m)) (G z) ≡ false
   unfolding serialFault segments
   serials-fine z i = or-false (leb (G z .serial) (G z .copied)) (any test? (map (segmentOf p v (named m)) (remaining p v (named m))))
-      (lt-leb (G z .serial) (G z .copied) (omega (arith, serial-is z i, copied-is z i, k .facts .swap .below z (Used? z i))))
+      (lt-leb (G z .serial) (G z .copied) (omega (arith, serial-is p r g v k m c z i, copied-is p r g v k m c z i, k .facts .swap .below z (seg-used p r g v k m c z i))))
       (none-any test? (map (segmentOf p v (named m)) (remaining p v (named m))) (λ h j. one h (map-has (segmentOf p v (named m)) h (remaining p v (named m)) j)))
     where
       test? : Segment → Bool
@@ -361,18 +327,18 @@ module _ (p : Params) (r : Ranged p) (g : Ghost) (v : View) (k : OnDrives p r g 
       one h (y, j, e) = rw e (go (ℕ-discrete y z))
         where
           go : Dec (y ≡ z) → test? (G y) ≡ false
-          go (yes q) = and-false-1 (not (eqb (G y .seg) (G z .seg))) (eqb (G y .serial) (G z .serial)) (ap not (eq-eqb (G y .seg) (G z .seg) (segment-fields y .0 ∙ q ∙ sym (segment-fields z .0))))
+          go (yes q) = and-false-1 (not (eqb (G y .seg) (G z .seg))) (eqb (G y .serial) (G z .serial)) (ap not (eq-eqb (G y .seg) (G z .seg) (segment-fields p r g v k m c y .0 ∙ q ∙ sym (segment-fields p r g v k m c z .0))))
           go (no q) = and-false-2 (not (eqb (G y .seg) (G z .seg))) (eqb (G y .serial) (G z .serial)) (ne-eqb (G y .serial) (G z .serial) (λ w.
-              q (k .facts .swap .serials y z (Used? y j) (Used? z i) (sym (serial-is y j) ∙ w ∙ serial-is z i))))
+              q (k .facts .swap .serials y z (seg-used p r g v k m c y j) (seg-used p r g v k m c z i) (sym (serial-is p r g v k m c y j) ∙ w ∙ serial-is p r g v k m c z i))))
 
   -- ---- one unsealed segment
-  one-unsealed : length (unsealed (segments p v (named m))) ≤ 1
+  pub one-unsealed : length (unsealed (segments p v (named m))) ≤ 1
   unfolding unsealed segments
   one-unsealed =
       let e : keep (λ (g : Segment). not (g .full)) (map (segmentOf p v (named m)) (remaining p v (named m))) ≡ map (segmentOf p v (named m)) (keep (λ z. not (G z .full)) (remaining p v (named m))) =
       keep-map (λ (g : Segment). not (g .full)) (segmentOf p v (named m)) (remaining p v (named m)) in
       let n : length (keep (λ z. not (G z .full)) (remaining p v (named m))) ≤ 1 = few (λ z. not (G z .full)) (remaining p v (named m)) (remaining-rising p v (named m)) (λ y z i j a b.
-      accepted (parOf p r) g (itemsIn p v) (k .facts) m c .one y z (R? y i) (R? z j) (ragged-of y i (not-true (G y .full) a)) (ragged-of z j (not-true (G z .full) b))) in
+      accepted (parOf p r) g (itemsIn p v) (k .facts) m c .one y z (R? y i) (R? z j) (ragged-of p r g v k m c y i (not-true (G y .full) a)) (ragged-of p r g v k m c z j (not-true (G z .full) b))) in
       omega (arith, n, ap length e ∙ length-map (keep (λ z. not (G z .full)) (remaining p v (named m))) (segmentOf p v (named m)))
 
   segment-fine : (z : ℕ) → Has z (remaining p v (named m)) → segmentFault p (named m) (segments p v (named m)) (G z) ≡ false
@@ -411,7 +377,7 @@ module _ (p : Params) (r : Ranged p) (g : Ghost) (v : View) (k : OnDrives p r g 
       each h j = unfold segments in map-has (segmentOf p v (named m)) h (remaining p v (named m)) j
 
       one : (z : ℕ) → (R (parOf p r) (g .hd) (itemsIn p v) m z → ⊥) → (h : Segment) → (y : ℕ) × Has y (remaining p v (named m)) × (h ≡ G y) → eqb (h .seg) z ≡ false
-      one z n h (y, i, e) = rw e (ne-eqb (G y .seg) z (λ w. n (subst (λ (x : ℕ). R (parOf p r) (g .hd) (itemsIn p v) m x) (sym (segment-fields y .0) ∙ w) (R? y i))))
+      one z n h (y, i, e) = rw e (ne-eqb (G y .seg) z (λ w. n (subst (λ (x : ℕ). R (parOf p r) (g .hd) (itemsIn p v) m x) (sym (segment-fields p r g v k m c y .0) ∙ w) (R? y i))))
 
   -- ---- the image passes, and with it the restart (but for 6)
   pub image-passes : (cs : List Check) → firstRefusal (imageChecks p v (named m) (segments p v (named m)) ++ cs) ≡ firstRefusal cs

@@ -1,5 +1,5 @@
 -- The shape of a view: its lengths; what a store changes of it. Assumes nothing.
-use mathlib.Core.Path.{_≡_, sym, ap, _∙_}
+use mathlib.Core.Path.{_≡_, refl, sym, ap, _∙_}
 use mathlib.Core.List.{List, [], _∷_, _++_}
 use mathlib.Core.Logic.{_⊎_, inl, inr, ⊎-elim, _≢_}
 use Prim.Native.Nat.{ℕ, zero, suc, _<_}
@@ -9,10 +9,11 @@ use lib.ListN.{length, getD, take, set, length-set}
 use lib.Seq.{getD-set-same, getD-set-other}
 use Rattle.defs.specs.declared.Params.{Params}
 use Rattle.defs.specs.Calls.Check.{zones}
-use Rattle.defs.specs.Drives.{Chunk, mkChunk, noChunk, Zone, noZone, View, zoneAt, chunkAt, Store, putZone, resetZone, setZone, storeView, storeAll}
+use Rattle.defs.specs.Drives.{Chunk, mkChunk, noChunk, Zone, noZone, View, zoneAt, pointerAt, chunkAt, Store, putZone, resetZone, setZone, storeView, storeAll}
 use Rattle.defs.specs.Drives.Store.{put, reset}
 use Rattle.defs.specs.Params.{spareLen, capacity}
 use Rattle.views.specs.Views.{Fits, AllFit}
+use Rattle.machine.specs.Ghosts.{raised}
 
 pub record Shape (p : Params) (v : View) : Type 0 where
   pub drives : length v ≡ p .N
@@ -126,3 +127,21 @@ pub fit-append : (p : Params) (v : View) (ss ts : List Store) → AllFit p v ss 
 unfolding storeAll
 fit-append p v [] ts f g = g
 fit-append p v (s ∷ ss) ts f g = (f .0, fit-append p (storeView s v) ss ts (f .1) g)
+
+-- ---- what a put changes
+
+module _ (p : Params) (v : View) (h : Shape p v) (d z : ℕ) (b t : List ℕ) (l : d < p .N) (m : z < p .Z) where
+  pub put-at : zoneAt (storeView (put d z b t) v) d z ≡ putZone b t (zoneAt v d z)
+  unfolding storeView
+  put-at = zone-set p v h d z (putZone b t (zoneAt v d z)) l m
+
+  pub put-pointer : pointerAt (storeView (put d z b t) v) d z ≡ suc (pointerAt v d z)
+  unfolding pointerAt
+  put-pointer = ap (λ (q : Zone). q .pointer) put-at ∙ raised
+    where
+      raised : putZone b t (zoneAt v d z) .pointer ≡ suc (zoneAt v d z .pointer)
+      raised = unfold putZone in refl
+
+  pub put-elsewhere : (e y : ℕ) → (e ≢ d) ⊎ (y ≢ z) → zoneAt (storeView (put d z b t) v) e y ≡ zoneAt v e y
+  unfolding storeView
+  put-elsewhere e y n = zone-set-other p v h d z (putZone b t (zoneAt v d z)) l e y n

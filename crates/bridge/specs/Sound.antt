@@ -7,7 +7,7 @@ use native.Mathlib.Decide.{ℕ-discrete}
 use native.Mathlib.Omega.{arith}
 use lib.ListN.{length, take}
 use Rattle.defs.specs.declared.Params.{Params}
-use Rattle.defs.specs.Drives.{Zone, View, zoneAt, pointerAt, Store, putZone, resetZone, setZone, storeView, storeAll}
+use Rattle.defs.specs.Drives.{mkChunk, Zone, View, zoneAt, pointerAt, Store, putZone, resetZone, setZone, storeView, storeAll}
 use Rattle.defs.specs.Drives.Store.{put, reset}
 use Rattle.defs.specs.History.{step}
 use Rattle.defs.specs.Lists.{upFrom}
@@ -17,9 +17,9 @@ use Rattle.views.specs.Views.{Fits, AllFit}
 use Rattle.machine.specs.Image.{items}
 use Rattle.machine.specs.Rewrite.{st}
 use Rattle.machine.specs.Steps.{list}
-use Rattle.machine.specs.View.{Store as m-Store, applyAll}
+use Rattle.machine.specs.View.{Store as m-Store, after, applyAll}
 use Rattle.machine.specs.View.Store.{put as m-put}
-use Rattle.bridge.specs.Items.{itemsIn, storeItem, storeItems, items-stores, append-stores, items-cut}
+use Rattle.bridge.specs.Items.{itemAt, itemsIn, items-put, storeItem, storeItems, items-stores, append-stores, items-cut}
 use Rattle.bridge.specs.Shape.{Shape, zone-set-other, set-elim, shape-zone, shape-store}
 use Rattle.bridge.specs.ZoneBytes.{ZoneBytes, Kind, kind-fits, kindItem, kind-item, bytes-reset, bytes-put}
 
@@ -81,6 +81,11 @@ unfolding storeAll
 sound-append p v [] ts f g = g
 sound-append p v (s ∷ ss) ts f g = (f .0, sound-append p (storeView s v) ss ts (f .1) g)
 
+pub sound-drop : (p : Params) (v : View) (ss ts : List Store) → AllSound p v (ss ++ ts) → AllSound p (storeAll storeView ss v) ts
+unfolding storeAll
+sound-drop p v [] ts f = f
+sound-drop p v (s ∷ ss) ts f = sound-drop p (storeView s v) ss ts (f .1)
+
 -- ---- the stores of a call, and the machine's
 
 pub record Follows (p : Params) (v : View) (ss : List Store) (ms : List m-Store) : Type 0 where
@@ -90,6 +95,10 @@ pub record Follows (p : Params) (v : View) (ss : List Store) (ms : List m-Store)
 pub follows-nil : (p : Params) (v : View) → Follows p v [] []
 unfolding storeItems
 follows-nil p v = record { sound = tt; items = refl }
+
+pub follows-cons : (p : Params) (v : View) (s : Store) (ss : List Store) (m : m-Store) (ms : List m-Store) → Sound p v s → storeItem p v s ≡ m → Follows p (storeView s v) ss ms → Follows p v (s ∷ ss) (m ∷ ms)
+unfolding storeItems
+follows-cons p v s ss m ms a e f = record { sound = (a, f .sound); items = ap₂ (λ (x : m-Store) (y : List m-Store). x ∷ y) e (f .items) }
 
 pub follows-append : (p : Params) (v : View) (ss ts : List Store) (ms ns : List m-Store) → Follows p v ss ms → Follows p (storeAll storeView ss v) ts ns → Follows p v (ss ++ ts) (ms ++ ns)
 follows-append p v ss ts ms ns a b = record {
@@ -109,6 +118,14 @@ follows-cut p r v ss ms n h f = items-cut p v ss n h (all-fit p r v ss h (f .sou
 pub store-put : (p : Params) (v : View) (d z : ℕ) (b t : List ℕ) (k : Kind p d z (zoneAt v d z) b t) → storeItem p v (put d z b t) ≡ m-put d z (kindItem p d z (zoneAt v d z) b t k)
 unfolding storeItem pointerAt
 store-put p v d z b t k = ap (m-put d z) (kind-item p d z (zoneAt v d z) b t k)
+
+pub items-put-kind : (p : Params) → Ranged p → (v : View) (d z : ℕ) (b t : List ℕ) → Shape p v → d < p .N → z < p .Z → (k : Kind p d z (zoneAt v d z) b t)
+    → itemsIn p (storeView (put d z b t) v) ≡ after (itemsIn p v) d z (kindItem p d z (zoneAt v d z) b t k)
+items-put-kind p r v d z b t h l m k =
+    items-put p v h d z b t l m (sound-fits p r v (put d z b t) h (l, m, k) .2) ∙ ap (after (itemsIn p v) d z) (ap (λ (n : ℕ). itemAt p n (mkChunk b t)) (pointer-at-is v d z) ∙ kind-item p d z (zoneAt v d z) b t k)
+  where
+    pointer-at-is : (v : View) (d z : ℕ) → pointerAt v d z ≡ zoneAt v d z .pointer
+    pointer-at-is v d z = unfold pointerAt in refl
 
 -- stores st j, st (j + 1), .. under an invariant
 module _ (p : Params) (I : ℕ → View → Type 0) (st : ℕ → Store) (ms : ℕ → m-Store) (hi : ℕ)

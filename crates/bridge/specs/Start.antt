@@ -36,6 +36,25 @@ empty-pointers p dk e = (
   sameList-true (dk .pointers) (replicate (pointersLen p) 0) (and-right (eqb (length (dk .image)) (imageLen p)) (sameList (dk .pointers) (replicate (pointersLen p) 0)) e),
 )
 
+-- beyond the drives, or their zones, there is nothing
+pub outside-nothing : (p : Params) (v : View) → Shape p v → (d z : ℕ) → (d < p .N → z < p .Z → ⊥) → itemsIn p v d z ≡ []
+unfolding itemsIn zoneAt
+outside-nothing p v h d z n = go (decLt d (p .N))
+  where
+    nothing : itemsOf p noZone ≡ []
+    nothing = unfold itemsOf stored itemsFrom noZone in refl
+
+    go : Dec (d < p .N) → itemsOf p (getD (getD v d []) z noZone) ≡ []
+    go (no q) = ap (λ (x : List Zone). itemsOf p (getD x z noZone)) (List·getD-eq-default v [] {n = d} (omega (arith, h .drives))) ∙ nothing
+    go (yes q) = ap (itemsOf p) (List·getD-eq-default (getD v d []) noZone {n = z} (omega (arith, h .zones d q, above))) ∙ nothing
+      where
+        above : p .Z ≤ z
+        above = low (decLt z (p .Z))
+          where
+            low : Dec (z < p .Z) → p .Z ≤ z
+            low (yes b) = absurd (n q b)
+            low (no b) = omega arith
+
 module _ (p : Params) (r : Ranged p) (dk : Disk) (e : emptyDisk p dk ≡ true) where
   pub empty-whole : Whole p dk
   empty-whole = record { image-long = empty-pointers p dk e .0; pointers-long = ap length (empty-pointers p dk e .1) ∙ length-replicate {A = ℕ} (pointersLen p) 0 }
@@ -50,25 +69,6 @@ module _ (p : Params) (r : Ranged p) (dk : Disk) (e : emptyDisk p dk ≡ true) w
       pointer-view p dk d z l b empty-whole
       ∙ ap beOf (ap (part (pointerByte p d z) 4) (empty-pointers p dk e .1) ∙ part-replicate (pointersLen p) (pointerByte p d z) 4 (pointer-within p d z l b)) ∙ four-zeros
 
-  -- beyond the drives, or their zones, there is nothing
-  outside-nothing : (v : View) → Shape p v → (d z : ℕ) → (d < p .N → z < p .Z → ⊥) → itemsIn p v d z ≡ []
-  unfolding itemsIn zoneAt
-  outside-nothing v h d z n = go (decLt d (p .N))
-    where
-      nothing : itemsOf p noZone ≡ []
-      nothing = unfold itemsOf stored itemsFrom noZone in refl
-
-      go : Dec (d < p .N) → itemsOf p (getD (getD v d []) z noZone) ≡ []
-      go (no q) = ap (λ (x : List Zone). itemsOf p (getD x z noZone)) (List·getD-eq-default v [] {n = d} (omega (arith, h .drives))) ∙ nothing
-      go (yes q) = ap (itemsOf p) (List·getD-eq-default (getD v d []) noZone {n = z} (omega (arith, h .zones d q, above))) ∙ nothing
-        where
-          above : p .Z ≤ z
-          above = low (decLt z (p .Z))
-            where
-              low : Dec (z < p .Z) → p .Z ≤ z
-              low (yes b) = absurd (n q b)
-              low (no b) = omega arith
-
   pub empty-items : itemsIn p (seen p dk) ≡ (λ d z. [])
   empty-items = λ j d z. go d z (decLt d (p .N)) (decLt z (p .Z)) j
     where
@@ -77,8 +77,8 @@ module _ (p : Params) (r : Ranged p) (dk : Disk) (e : emptyDisk p dk ≡ true) w
         where
           none-stored : (q : Zone) → q .pointer ≡ 0 → itemsOf p q ≡ []
           none-stored q i = unfold itemsOf stored in (ap (λ (n : ℕ). itemsFrom p 0 (take n (q .blocks))) i ∙ (unfold itemsFrom in refl))
-      go d z (yes l) (no b) = outside-nothing (seen p dk) (shape-seen p dk empty-whole) d z (λ a c. b c)
-      go d z (no l) b = outside-nothing (seen p dk) (shape-seen p dk empty-whole) d z (λ a c. l a)
+      go d z (yes l) (no b) = outside-nothing p (seen p dk) (shape-seen p dk empty-whole) d z (λ a c. b c)
+      go d z (no l) b = outside-nothing p (seen p dk) (shape-seen p dk empty-whole) d z (λ a c. l a)
 
   -- the machine's start is these drives
   pub start-on : OnDrives p r (start (parOf p r) .g) (seen p dk)

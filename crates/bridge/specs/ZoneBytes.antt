@@ -132,22 +132,22 @@ bytes-empty p d z q e = record {
 
 module _ (p : Params) (h : Ranged p) (d z : ℕ) (q : Zone) (s : ZoneShape p q) where
   -- below the pointer nothing changes
-  old-block : (b t : List ℕ) (k : ℕ) → k < q .pointer → blockIn (putZone b t q) k ≡ blockIn q k
+  pub old-block : (b t : List ℕ) (k : ℕ) → k < q .pointer → blockIn (putZone b t q) k ≡ blockIn q k
   unfolding putZone
   old-block b t k l = getD-set-other (q .blocks) (q .pointer) k (mkChunk b t) noChunk (omega arith)
 
-  new-block : (b t : List ℕ) → q .pointer < capacity p → blockIn (putZone b t q) (q .pointer) ≡ mkChunk b t
+  pub new-block : (b t : List ℕ) → q .pointer < capacity p → blockIn (putZone b t q) (q .pointer) ≡ mkChunk b t
   unfolding putZone
   new-block b t l = getD-set-same (q .blocks) (q .pointer) (mkChunk b t) noChunk (omega (arith, s .count))
 
-  old-spares : (b t : List ℕ) (j : ℕ) → q .pointer ≡ suc (p .S + j) → sparesIn p (putZone b t q) ≡ sparesIn p q
+  pub old-spares : (b t : List ℕ) (j : ℕ) → q .pointer ≡ suc (p .S + j) → sparesIn p (putZone b t q) ≡ sparesIn p q
   unfolding putZone
   old-spares b t j e = ap sparesOf (
       ap (take (p .S)) (ap (λ (n : ℕ). drop 1 (set (q .blocks) n (mkChunk b t))) (e ∙ (let i : suc (p .S + j) ≡ 1 + (p .S + j) = omega arith in i))
       ∙ drop-set-add 1 (q .blocks) (p .S + j) (mkChunk b t))
       ∙ take-set-le (p .S) (drop 1 (q .blocks)) (p .S + j) (mkChunk b t) (omega arith))
 
-  pointer-put : (b t : List ℕ) → putZone b t q .pointer ≡ suc (q .pointer)
+  pub pointer-put : (b t : List ℕ) → putZone b t q .pointer ≡ suc (q .pointer)
   unfolding putZone
   pointer-put b t = refl
 

@@ -1,7 +1,7 @@
 -- Laws of the list definitions: one step at the front and at the end, lengths, elements. Assumes nothing.
 use mathlib.Core.Path.{_≡_, refl, sym, ap, ap₂, _∙_, subst}
 use mathlib.Core.List.{map, List, [], _∷_, _++_, append-nil, append-assoc}
-use mathlib.Core.Bool.{Bool, true, false, _&&_, _||_}
+use mathlib.Core.Bool.{Bool, true, false, not, _&&_, _||_}
 use Prim.Native.Nat.{ℕ, zero, suc, _+_, _-_, _*_, min, max, _≤_, _<_}
 use native.Mathlib.Omega.{arith}
 use native.Mathlib.Numerals.{add-one}
@@ -11,7 +11,7 @@ use lib.Dec.{ltb, eqb, leb·suc-suc}
 use native.Mathlib.Nat.{add-zero, sub-zero, zero-min, zero-max, zero-add, suc-add, add-assoc, zero-mul, suc-mul, add-sub-of-le, suc-min-suc, min-zero, max-zero}
 use borrow.Author.Tests.{eqb-true, lt-ltb, eq-eqb, ne-eqb}
 use Rattle.defs.specs.Bytes.{part}
-use Rattle.defs.specs.Lists.{upFrom, below, all, any, isMember, consIf, keep, sucUnless, indexOf, flat, total, greatest, sameList, padTo, pieces, zipped}
+use Rattle.defs.specs.Lists.{upFrom, below, all, any, isMember, consIf, keep, tally, sucUnless, indexOf, flat, total, greatest, firstOr, sameList, padTo, pieces, zipped}
 use Rattle.laws.specs.Splice.{length-part, getD-part, part-append-left}
 
 -- ---- Booleans: a test and its two cases
@@ -508,3 +508,67 @@ member-all f n (k ∷ l) h g = go (test (eqb n k)) (λ e. member-all f n l e (an
     go : Test (eqb n k) → (isMember n l ≡ true → f n ≡ true) → f n ≡ true
     go (yes! e) r = ap f (eqb-true n k e) ∙ and-left (f k) (all f l) g
     go (no! e) r = r (sym (ap (λ (x : Bool). x || any (λ j. eqb n j) l) e) ∙ h)
+
+-- ---- the first of those that pass, from i on
+
+module _ (f : ℕ → Bool) (i n : ℕ) where
+  pub first-turn : i < n → f i ≡ true → firstOr 0 (keep f (upFrom i (n - i))) ≡ i
+  unfolding firstOr
+  first-turn h e = ap (firstOr 0) (ap (keep f) (upFrom-step i n h) ∙ keep-hit f i (upFrom (i + 1) (n - (i + 1))) e)
+
+  pub first-pass : i < n → f i ≡ false → firstOr 0 (keep f (upFrom i (n - i))) ≡ firstOr 0 (keep f (upFrom (i + 1) (n - (i + 1))))
+  first-pass h e = ap (firstOr 0) (ap (keep f) (upFrom-step i n h) ∙ keep-miss f i (upFrom (i + 1) (n - (i + 1))) e)
+
+  pub first-end : n ≤ i → firstOr 0 (keep f (upFrom i (n - i))) ≡ 0
+  unfolding firstOr
+  first-end h = ap (firstOr 0) (ap (keep f) (upFrom-end i n h) ∙ keep-none f)
+
+-- the lowest of those that pass is one of them
+pub first-passes : (f : ℕ → Bool) (i n : ℕ) → 0 < length (keep f (upFrom i n))
+    → (f (firstOr 0 (keep f (upFrom i n))) ≡ true) × (firstOr 0 (keep f (upFrom i n)) < i + n)
+unfolding keep upFrom consIf firstOr
+first-passes f i zero h = absurd (let q : ⊥ = omega arith in q)
+first-passes f i (suc n) h = go (test (f i)) (first-passes f (suc i) n) h
+  where
+    go : Test (f i) → (0 < length (keep f (upFrom (suc i) n)) → (f (firstOr 0 (keep f (upFrom (suc i) n))) ≡ true) × (firstOr 0 (keep f (upFrom (suc i) n)) < suc i + n))
+        → 0 < length (consIf (f i) i (keep f (upFrom (suc i) n)))
+        → (f (firstOr 0 (consIf (f i) i (keep f (upFrom (suc i) n)))) ≡ true) × (firstOr 0 (consIf (f i) i (keep f (upFrom (suc i) n))) < i + suc n)
+    go (yes! e) r q = rw e (e, omega arith)
+    go (no! e) r q = let w = r (rw e at q) in rw e (w .0, omega (arith, w .1))
+
+-- a test over those that pass another
+pub all-keep : {A : Type 0} (f g : A → Bool) (l : List A) → all f (keep (λ (a : A). not (g a)) l) ≡ all (λ (a : A). g a || f a) l
+unfolding all keep consIf
+all-keep f g [] = refl
+all-keep {A} f g (a ∷ l) = go (g a) (all-keep f g l)
+  where
+    go : (b : Bool) → all f (keep (λ (x : A). not (g x)) l) ≡ all (λ (x : A). g x || f x) l
+        → all f (consIf (not b) a (keep (λ (x : A). not (g x)) l)) ≡ ((b || f a) && all (λ (x : A). g x || f x) l)
+    go true e = e
+    go false e = ap (λ (x : Bool). f a && x) e
+
+-- ---- one more at the end
+
+pub flat-below-snoc : {B : Type 0} (f : ℕ → List B) (n : ℕ) → flat f (below (n + 1)) ≡ flat f (below n) ++ f n
+flat-below-snoc f n = ap (flat f) (below-snoc n) ∙ flat-snoc f (below n) n
+
+pub keep-below-snoc : (f : ℕ → Bool) (n : ℕ) → keep f (below (n + 1)) ≡ keep f (below n) ++ consIf (f n) n []
+unfolding keep
+keep-below-snoc f n = ap (keep f) (below-snoc n) ∙ keep-append f (below n) (n ∷ [])
+
+pub tally-below-hit : (f : ℕ → Bool) (n : ℕ) → f n ≡ true → tally f (below (n + 1)) ≡ tally f (below n) + 1
+unfolding tally consIf
+tally-below-hit f n e = ap length (keep-below-snoc f n) ∙ length-append (keep f (below n)) (consIf (f n) n []) ∙ ap (λ (b : Bool). length (keep f (below n)) + length (consIf b n [])) e
+
+pub tally-below-miss : (f : ℕ → Bool) (n : ℕ) → f n ≡ false → tally f (below (n + 1)) ≡ tally f (below n)
+unfolding tally consIf
+tally-below-miss f n e =
+    ap length (keep-below-snoc f n) ∙ length-append (keep f (below n)) (consIf (f n) n []) ∙ ap (λ (b : Bool). length (keep f (below n)) + length (consIf b n [])) e
+    ∙ add-zero (length (keep f (below n)))
+
+pub tally-le : (f : ℕ → Bool) (n : ℕ) → tally f (below n) ≤ n
+unfolding tally
+tally-le f n = omega (arith, length-keep f (below n), length-below n)
+
+pub greatest-below-snoc : (f : ℕ → ℕ) (n : ℕ) → greatest (map f (below (n + 1))) ≡ max (greatest (map f (below n))) (f n)
+greatest-below-snoc f n = ap greatest (map-below-snoc f n) ∙ greatest-snoc (map f (below n)) (f n)

@@ -11,6 +11,7 @@ use lib.Dec.{lit<}
 use native.Mathlib.Nat.{le-of-suc-le-suc, not-suc-le-zero, mod-lt}
 use Rattle.defs.specs.Bytes.{part, xors, parity, xorAll}
 use Rattle.defs.specs.Lists.{upFrom, below}
+use Rattle.laws.specs.Ranges.{map-below-snoc}
 use Rattle.laws.specs.Splice.{length-part, part-suc}
 
 two≤ : {n : ℕ} → suc (suc n) < 2 → ⊥
@@ -205,3 +206,6 @@ xorAll-decode l d m =
     ap₂ bitXor (xorAll-append l (d ∷ m)) (xorAll-append l m)
     ∙ ap (λ (z : ℕ). bitXor z (bitXor x y)) (ap (bitXor x) (xor-comm d y) ∙ sym (xor-assoc x y d) ∙ xor-comm (bitXor x y) d)
     ∙ xor-back d (bitXor x y)
+
+pub xorAll-below-snoc : (f : ℕ → ℕ) (n : ℕ) → xorAll (map f (below (n + 1))) ≡ bitXor (xorAll (map f (below n))) (f n)
+xorAll-below-snoc f n = ap xorAll (map-below-snoc f n) ∙ xorAll-snoc (map f (below n)) (f n)

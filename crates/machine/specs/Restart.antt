@@ -128,6 +128,22 @@ module _ (p : Par) (g : Ghost) (v : View) (w o r : ℕ) (π : Plan p) (a : Ready
   lft : Left p g₂ w o π v before u
   lft = left p g₂ w o π v before facts₂
 
+  -- what w holds, and what is as it was
+  pub rewrite-low : (d s : ℕ) (x : Val) → d < p .N → In (chunk s x) (u d w) → s < π .c
+  rewrite-low = lft .low
+
+  pub rewrite-has : (d s : ℕ) → d < p .N → s < π .c → In (chunk s (π .F s d)) (u d w)
+  rewrite-has = lft .has
+
+  pub rewrite-long : (d : ℕ) → d < p .N → length (u d w) ≡ suc (π .c)
+  rewrite-long = lft .long
+
+  pub rewrite-others : (d y : ℕ) → y ≢ o → y ≢ w → u d y ≡ v d y
+  rewrite-others = lft .others
+
+  pub rewrite-empty : (d : ℕ) → d < p .N → u d o ≡ []
+  rewrite-empty = lft .empty
+
   -- no pair is left
   abbrev g₃ : Ghost
   g₃ = withPr g₂ alone

@@ -361,6 +361,9 @@ module _ (p : Par) (g : Ghost) (w o : ℕ) (π : Plan p) where
       pub others : (e y : ℕ) → y ≢ o → y ≢ w → u e y ≡ v₀ e y
       pub whole : Whole p (g .un) u w
       pub counted : (d s : ℕ) (x : Val) → d < p .N → In (chunk s x) (u d w) → (f : ℕ → Val) × Stripe p u (g .un) w s f × (f d ≡ x)
+      pub low : (d s : ℕ) (x : Val) → d < p .N → In (chunk s x) (u d w) → s < π .c
+      pub has : (d s : ℕ) → d < p .N → s < π .c → In (chunk s (π .F s d)) (u d w)
+      pub long : (d : ℕ) → d < p .N → length (u d w) ≡ suc (π .c)
 
     pub left : Facts p g v₀ → Left (applyAll v₀ (copies ++ drops))
     left h = go (rewritten-end h) (copies-end h)
@@ -382,6 +385,12 @@ module _ (p : Par) (g : Ghost) (w o : ℕ) (π : Plan p) where
                     (new-stripe (applyAll v₀ copies) i s (omega (arith, r .0))),
                 sym (r .1),
               );
+          low = λ d s x l m.
+              let r : (suc s < suc (π .c)) × (x ≡ π .F s d) =
+              in-col d (suc (π .c)) s x (subst (λ (y : List Item). In (chunk s x) y) (j .4 d w wo ∙ full (applyAll v₀ copies) i d l) m) in
+              omega (arith, r .0);
+          has = λ d s l b. subst (λ (y : List Item). In (chunk s (π .F s d)) y) (sym (j .4 d w wo ∙ full (applyAll v₀ copies) i d l)) (col-in d (suc (π .c)) s (omega arith));
+          long = λ d l. ap length (j .4 d w wo ∙ full (applyAll v₀ copies) i d l) ∙ length-col d (suc (π .c));
         }
           where
             wo : w ≢ o

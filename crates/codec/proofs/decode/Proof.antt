@@ -1,0 +1,75 @@
+use Prim.Native.Nat.{_<_}
+use native.Mathlib.Omega.{arith}
+use lib.ListN.{length}
+use Rattle.defs.specs.Memory.{mkState}
+use Rattle.codec.specs.Codec.{state-len, state-read, one-byte}
+use Rattle.codec.proofs.decode.Statement.{statement}
+use Rattle.codec.proofs.decode.Tie as tie
+
+words-at-requires : tie.Need-words-at-requires
+words-at-requires c κs = omega (arith, state-len)
+
+bytes-at-requires : tie.Need-bytes-at-requires
+bytes-at-requires c κs = omega (arith, state-len)
+
+bytes-at-requires-2 : tie.Need-bytes-at-requires-2
+bytes-at-requires-2 c κs = omega (arith, state-len)
+
+bytes-at-requires-3 : tie.Need-bytes-at-requires-3
+bytes-at-requires-3 c κs = omega (arith, state-len)
+
+many-longs-at-requires : tie.Need-many-longs-at-requires
+many-longs-at-requires c κs = omega (arith, state-len)
+
+many-longs-at-requires-2 : tie.Need-many-longs-at-requires-2
+many-longs-at-requires-2 c κs = omega (arith, state-len)
+
+many-words-at-requires : tie.Need-many-words-at-requires
+many-words-at-requires c κs = omega (arith, state-len)
+
+shared-slice-read-t10 : tie.Need-shared-slice-read-t10
+shared-slice-read-t10 c = omega (arith, state-len)
+
+shared-slice-read-t12 : tie.Need-shared-slice-read-t12
+shared-slice-read-t12 c = omega (arith, state-len)
+
+read-be64-requires : tie.Need-read-be64-requires
+read-be64-requires c κs = omega (arith, state-len)
+
+read-be64-requires-2 : tie.Need-read-be64-requires-2
+read-be64-requires-2 c κs = omega (arith, state-len)
+
+read-be32-requires : tie.Need-read-be32-requires
+read-be32-requires c κs = omega (arith, state-len)
+
+read-be32-requires-2 : tie.Need-read-be32-requires-2
+read-be32-requires-2 c κs = omega (arith, state-len)
+
+returns : tie.Need-returns
+returns c =
+    let bs = c .before .before .before .before .before .before .before .before .before .before .before .before .before .before .args .bytes .now in
+    let h : 1 < length bs = omega (arith, state-len, c .before .before .before .before .before .before .before .before .before .before .before .before .before .before .pre) in
+    rw (state-read bs)
+    (λ j.
+    mkState (one-byte 0 bs (omega arith) j) (one-byte 1 bs h j) (c .before .before .before .read-be64 .ensures j) (c .before .before .read-be642 .ensures j) (c .before .read-be32 .ensures j) (c .read-be322 .ensures j)
+    (c .before .before .before .before .before .before .before .before .before .before .before .before .words-at .ensures j) (c .before .before .before .before .before .before .before .before .before .before .before .bytes-at .ensures j) (c .before .before .before .before .before .before .before .before .before .before .bytes-at2 .ensures j) (c .before .before .before .before .before .before .before .before .before .bytes-at3 .ensures j) (c .before .before .before .before .before .before .before .before .many-longs-at .ensures j) (c .before .before .before .before .before .before .before .many-longs-at2 .ensures j)
+    (c .before .before .before .before .before .before .many-words-at .ensures j))
+
+pub decode-spec : {M : Type 1} → statement M
+decode-spec =
+    tie.close
+    (tie.spec
+    words-at-requires
+    bytes-at-requires
+    bytes-at-requires-2
+    bytes-at-requires-3
+    many-longs-at-requires
+    many-longs-at-requires-2
+    many-words-at-requires
+    shared-slice-read-t10
+    shared-slice-read-t12
+    read-be64-requires
+    read-be64-requires-2
+    read-be32-requires
+    read-be32-requires-2
+    returns)

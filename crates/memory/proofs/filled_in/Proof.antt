@@ -1,0 +1,18 @@
+use Rattle.defs.specs.Engine.Call.{close}
+use Rattle.defs.specs.Memory.{filledIn}
+use borrow.Author.Needs.{needs}
+use Rattle.memory.proofs.filled_in.Statement.{statement}
+use Rattle.memory.proofs.filled_in.Tie as tie
+
+element-copy-out-wide : tie.Need-element-copy-out-wide
+element-copy-out-wide c = search needs
+
+wide-requires : tie.Need-wide-requires
+wide-requires c κs = search needs
+
+returns : tie.Need-returns
+unfolding filledIn
+returns c = c .wide .ensures
+
+pub filled-in-spec : {M : Type 1} → statement M
+filled-in-spec = tie.close (tie.spec element-copy-out-wide wide-requires returns)

@@ -1,0 +1,12 @@
+use Rattle.defs.specs.Engine.Call.{close}
+use Rattle.defs.specs.Memory.{idleState}
+use mathlib.Core.Path.{refl}
+use Rattle.memory.proofs.idle_state.Statement.{statement}
+use Rattle.memory.proofs.idle_state.Tie as tie
+
+returns : tie.Need-returns
+unfolding idleState
+returns c = refl
+
+pub idle-state-spec : {M : Type 1} → statement M
+idle-state-spec = tie.close (tie.spec returns)

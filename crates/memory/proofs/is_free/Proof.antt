@@ -1,0 +1,16 @@
+use Rattle.defs.specs.Engine.Call.{close}
+use Rattle.defs.specs.Memory.{filledIn, isFree}
+use borrow.Author.Needs.{needs}
+use mathlib.Core.Path.{refl}
+use Rattle.memory.proofs.is_free.Statement.{statement}
+use Rattle.memory.proofs.is_free.Tie as tie
+
+element-copy-out-result : tie.Need-element-copy-out-result
+element-copy-out-result c = search needs
+
+returns : tie.Need-returns
+unfolding isFree filledIn
+returns c = refl
+
+pub is-free-spec : {M : Type 1} → statement M
+is-free-spec = tie.close (tie.spec element-copy-out-result returns)

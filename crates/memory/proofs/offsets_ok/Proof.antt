@@ -1,0 +1,73 @@
+use Prim.Native.Nat.{_-_, _≤_}
+use Rattle.defs.specs.Engine.Call.{close}
+use Rattle.defs.specs.Lists.{all}
+use Rattle.scans.specs.Scans.{all-broken-in, all-passed-in, all-ended-in}
+use borrow.Author.Needs.{needs}
+use borrow.Author.Tests.{lt-ltb, le-ltb}
+use lib.Dec.{ltb}
+use lib.ListN.{length, getD, drop}
+use mathlib.Core.Path.{_≡_, refl, sym, _∙_}
+use native.Mathlib.Omega.{arith}
+use Rattle.memory.proofs.offsets_ok.Statement.{statement}
+use Rattle.memory.proofs.offsets_ok.Tie as tie
+
+abbrev Inv-loop : tie.InvT-loop
+Inv-loop p state j₀ j = (j ≤ 64) × (all (λ o. ltb o (p .S)) (drop j (state .offsets)) ≡ all (λ o. ltb o (p .S)) (state .offsets))
+
+abbrev μ-loop : tie.MeasureT-loop
+μ-loop p state j₀ j = 64 - j
+
+long : (c : tie.Start Inv-loop μ-loop) → length (c .args .t2 .offsets) ≡ 64
+long c = search needs
+
+loop-holds : tie.Need-loop-holds Inv-loop μ-loop
+loop-holds c = (omega arith, refl)
+
+mul-whole : tie.Need-mul-whole Inv-loop μ-loop
+mul-whole c = omega arith
+
+element-copy-out-whole : tie.Need-element-copy-out-whole Inv-loop μ-loop
+element-copy-out-whole c = omega arith
+
+whole-requires : tie.Need-whole-requires Inv-loop μ-loop
+whole-requires c κs = tt
+
+returns : tie.Need-returns Inv-loop μ-loop
+returns c =
+    let a = c .before .before .before .before .before .before .args in
+    let l = c .before .before .before .before .before .loop in
+    sym (all-broken-in (λ o. ltb o (a .p .S)) (a .t2 .offsets) (l .j) (omega (arith, long (c .before .before .before .before .before .before))) (le-ltb (getD (a .t2 .offsets) (l .j) 0) (a .p .S) (omega (arith, c .if1 .taken, c .before .before .whole .ensures)))) ∙ l .inv .1
+
+add-j : tie.Need-add-j Inv-loop μ-loop
+add-j c = omega arith
+
+loop-less : tie.Need-loop-less Inv-loop μ-loop
+loop-less c = omega arith
+
+loop-again : tie.Need-loop-again Inv-loop μ-loop
+loop-again c =
+    let a = c .before .before .before .before .before .before .args in
+    let l = c .before .before .before .before .before .loop in
+    (omega arith, sym (all-passed-in (λ o. ltb o (a .p .S)) (a .t2 .offsets) (l .j) (omega (arith, long (c .before .before .before .before .before .before))) (lt-ltb (getD (a .t2 .offsets) (l .j) 0) (a .p .S) (omega (arith, c .if1 .left, c .before .before .whole .ensures)))) ∙ l .inv .1)
+
+returns-2 : tie.Need-returns-2 Inv-loop μ-loop
+returns-2 c =
+    let a = c .before .before .args in
+    let l = c .before .loop in
+    sym (all-ended-in (λ o. ltb o (a .p .S)) (a .t2 .offsets) (l .j) (omega (arith, long (c .before .before)))) ∙ l .inv .1
+
+pub offsets-ok-spec : {M : Type 1} → statement M
+offsets-ok-spec =
+    tie.close
+    (tie.spec
+    Inv-loop
+    μ-loop
+    loop-holds
+    mul-whole
+    element-copy-out-whole
+    whole-requires
+    returns
+    add-j
+    loop-less
+    loop-again
+    returns-2)

@@ -1,0 +1,12 @@
+use Rattle.defs.specs.Engine.Call.{close}
+use Rattle.defs.specs.Memory.{setClosed}
+use mathlib.Core.Path.{refl}
+use Rattle.memory.proofs.set_closed.Statement.{statement}
+use Rattle.memory.proofs.set_closed.Tie as tie
+
+returns : tie.Need-returns
+unfolding setClosed
+returns c = refl
+
+pub set-closed-spec : {M : Type 1} → statement M
+set-closed-spec = tie.close (tie.spec returns)

@@ -1,0 +1,12 @@
+use Rattle.defs.specs.Engine.Call.{close}
+use Rattle.defs.specs.Memory.{setStamp}
+use mathlib.Core.Path.{refl}
+use Rattle.memory.proofs.set_stamp.Statement.{statement}
+use Rattle.memory.proofs.set_stamp.Tie as tie
+
+returns : tie.Need-returns
+unfolding setStamp
+returns c = refl
+
+pub set-stamp-spec : {M : Type 1} → statement M
+set-stamp-spec = tie.close (tie.spec returns)

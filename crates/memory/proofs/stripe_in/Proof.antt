@@ -1,0 +1,21 @@
+use Rattle.defs.specs.Engine.Call.{close}
+use Rattle.defs.specs.Memory.{stripeIn}
+use borrow.Author.Needs.{needs}
+use Rattle.memory.proofs.stripe_in.Statement.{statement}
+use Rattle.memory.proofs.stripe_in.Tie as tie
+
+mul-whole : tie.Need-mul-whole
+mul-whole c = search needs
+
+element-copy-out-whole : tie.Need-element-copy-out-whole
+element-copy-out-whole c = search needs
+
+whole-requires : tie.Need-whole-requires
+whole-requires c κs = search needs
+
+returns : tie.Need-returns
+unfolding stripeIn
+returns c = c .whole .ensures
+
+pub stripe-in-spec : {M : Type 1} → statement M
+stripe-in-spec = tie.close (tie.spec mul-whole element-copy-out-whole whole-requires returns)

@@ -1,0 +1,1 @@
+// The stores of a rebuild are the machine's steps: definitions and laws are in specs/.

@@ -1,0 +1,14 @@
+pub mod Order
+pub mod Same
+pub mod Drops
+pub mod Link
+pub mod Rest
+pub mod Ends
+pub mod Done
+pub mod Runs
+pub mod Feet
+pub mod MovedPlan
+pub mod Moved
+pub mod MovedEnd
+pub mod Healthy
+pub mod Missing

@@ -1,0 +1,1 @@
+// The stores of a restart are the machine's steps: definitions and laws are in specs/.

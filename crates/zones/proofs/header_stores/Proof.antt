@@ -1,0 +1,135 @@
+use mathlib.Core.Path.{_≡_, refl, ap, _∙_}
+use Prim.Native.Nat.{ℕ, suc, _-_, _≤_, _<_}
+use native.Mathlib.Omega.{arith}
+use lib.ListN.{length}
+use Rattle.defs.specs.Drives.{Disk, mkDisk, pointerOf, setPointer, storeDisk, zoneOn, zeroSpare, headerStores}
+use Rattle.defs.specs.Drives.Store.{put}
+use Rattle.defs.specs.Engine.Call.{close}
+use Rattle.defs.specs.Layout.{headerBlock}
+use Rattle.defs.specs.Params.{capacity, pointersLen, drivesOf}
+use Rattle.laws.specs.Geometry.{zone-on-lt}
+use Rattle.views.specs.Pointers.{pointer-other-drive}
+use Rattle.zones.specs.Made.{Rest, rest-start, rest-turn, rest-cut, rest-done, put-pointers, headerStore}
+use Rattle.zones.proofs.header_stores.Statement.{statement}
+use Rattle.zones.proofs.header_stores.Tie as tie
+
+abbrev Inv-loop : tie.InvT-loop
+Inv-loop p image₀ pointers₀ segment serial copied count left₀ d₀ image pointers left d = (length image ≡ length image₀) × (length pointers ≡ length pointers₀) × ((e : ℕ) → d ≤ e → e < p .N → pointerOf p pointers e (zoneOn segment e) < capacity p) × Rest p (headerStore p segment (serial .0) (copied .0)) (p .N) count (mkDisk image₀ pointers₀) d left (mkDisk image pointers)
+
+abbrev μ-loop : tie.MeasureT-loop
+μ-loop p image₀ pointers₀ segment serial copied count left₀ d₀ image pointers left d = p .N - d
+
+loop-holds : tie.Need-loop-holds Inv-loop μ-loop
+loop-holds c =
+    let a = c .before .before .args in
+    (refl, refl, (λ e _ h. c .before .before .pre .1 .1 .1 e h), rest-start (a .p) (headerStore (a .p) (a .segment) (a .serial .0) (a .copied .0)) (a .p .N) (a .count) (mkDisk (a .image .now) (a .pointers .now)))
+
+same-length : tie.Need-same-length Inv-loop μ-loop
+same-length c = c .before .before .before .loop .inv .0
+
+same-length-2 : tie.Need-same-length-2 Inv-loop μ-loop
+same-length-2 c = c .before .before .before .loop .inv .1
+
+returns : tie.Need-returns Inv-loop μ-loop
+unfolding headerStores drivesOf headerStore
+returns c =
+    let a = c .before .before .before .before .before .before .args in
+    let p = a .p in
+    let l = c .before .before .before .loop in
+    let w = c .before .before .before .before .before .before .pre .1 .0 in
+    let g = c .before .before .before .before .before .before .pre .1 .1 in
+    let k₀ = mkDisk (a .image .now) (a .pointers .now) in
+    let k = mkDisk (l .image) (l .pointers) in
+    let f = headerStore p (a .segment) (a .serial .0) (a .copied .0) in
+    rest-cut p f (p .N) (a .count) k₀ (l .d) (l .left) k (l .inv .3) (omega (arith, c .before .if1 .taken)) (c .if2 .taken)
+
+zone-on-requires : tie.Need-zone-on-requires Inv-loop μ-loop
+zone-on-requires c κs = tt
+
+put-header-requires : tie.Need-put-header-requires Inv-loop μ-loop
+put-header-requires c κs =
+    let a = c .before .before .before .before .before .before .before .before .before .args in
+    let p = a .p in
+    let l = c .before .before .before .before .before .before .loop in
+    let w = c .before .before .before .before .before .before .before .before .before .pre .1 .0 in
+    let g = c .before .before .before .before .before .before .before .before .before .pre .1 .1 in
+    let k₀ = mkDisk (a .image .now) (a .pointers .now) in
+    let k = mkDisk (l .image) (l .pointers) in
+    let f = headerStore p (a .segment) (a .serial .0) (a .copied .0) in
+    let z = c .before .before .zone-on .ensures in
+    (c .before .before .before .before .before .before .before .before .before .pre .0, (record { image-long = l .inv .0 ∙ w .image-long; pointers-long = l .inv .1 ∙ w .pointers-long }, (c .before .before .before .before .if1 .taken, rw z (zone-on-lt p (a .segment) (l .d) (g .0)), rw z (l .inv .2 (l .d) (omega arith) (c .before .before .before .before .if1 .taken)))))
+
+sub-left : tie.Need-sub-left Inv-loop μ-loop
+sub-left c = omega arith
+
+add-d : tie.Need-add-d Inv-loop μ-loop
+add-d c = omega arith
+
+loop-less : tie.Need-loop-less Inv-loop μ-loop
+loop-less c = omega arith
+
+loop-again : tie.Need-loop-again Inv-loop μ-loop
+unfolding headerStore
+loop-again c =
+    let a = c .before .before .before .before .before .before .before .before .before .before .before .before .before .before .args in
+    let p = a .p in
+    let l = c .before .before .before .before .before .before .before .before .before .before .before .loop in
+    let w = c .before .before .before .before .before .before .before .before .before .before .before .before .before .before .pre .1 .0 in
+    let g = c .before .before .before .before .before .before .before .before .before .before .before .before .before .before .pre .1 .1 in
+    let k₀ = mkDisk (a .image .now) (a .pointers .now) in
+    let k = mkDisk (l .image) (l .pointers) in
+    let f = headerStore p (a .segment) (a .serial .0) (a .copied .0) in
+    let z = c .before .before .before .before .before .before .before .zone-on .ensures in
+    let q = l .d in
+    let b = headerBlock p q (c .before .before .before .before .before .before .before .zone-on .result) (a .serial .0) (a .copied .0) in
+    let k′ = mkDisk (c .before .before .before .before .put-header .last .1 .0) (c .before .before .before .before .put-header .last .1 .1 .0) in
+    let s : k′ ≡ storeDisk p (f q) k = c .before .before .before .before .put-header .ensures ∙ ap (λ (x : ℕ). storeDisk p (put q x (headerBlock p q x (a .serial .0) (a .copied .0)) zeroSpare) k) z in
+    let ps : c .before .before .before .before .put-header .last .1 .1 .0 ≡ setPointer p (l .pointers) q (c .before .before .before .before .before .before .before .zone-on .result) (suc (pointerOf p (l .pointers) q (c .before .before .before .before .before .before .before .zone-on .result))) = ap (λ (x : Disk). x .pointers) (c .before .before .before .before .put-header .ensures) ∙ put-pointers p q (c .before .before .before .before .before .before .before .zone-on .result) b zeroSpare k in
+    let long : length (l .pointers) ≡ pointersLen p = l .inv .1 ∙ w .pointers-long in
+    let zl : c .before .before .before .before .before .before .before .zone-on .result < p .Z = rw z (zone-on-lt p (a .segment) q (g .0)) in (
+      c .before .before .before .before .put-header .kept .1 .0 ∙ l .inv .0,
+      c .before .before .before .before .put-header .kept .1 .1 .0 ∙ l .inv .1,
+      (λ e h j.
+          let o = pointer-other-drive p (l .pointers) q (c .before .before .before .before .before .before .before .zone-on .result) (suc (pointerOf p (l .pointers) q (c .before .before .before .before .before .before .before .zone-on .result))) (c .before .before .before .before .before .before .before .before .before .if1 .taken) zl long e (zoneOn (a .segment) e) j (zone-on-lt p (a .segment) e (g .0)) (λ r. let x : ⊥ = omega arith in x) in
+          rw (ps, o) (l .inv .2 e (omega arith) j)),
+      rest-turn p f (p .N) (a .count) k₀ q (l .left) k k′ (l .inv .3) (c .before .before .before .before .before .before .before .before .before .if1 .taken) (omega (arith, c .before .before .before .before .before .before .before .before .if2 .left)) s,
+    )
+
+same-length-3 : tie.Need-same-length-3 Inv-loop μ-loop
+same-length-3 c = c .before .before .loop .inv .0
+
+same-length-4 : tie.Need-same-length-4 Inv-loop μ-loop
+same-length-4 c = c .before .before .loop .inv .1
+
+returns-2 : tie.Need-returns-2 Inv-loop μ-loop
+unfolding headerStores drivesOf headerStore
+returns-2 c =
+    let a = c .before .before .before .before .before .args in
+    let p = a .p in
+    let l = c .before .before .loop in
+    let w = c .before .before .before .before .before .pre .1 .0 in
+    let g = c .before .before .before .before .before .pre .1 .1 in
+    let k₀ = mkDisk (a .image .now) (a .pointers .now) in
+    let k = mkDisk (l .image) (l .pointers) in
+    let f = headerStore p (a .segment) (a .serial .0) (a .copied .0) in
+    rest-done p f (p .N) (a .count) k₀ (l .d) (l .left) k (l .inv .3) (omega (arith, c .if1 .left))
+
+pub header-stores-spec : {M : Type 1} → statement M
+header-stores-spec =
+    tie.close
+    (tie.spec
+    Inv-loop
+    μ-loop
+    loop-holds
+    same-length
+    same-length-2
+    returns
+    zone-on-requires
+    put-header-requires
+    sub-left
+    add-d
+    loop-less
+    loop-again
+    same-length-3
+    same-length-4
+    returns-2)

@@ -1,0 +1,51 @@
+use mathlib.Core.Path.{sym, ap, ap₂, _∙_}
+use mathlib.Core.Bool.{Bool, _||_}
+use borrow.Author.Needs.{needs}
+use lib.Dec.{eqb}
+use Rattle.defs.specs.Drives.{pointerOf, zoneOn}
+use Rattle.defs.specs.Engine.Call.{close}
+use Rattle.defs.specs.Params.{capacity}
+use Rattle.laws.specs.Geometry.{zone-on-lt}
+use Rattle.zones.proofs.is_full.Statement.{statement}
+use Rattle.zones.proofs.is_full.Tie as tie
+
+has-drive-requires : tie.Need-has-drive-requires
+has-drive-requires c κs = search needs
+
+returns : tie.Need-returns
+returns c =
+    let a = c .before .before .before .args in
+    sym (ap (λ (b : Bool). b || eqb (pointerOf (a .p) (a .pointers .now) (a .drive) (zoneOn (a .segment) (a .drive))) (capacity (a .p))) (sym (c .before .has-drive .ensures) ∙ c .if1 .taken))
+
+zone-on-requires : tie.Need-zone-on-requires
+zone-on-requires c κs = search needs
+
+pointer-requires : tie.Need-pointer-requires
+pointer-requires c κs =
+    let a = c .before .before .before .before .args in
+    (c .before .before .before .before .pre .0, (c .before .before .before .before .pre .1 .0, c .before .before .before .before .pre .1 .1, rw (c .zone-on .ensures) (zone-on-lt (a .p) (a .segment) (a .drive) (c .before .before .before .before .pre .1 .2))))
+
+cast-result : tie.Need-cast-result
+cast-result c = search needs
+
+capacity-requires : tie.Need-capacity-requires
+capacity-requires c κs = search needs
+
+returns-2 : tie.Need-returns-2
+returns-2 c =
+    let a = c .before .before .before .before .before .before .args in
+    let q = pointerOf (a .p) (a .pointers .now) (a .drive) in
+    ap₂ eqb (c .before .pointer .ensures ∙ ap q (c .before .before .zone-on .ensures)) (c .capacity .ensures .0)
+    ∙ sym (ap (λ (b : Bool). b || eqb (q (zoneOn (a .segment) (a .drive))) (capacity (a .p))) (sym (c .before .before .before .before .has-drive .ensures) ∙ c .before .before .before .if1 .left))
+
+pub is-full-spec : {M : Type 1} → statement M
+is-full-spec =
+    tie.close
+    (tie.spec
+    has-drive-requires
+    returns
+    zone-on-requires
+    pointer-requires
+    cast-result
+    capacity-requires
+    returns-2)

@@ -1,0 +1,71 @@
+use mathlib.Core.Path.{_≡_, sym, ap, _∙_}
+use Prim.Native.Nat.{_-_, _≤_}
+use native.Mathlib.Omega.{arith}
+use Rattle.defs.specs.Engine.Call.{close}
+use Rattle.defs.specs.Lists.{upFrom, below, keep, firstOr}
+use Rattle.laws.specs.Geometry.{ranged}
+use Rattle.laws.specs.Ranges.{below-start, first-turn, first-pass, first-end}
+use Rattle.zones.specs.Empty.{emptyBy, empty-list}
+use Rattle.zones.proofs.lowest_empty.Statement.{statement}
+use Rattle.zones.proofs.lowest_empty.Tie as tie
+
+abbrev Inv-loop : tie.InvT-loop
+Inv-loop p pointers z₀ z = (z ≤ p .Z) × (firstOr 0 (keep (emptyBy p pointers) (upFrom z (p .Z - z))) ≡ firstOr 0 (keep (emptyBy p pointers) (below (p .Z))))
+
+abbrev μ-loop : tie.MeasureT-loop
+μ-loop p pointers z₀ z = p .Z - z
+
+loop-holds : tie.Need-loop-holds Inv-loop μ-loop
+loop-holds c =
+    let a = c .before .args in
+    (omega arith, ap (firstOr 0) (ap (keep (emptyBy (a .p) (a .pointers .now))) (sym (below-start (a .p .Z)))))
+
+is-empty-requires : tie.Need-is-empty-requires Inv-loop μ-loop
+is-empty-requires c κs = (c .before .before .before .before .pre .0, (c .before .before .before .before .pre .1, c .if1 .taken))
+
+returns : tie.Need-returns Inv-loop μ-loop
+returns c =
+    let a = c .before .before .before .before .before .before .args in
+    let p = a .p in
+    let ps = a .pointers .now in
+    let l = c .before .before .before .before .loop in
+    let f = emptyBy p ps in
+    (λ im h. (sym (first-turn f (l .z) (p .Z) (c .before .before .if1 .taken) (sym (c .before .is-empty .ensures) ∙ c .if2 .taken)) ∙ l .inv .1) ∙ ap (firstOr 0) (sym (empty-list p im ps h (c .before .before .before .before .before .before .pre .1))), c .before .before .if1 .taken)
+
+add-z : tie.Need-add-z Inv-loop μ-loop
+add-z c = omega arith
+
+loop-less : tie.Need-loop-less Inv-loop μ-loop
+loop-less c = omega arith
+
+loop-again : tie.Need-loop-again Inv-loop μ-loop
+loop-again c =
+    let a = c .before .before .before .before .before .before .args in
+    let p = a .p in
+    let ps = a .pointers .now in
+    let l = c .before .before .before .before .loop in
+    let f = emptyBy p ps in
+    (omega (arith, c .before .before .if1 .taken), sym (first-pass f (l .z) (p .Z) (c .before .before .if1 .taken) (sym (c .before .is-empty .ensures) ∙ c .if2 .left)) ∙ l .inv .1)
+
+returns-2 : tie.Need-returns-2 Inv-loop μ-loop
+returns-2 c =
+    let a = c .before .before .before .before .args in
+    let p = a .p in
+    let ps = a .pointers .now in
+    let l = c .before .before .loop in
+    let f = emptyBy p ps in
+    (λ im h. (sym (first-end f (l .z) (p .Z) (omega (arith, c .if1 .left))) ∙ l .inv .1) ∙ ap (firstOr 0) (sym (empty-list p im ps h (c .before .before .before .before .pre .1))), omega (arith, ranged p (c .before .before .before .before .pre .0) .zones-low))
+
+pub lowest-empty-spec : {M : Type 1} → statement M
+lowest-empty-spec =
+    tie.close
+    (tie.spec
+    Inv-loop
+    μ-loop
+    loop-holds
+    is-empty-requires
+    returns
+    add-z
+    loop-less
+    loop-again
+    returns-2)

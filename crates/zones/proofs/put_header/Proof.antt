@@ -1,0 +1,98 @@
+use mathlib.Core.Path.{_≡_, sym, ap, ap₂, _∙_}
+use mathlib.Core.List.{_++_}
+use Prim.Native.Nat.{ℕ, suc, _+_, _-_}
+use native.Mathlib.Omega.{arith}
+use borrow.Author.Needs.{needs}
+use lib.ListN.{length, take, drop}
+use Rattle.defs.specs.Bytes.{splice}
+use Rattle.defs.specs.Drives.{pointerOf, setPointer, zeroSpare}
+use Rattle.defs.specs.Engine.Call.{close}
+use Rattle.defs.specs.Layout.{headerBlock}
+use Rattle.defs.specs.Params.{placeOf, placeByte}
+use Rattle.laws.specs.Geometry.{ranged, capacity-high}
+use Rattle.laws.specs.Splice.{splice-lent}
+use Rattle.zones.specs.Made.{put-disk, header-unit}
+use Rattle.zones.proofs.put_header.Statement.{statement}
+use Rattle.zones.proofs.put_header.Tie as tie
+
+pointer-requires : tie.Need-pointer-requires
+pointer-requires c κs = search needs
+
+cast-block-byte : tie.Need-cast-block-byte
+cast-block-byte c = search needs
+
+block-byte-requires : tie.Need-block-byte-requires
+block-byte-requires c κs = search needs
+
+unit-len-requires : tie.Need-unit-len-requires
+unit-len-requires c κs = search needs
+
+add-end : tie.Need-add-end
+add-end c = search needs
+
+sub-write-header : tie.Need-sub-write-header
+sub-write-header c = search needs
+
+part-write-header-start : tie.Need-part-write-header-start
+part-write-header-start c = search needs
+
+part-write-header-end : tie.Need-part-write-header-end
+part-write-header-end c = search needs
+
+write-header-requires : tie.Need-write-header-requires
+write-header-requires c κs = search needs
+
+add-set-pointer : tie.Need-add-set-pointer
+add-set-pointer c =
+    let a = c .before .before .before .before .before .before .before .before .before .before .before .args in
+    let p = a .p in
+    let r = ranged p (c .before .before .before .before .before .before .before .before .before .before .before .pre .0) in
+    let w = c .before .before .before .before .before .before .before .before .before .before .before .pre .1 .0 in
+    let h = c .before .before .before .before .before .before .before .before .before .before .before .pre .1 .1 in
+    omega (arith, c .before .before .before .before .before .before .before .pointer .ensures, h .2, capacity-high p r)
+
+set-pointer-requires : tie.Need-set-pointer-requires
+set-pointer-requires c κs = search needs
+
+same-length : tie.Need-same-length
+same-length c = search needs
+
+same-length-2 : tie.Need-same-length-2
+same-length-2 c = search needs
+
+returns : tie.Need-returns
+returns c =
+    let a = c .before .before .before .before .before .before .before .before .before .before .before .before .before .before .args in
+    let p = a .p in
+    let r = ranged p (c .before .before .before .before .before .before .before .before .before .before .before .before .before .before .pre .0) in
+    let w = c .before .before .before .before .before .before .before .before .before .before .before .before .before .before .pre .1 .0 in
+    let h = c .before .before .before .before .before .before .before .before .before .before .before .before .before .before .pre .1 .1 in
+    let n : c .before .before .before .before .before .before .before .before .before .before .pointer .result + 1 ≡ suc (pointerOf p (a .pointers .now) (a .drive) (a .zone)) = omega (arith, c .before .before .before .before .before .before .before .before .before .before .pointer .ensures) in
+    let at : c .before .before .before .before .before .before .before .before .before .block-byte .result ≡ placeByte p (placeOf p (a .drive) (a .zone) (pointerOf p (a .pointers .now) (a .drive) (a .zone))) = c .before .before .before .before .before .before .before .before .before .block-byte .ensures .0 ∙ ap (λ (x : ℕ). placeByte p (placeOf p (a .drive) (a .zone) x)) (c .before .before .before .before .before .before .before .before .before .before .pointer .ensures) in
+    let im = a .image .now in
+    let b = headerBlock p (a .drive) (a .zone) (a .serial .0) (a .copied .0) in
+    let t = c .before .before .before .before .before .before .before .before .before .block-byte .result in
+    let u = c .before .before .before .before .before .before .before .before .unit-len .result in
+    let l : length (c .before .before .before .before .before .before .write-header .last .0) ≡ u = ap length (c .before .before .before .before .before .before .write-header .ensures) ∙ header-unit p (a .drive) (a .zone) (a .serial .0) (a .copied .0) (omega (arith, r .block-low)) ∙ sym (c .before .before .before .before .before .before .before .before .unit-len .ensures .0) in
+    put-disk p (a .drive) (a .zone) b zeroSpare im (a .pointers .now) (take t im ++ (c .before .before .before .before .before .before .write-header .last .0 ++ drop (t + u - t) (drop t im))) (c .before .before .set-pointer .last .1 .0)
+    (splice-lent t u im (c .before .before .before .before .before .before .write-header .last .0) l ∙ ap₂ (splice im) at (c .before .before .before .before .before .before .write-header .ensures))
+    (c .before .before .set-pointer .ensures ∙ ap (setPointer p (a .pointers .now) (a .drive) (a .zone)) n)
+
+pub put-header-spec : {M : Type 1} → statement M
+put-header-spec =
+    tie.close
+    (tie.spec
+    pointer-requires
+    cast-block-byte
+    block-byte-requires
+    unit-len-requires
+    add-end
+    sub-write-header
+    part-write-header-start
+    part-write-header-end
+    write-header-requires
+    add-set-pointer
+    set-pointer-requires
+    same-length
+    same-length-2
+    returns)

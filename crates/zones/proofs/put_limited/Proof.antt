@@ -1,0 +1,38 @@
+use native.Mathlib.Omega.{arith}
+use borrow.Author.Needs.{needs}
+use Rattle.defs.specs.Drives.{mkDisk}
+use Rattle.defs.specs.Drives.Store.{put}
+use Rattle.defs.specs.Engine.Call.{close}
+use Rattle.zones.specs.Made.{storing-one-cut, storing-one}
+use Rattle.zones.proofs.put_limited.Statement.{statement}
+use Rattle.zones.proofs.put_limited.Tie as tie
+
+returns : tie.Need-returns
+returns c =
+    let a = c .before .before .before .before .before .args in
+    let k = mkDisk (a .image .now) (a .pointers .now) in
+    let s = put (a .drive) (a .zone) (a .block .now) (a .spare .now) in
+    rw (c .if1 .taken) (storing-one-cut (a .p) s k)
+
+put-requires : tie.Need-put-requires
+put-requires c κs = search needs
+
+sub-t15 : tie.Need-sub-t15
+sub-t15 c = search needs
+
+same-length : tie.Need-same-length
+same-length c = search needs
+
+same-length-2 : tie.Need-same-length-2
+same-length-2 c = search needs
+
+returns-2 : tie.Need-returns-2
+returns-2 c =
+    let a = c .before .before .before .before .before .before .before .before .before .before .before .before .args in
+    let k = mkDisk (a .image .now) (a .pointers .now) in
+    let s = put (a .drive) (a .zone) (a .block .now) (a .spare .now) in
+    storing-one (a .p) (a .count) s k (mkDisk (c .before .before .before .before .put .last .1 .0) (c .before .before .before .before .put .last .1 .1 .0)) (omega (arith, c .before .before .before .before .before .before .before .if1 .left)) (c .before .before .before .before .put .ensures)
+
+pub put-limited-spec : {M : Type 1} → statement M
+put-limited-spec =
+    tie.close (tie.spec returns put-requires sub-t15 same-length same-length-2 returns-2)
