@@ -2,20 +2,20 @@
 use mathlib.Core.Path.{_≡_, refl, sym, ap, ap₂, _∙_}
 use mathlib.Core.List.{List, [], _∷_, _++_, append-assoc}
 use mathlib.Core.Bool.{Bool, _&&_, and-assoc}
-use Prim.Native.Nat.{ℕ, _+_, _-_, _^_, _≤_, _<_}
+use Prim.Native.Nat.{ℕ, _+_, _-_, _≤_}
 use native.Mathlib.Omega.{arith}
 use lib.Seq.{length-take-le, drop-at}
 use lib.ListN.{length, take, drop, length-append, take-append-drop, replicate, length-replicate, replicate-append-replicate}
-use lib.Dec.{eqb, lit<}
+use lib.Dec.{eqb}
 use native.Mathlib.Nat.{zero-add}
 use Rattle.defs.specs.Bytes.{toBe, splice, Field, field, bytesOf}
 use Rattle.defs.specs.Drives.{chunkOf, zeroSpare}
 use Rattle.defs.specs.Faults.{sameChunk}
-use Rattle.defs.specs.Layout.{headerWidths, headerVersion, headerValues, headerFields, headerBlock, headerSerial, headerCopied}
+use Rattle.defs.specs.Layout.{headerWidths, headerVersion, headerValues, headerFields, headerBlock}
 use Rattle.defs.specs.Lists.{total, sameList, padTo, zipped}
 use Rattle.defs.specs.Params.{recordWidths, spareLen, unitLen}
 use Rattle.defs.specs.declared.Params.{Params}
-use Rattle.laws.specs.Fields.{widths, length-bytesOf, bytesOf-append, written-is, one-more, nothing-more, readField-bytesOf}
+use Rattle.laws.specs.Fields.{widths, length-bytesOf, bytesOf-append, written-is, one-more, nothing-more}
 use Rattle.laws.specs.Ranges.{length-padTo}
 use Rattle.laws.specs.Splice.{splice-zero, splice-next}
 
@@ -135,17 +135,6 @@ header-written p d z r c l₁ l₂ l₃ h e₁ e₂ e₃ =
     drop-replicate : (i j : ℕ) → _≡_ {A = List ℕ} (drop i (replicate (i + j) 0)) (replicate j 0)
     drop-replicate i j =
         ap (drop i) (sym (replicate-append-replicate i j 0)) ∙ drop-at (replicate i 0) (replicate j 0) i (length-replicate i 0)
-
--- the serials are read back
-pub header-serial-back : (p : Params) (d z r c : ℕ) → r < 256 ^ 8 → headerSerial (headerBlock p d z r c) ≡ r
-unfolding headerSerial headerBlock padTo headerFields headerValues headerWidths
-header-serial-back p d z r c h =
-    readField-bytesOf headerWidths (headerValues p d z r c) 9 (replicate (p .B - length (bytesOf (headerFields p d z r c))) 0) (lit< tt) (lit< tt) h
-
-pub header-copied-back : (p : Params) (d z r c : ℕ) → c < 256 ^ 8 → headerCopied (headerBlock p d z r c) ≡ c
-unfolding headerCopied headerBlock padTo headerFields headerValues headerWidths
-header-copied-back p d z r c h =
-    readField-bytesOf headerWidths (headerValues p d z r c) 10 (replicate (p .B - length (bytesOf (headerFields p d z r c))) 0) (lit< tt) (lit< tt) h
 
 -- a block with its spare is the header, in one comparison
 pub sameList-append : (a b s t : List ℕ) → length a ≡ length b → sameList (a ++ s) (b ++ t) ≡ (sameList a b && sameList s t)

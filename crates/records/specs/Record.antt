@@ -1,15 +1,14 @@
--- Records as values of the code, and their round trip (01, What a zone holds). Assumes nothing.
+-- Records as values of the code (01, What a zone holds). Assumes nothing.
 use mathlib.Core.Path.{_≡_, sym, _∙_}
-use mathlib.Core.List.{List, [], _∷_, _++_}
-use Prim.Native.Nat.{ℕ, _^_, _<_}
+use mathlib.Core.List.{List, [], _∷_}
+use Prim.Native.Nat.{ℕ}
 use native.Mathlib.Omega.{arith}
 use lib.ListN.{length}
-use lib.Dec.{lit<}
 use Rattle.defs.specs.Bytes.{toBe, splice, Field, field, bytesOf}
-use Rattle.defs.specs.Layout.{Rec, mkRec, recordFields, recordBytes, recordOf}
+use Rattle.defs.specs.Layout.{Rec, mkRec, recordFields, recordBytes}
 use Rattle.defs.specs.Lists.{zipped}
 use Rattle.defs.specs.Params.{recordWidths}
-use Rattle.laws.specs.Fields.{widths, length-bytesOf, written-is, one-more, nothing-more, readField-bytesOf}
+use Rattle.laws.specs.Fields.{widths, length-bytesOf, written-is, one-more, nothing-more}
 use Rattle.laws.specs.Splice.{splice-all}
 use Rattle.records.specs.declared.Record.{Record}
 
@@ -20,17 +19,6 @@ recOf r = mkRec (r .address .0) (r .stamp .0) (r .stripe)
 pub record-long : (q : Rec) → length (recordBytes q) ≡ 20
 unfolding recordBytes recordFields recordWidths zipped widths
 record-long q = length-bytesOf (recordFields q)
-
--- what is written is read back
-pub record-back : (q : Rec) (rest : List ℕ) → q .address < 256 ^ 8 → q .stamp < 256 ^ 8 → q .stripe < 256 ^ 4 → recordOf (recordBytes q ++ rest) ≡ q
-unfolding recordOf recordBytes recordFields recordWidths
-record-back q rest a t s =
-    let vs : List ℕ = q .address ∷ q .stamp ∷ q .stripe ∷ [] in
-    let ws : List ℕ = recordWidths in
-    let x = readField-bytesOf ws vs 0 rest (lit< tt) (lit< tt) a in
-    let y = readField-bytesOf ws vs 1 rest (lit< tt) (lit< tt) t in
-    let z = readField-bytesOf ws vs 2 rest (lit< tt) (lit< tt) s in
-    λ i. record { address = x i; stamp = y i; stripe = z i }
 
 -- the three fields written one after the other
 pub record-written : (l l₁ l₂ l₃ : List ℕ) (q : Rec) → length l ≡ 20 → l₁ ≡ splice l 0 (toBe 8 (q .address)) → l₂ ≡ splice l₁ 8 (toBe 8 (q .stamp))

@@ -4,9 +4,10 @@ use mathlib.Core.List.{List, [], _∷_, map}
 use mathlib.Core.Bool.{Bool, true, false, not, _&&_}
 use mathlib.Core.Logic.{_⊎_, inl, inr, _≢_}
 use Prim.Native.Nat.{ℕ, zero, suc, _≤_, _<_}
+use native.Mathlib.Decide.{decLt}
 use borrow.Author.Tests.{not-true}
 use native.Mathlib.Omega.{arith}
-use lib.ListN.{length}
+use lib.ListN.{length, getD}
 use Rattle.defs.specs.declared.Params.{Params}
 use Rattle.defs.specs.Drives.{View, sealedIn}
 use Rattle.defs.specs.Lists.{below, any, greatest}
@@ -19,6 +20,7 @@ use Rattle.machine.specs.Accept.{accepted}
 use Rattle.machine.specs.Exec.{true≢false, low}
 use Rattle.machine.specs.Facts.{Ghost, Choice, Stripe, Counted, Off, Used, Whole as m-Whole, Ragged}
 use Rattle.machine.specs.Finish.{Reads}
+use Rattle.machine.specs.History.{at}
 use Rattle.machine.specs.Rebuild.{in-off, once-in}
 use Rattle.machine.specs.Rest.{Unsealed}
 use Rattle.machine.specs.Rewrite.{st}
@@ -27,20 +29,21 @@ use Rattle.machine.specs.View.Item.{chunk}
 use Rattle.machine.specs.View.{In, in-some, chunk-hdr}
 use Rattle.bridge.specs.Cands.{candsSeen, greatest-counted, stampRead, reads}
 use Rattle.bridge.specs.Items.{itemsIn}
-use Rattle.bridge.specs.Member.{Has, false-of, keep-has, has-keep, below-has, has-below, has-any, map-has, has-map, greatest-most}
+use Rattle.bridge.specs.Member.{Has, false-of, keep-has, has-keep, below-has, has-below, has-any, map-has, has-map, has-getD, greatest-most}
 use Rattle.bridge.specs.Named.{none-named, has-present}
 use Rattle.bridge.specs.Ranges.{parOf}
 use Rattle.bridge.specs.SegFacts.{serial-is, ragged-of}
 use Rattle.bridge.specs.Segs.{zone-len, remaining-has}
 use Rattle.bridge.specs.Stripes.{sealed-full, in-has-chunk, pieceAt, counted-stripe}
+use Rattle.restarts.specs.Order.{pigeon}
 use Rattle.restarts.specs.Rest.{Settled, far-off, settled-remains, settled-used}
 use Rattle.restarts.specs.Same.{Stripe-none-any, Counted-none-any, Reads-none-any}
 
--- the unsealed segment has the stripes 0 to c - 1, and no other chunks
+-- the unsealed segment has the stripes 0 to c - 1, not all S, and no other chunks
 abbrev pub InOrder : Params → View → Type 0
 InOrder p v = (z : ℕ) → Has z (remaining p v (named noDrive)) → segmentOf p v (named noDrive) z .full ≡ false
     → (counted p (named noDrive) (segmentOf p v (named noDrive) z) ≡ below (length (counted p (named noDrive) (segmentOf p v (named noDrive) z))))
-    × (uncounted p (named noDrive) (segmentOf p v (named noDrive) z) ≡ [])
+    × (uncounted p (named noDrive) (segmentOf p v (named noDrive) z) ≡ []) × (length (counted p (named noDrive) (segmentOf p v (named noDrive) z)) < p .S)
 
 -- the memory that a restart makes of the unsealed segments: open or not, its zone, its next stripe
 pub record Opened (p : Params) (r : Ranged p) (g : Ghost) (v : View) (b : Bool) (z n : ℕ) : Type 0 where
@@ -48,6 +51,8 @@ pub record Opened (p : Params) (r : Ranged p) (g : Ghost) (v : View) (b : Bool) 
   pub lone : (y : ℕ) → Ragged (parOf p r) (g .un) (itemsIn p v) y → (b ≡ true) × (y ≡ z)
   pub whole : b ≡ true → m-Whole (parOf p r) (g .un) (itemsIn p v) z
   pub low : b ≡ true → (e s : ℕ) (x : Val) → e < p .N → In (chunk s x) (itemsIn p v e z) → s < n
+  -- it has no footer
+  pub short : b ≡ true → (e : ℕ) → e < p .N → length (itemsIn p v e z) ≤ suc (p .S)
   -- stripes below n are on all drives
   pub full : b ≡ true → (s : ℕ) → s < n → (e : ℕ) → e < p .N → (x : Val) × In (chunk s x) (itemsIn p v e z)
   pub is : ((b ≡ true) × (openOf (unsealed (segments p v (named noDrive))) ≡ suc z) × (nextOf p (unsealed (segments p v (named noDrive))) ≡ n))
@@ -153,12 +158,13 @@ module _ (p : Params) (r : Ranged p) (g : Ghost) (v : View) (k : Settled p r g v
             whole = λ q. true≢false q;
             low = λ q. true≢false q;
             full = λ q. true≢false q;
+            short = λ q. true≢false q;
             is = inr (refl, (unfold openOf in ap openOf e));
           },
         )
         go (q ∷ l) e =
             let a : (z : ℕ) × Has z (remaining p v (named noDrive)) × (q ≡ G z) × (G z .full ≡ false) = us-has q (subst (λ (x : List Segment). Has q x) (sym e) (inl refl)) in
-            let o : (counted p (named noDrive) (G (a .0)) ≡ below (length (counted p (named noDrive) (G (a .0))))) × (uncounted p (named noDrive) (G (a .0)) ≡ []) = ord (a .0) (a .1) (a .3) in
+            let o : (counted p (named noDrive) (G (a .0)) ≡ below (length (counted p (named noDrive) (G (a .0))))) × (uncounted p (named noDrive) (G (a .0)) ≡ []) × (length (counted p (named noDrive) (G (a .0))) < p .S) = ord (a .0) (a .1) (a .3) in
             let b : a .0 < p .Z = settled-used p r g v k (a .0) (a .1) .0 in (
               true,
               a .0,
@@ -171,12 +177,27 @@ module _ (p : Params) (r : Ranged p) (g : Ghost) (v : View) (k : Settled p r g v
                 full = λ w s l d h. let st : Stripe (parOf p r) (itemsIn p v) noDrive (a .0) s (pieceAt p r g v (k .on) noDrive none-choice (a .0) s) =
                     counted-stripe p r g v (k .on) noDrive none-choice (a .0) s b (subst (λ (y : List ℕ). Has s y) (sym (o .0)) (has-below s (length (counted p (named noDrive) (G (a .0)))) l)) in
                     (pieceAt p r g v (k .on) noDrive none-choice (a .0) s d, st .on d h (trust d h .1));
-                is = inl (refl, open-at q l e (a .0) (a .2), next-at q l e (a .0) (a .2));
+                short = λ w d l. no-footer (a .0) (a .1) (a .3) (o .2) d l (decLt (suc (p .S)) (length (itemsIn p v d (a .0))));
+              is = inl (refl, open-at q l e (a .0) (a .2), next-at q l e (a .0) (a .2));
               },
             )
           where
             few-counted : (z : ℕ) → length (counted p (named noDrive) (G z)) ≤ p .S
             few-counted z = unfold counted in omega (arith, length-keep (counts p (named noDrive) (G z)) (below (p .S)), length-below (p .S))
+
+            no-footer : (z : ℕ) → Has z (remaining p v (named noDrive)) → G z .full ≡ false → length (counted p (named noDrive) (G z)) < p .S → (d : ℕ) → d < p .N → Dec (suc (p .S) < length (itemsIn p v d z)) → length (itemsIn p v d z) ≤ suc (p .S)
+            no-footer z i f c d l (no q) = omega arith
+            no-footer z i f c d l (yes q) =
+                let every : (s : ℕ) → s < p .S → Has s (counted p (named noDrive) (G z)) = λ s b.
+                let x : (x : Val) × In (chunk s x) (itemsIn p v d z) = k .on .facts .zones d z (l, trust d l .0) .sealed q s b in chunk-counted z d s (x .0) i f l (x .1) in
+                absurd (let w : p .S ≤ length (counted p (named noDrive) (G z)) = many (counted p (named noDrive) (G z)) every in let j : ⊥ = omega arith in j)
+              where
+                many : (l : List ℕ) → ((s : ℕ) → s < p .S → Has s l) → p .S ≤ length l
+                many l h = pigeon (p .S) (length l) (λ s. at s (decLt s (p .S)) .0) (λ s b. at s (decLt s (p .S)) .1 b .0) (λ s t a b e. sym (at s (decLt s (p .S)) .1 a .1) ∙ ap (λ (x : ℕ). getD l x 0) e ∙ at t (decLt t (p .S)) .1 b .1)
+                  where
+                    at : (s : ℕ) → Dec (s < p .S) → (j : ℕ) × (s < p .S → (j < length l) × (getD l j 0 ≡ s))
+                    at s (yes b) = let q : (j : ℕ) × (j < length l) × (getD l j 0 ≡ s) = has-getD l s 0 (h s b) in (q .0, λ x. (q .1, q .2))
+                    at s (no b) = (0, λ x. absurd (b x))
 
             open-at : (q : Segment) (l : List Segment) → unsealed (segments p v (named noDrive)) ≡ q ∷ l → (z : ℕ) → q ≡ G z → openOf (unsealed (segments p v (named noDrive))) ≡ suc z
             open-at q l e z w = unfold openOf in (ap openOf e ∙ ap (λ (x : Segment). suc (x .seg)) w ∙ ap suc (seg-is z))

@@ -19,9 +19,9 @@ use Rattle.defs.specs.Lists.Opt.{none}
 use Rattle.defs.specs.Lists.{upFrom, below, any, keep, isNil, flat, greatest, firstOr, sameList}
 use Rattle.defs.specs.Params.{footers, noDrive, named}
 use Rattle.defs.specs.Restart.{freeZones, isWhole, isRagged, missingFooters, rewriteStores, dropStores, mendStores, restartStores, rewrites}
-use Rattle.defs.specs.Segments.{headerAt, remaining, Segment, segmentOf, segments, counted, uncounted, greatestSerial, unsealed}
+use Rattle.defs.specs.Segments.{headerAt, remaining, Segment, segmentOf, segments, counts, counted, uncounted, greatestSerial, unsealed}
 use Rattle.laws.specs.Geometry.{Ranged}
-use Rattle.laws.specs.Ranges.{and-both, sameList-true}
+use Rattle.laws.specs.Ranges.{and-both, length-below, length-keep, sameList-true}
 use Rattle.laws.specs.Stores.{storeAll-append}
 use Rattle.machine.specs.Exec.{true≢false}
 use Rattle.machine.specs.Facts.Pair.{alone}
@@ -49,6 +49,19 @@ use Rattle.restarts.specs.MovedEnd.{drops-cut, moved-cut, moved-done}
 use Rattle.restarts.specs.Rest.{Settled, settled-used, dropped-items, after-settled, zone-after, free-after, remaining-same, segments-same}
 use Rattle.restarts.specs.Runs.{Always, always-append}
 use Rattle.restarts.specs.Same.{segment-same}
+
+-- a segment that isn't whole has fewer than S counted stripes
+few-left : (p : Params) (q : Segment) → isWhole p q ≡ false → length (counted p (named noDrive) q) < p .S
+few-left p q e =
+    let a : length (counted p 0 q) ≢ p .S = eqb-false (length (counted p 0 q)) (p .S) (reveal e) in
+    let b : length (counted p 0 q) ≤ p .S = most in
+    subst (λ (x : ℕ). length (counted p x q) < p .S) (sym none-named) (omega (arith, a, b))
+  where
+    reveal : isWhole p q ≡ false → eqb (length (counted p 0 q)) (p .S) ≡ false
+    reveal e = unfold isWhole in e
+
+    most : length (counted p 0 q) ≤ p .S
+    most = unfold counted in omega (arith, length-keep (counts p 0 q) (below (p .S)), length-below (p .S))
 
 module _ (p : Params) (r : Ranged p) (v₀ : View) (g₀ : Ghost) (a : List Val) (s : Bool) (m : Mode) (lk : Linked p r v₀ g₀ a s m) (none : p .N ≤ g₀ .un)
     (six : (rewrites p (named noDrive) (segments p v₀ (named noDrive)) && eqb (greatestSerial (segments p v₀ (named noDrive))) lastCount) ≡ false) where
@@ -194,11 +207,25 @@ module _ (p : Params) (r : Ranged p) (v₀ : View) (g₀ : Ghost) (a : List Val)
       wb : firstOr 0 (freeZones p gs) < p .Z
       wb = free-has p r v₀ (named noDrive) (firstOr 0 (freeZones p gs)) free? .0
 
+      unfull : length (counted p (named noDrive) (segmentOf p v (named noDrive) o)) < p .S
+      unfull = not-whole (segmentOf p v (named noDrive) o) (go (isWhole p (segmentOf p v (named noDrive) o)) refl (ap (isRagged p) same-G ∙ rag))
+        where
+          not-whole : (q : Segment) → isWhole p q ≡ false → length (counted p (named noDrive) q) < p .S
+          not-whole q e = few-left p q e
+
+          go : (b : Bool) → isWhole p (segmentOf p v (named noDrive) o) ≡ b → isRagged p (segmentOf p v (named noDrive) o) ≡ true → isWhole p (segmentOf p v (named noDrive) o) ≡ false
+          go false e q = e
+          go true e q = true≢false (sym (ap (λ (x : Bool). not x && (not (sameList (counted p 0 (segmentOf p v (named noDrive) o)) (below (length (counted p 0 (segmentOf p v (named noDrive) o))))) || not (isNil (uncounted p 0 (segmentOf p v (named noDrive) o))))) e) ∙ reveal q)
+            where
+              reveal : isRagged p (segmentOf p v (named noDrive) o) ≡ true
+                  → (not (isWhole p (segmentOf p v (named noDrive) o)) && (not (sameList (counted p 0 (segmentOf p v (named noDrive) o)) (below (length (counted p 0 (segmentOf p v (named noDrive) o))))) || not (isNil (uncounted p 0 (segmentOf p v (named noDrive) o))))) ≡ true
+              reveal q = unfold isRagged in q
+
       pub moved-both : Always (CutTo p r g₀ a s) v (rewriteStores p (segmentOf p v (named noDrive) o) (firstOr 0 (freeZones p gs)) (suc (greatestSerial gs)))
           × RestartDone p r g₀ a s (storeAll storeView (rewriteStores p (segmentOf p v (named noDrive) o) (firstOr 0 (freeZones p gs)) (suc (greatestSerial gs))) v)
       moved-both = (
-        moved-cut p r v₀ g₀ a s m lk none o i un (firstOr 0 (freeZones p gs)) wb empty? (suc (greatestSerial gs)) next-low top,
-        moved-done p r v₀ g₀ a s m lk none o i un (firstOr 0 (freeZones p gs)) wb empty? (suc (greatestSerial gs)) next-low top,
+        moved-cut p r v₀ g₀ a s m lk none o i un (firstOr 0 (freeZones p gs)) wb empty? (suc (greatestSerial gs)) next-low top unfull,
+        moved-done p r v₀ g₀ a s m lk none o i un (firstOr 0 (freeZones p gs)) wb empty? (suc (greatestSerial gs)) next-low top unfull,
       )
 
     -- ---- what mending o comes to
@@ -217,7 +244,7 @@ module _ (p : Params) (r : Ranged p) (v₀ : View) (g₀ : Ghost) (a : List Val)
         cut (suc n) = unfold storeAll in record { g′ = withPr g₀ alone; same = record { un = refl; sent = refl; last = refl; base = refl; top = refl }; linked = linked₁ }
 
     in-order : isWhole p (segmentOf p v (named noDrive) o) ≡ false → isRagged p (segmentOf p v (named noDrive) o) ≡ false → InOrder p v
-    in-order nw nr z j e = rw (others-full z j e) (counted-in, uncounted-in)
+    in-order nw nr z j e = rw (others-full z j e) (counted-in, uncounted-in, few-left p (segmentOf p v (named noDrive) o) nw)
       where
         G : Segment
         G = segmentOf p v (named noDrive) o

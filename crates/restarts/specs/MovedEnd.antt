@@ -8,6 +8,7 @@ use native.Mathlib.Decide.{ℕ-discrete}
 use native.Mathlib.Omega.{arith}
 use lib.ListN.{length, take, set}
 use Rattle.defs.specs.declared.Params.{Params}
+use Rattle.defs.specs.Bytes.{part}
 use Rattle.defs.specs.Drives.{View, pointerAt, Store, storeView, storeAll}
 use Rattle.defs.specs.Lists.Opt.{none}
 use Rattle.defs.specs.Lists.{below, any}
@@ -88,7 +89,8 @@ module _ (p : Params) (r : Ranged p) (v₀ : View) (g₀ : Ghost) (a : List Val)
       fd = drops-follow p r v₀ v₀ (named noDrive)
 
   module _ (o : ℕ) (i : Has o (remaining p v (named noDrive))) (un : segmentOf p v (named noDrive) o .full ≡ false)
-      (w : ℕ) (wb : w < p .Z) (empty : (e : ℕ) → e < p .N → pointerAt v e w ≡ 0) (n : ℕ) (nl : n < 256 ^ 8) (top : serialTop p v < n) where
+      (w : ℕ) (wb : w < p .Z) (empty : (e : ℕ) → e < p .N → pointerAt v e w ≡ 0) (n : ℕ) (nl : n < 256 ^ 8) (top : serialTop p v < n)
+      (part : length (counted p (named noDrive) (segmentOf p v (named noDrive) o)) < p .S) where
     abbrev π : m-Plan (parOf p r)
     π = planOf p r (withPr g₀ alone) v k o i
 
@@ -215,14 +217,14 @@ module _ (p : Params) (r : Ranged p) (v₀ : View) (g₀ : Ghost) (a : List Val)
         rag = ragged-of p r gE u (set-end .on) noDrive ch z j e
 
         go : Dec (z ≡ o) → Dec (z ≡ w) → (counted p (named noDrive) (segmentOf p u (named noDrive) z) ≡ below (length (counted p (named noDrive) (segmentOf p u (named noDrive) z))))
-            × (uncounted p (named noDrive) (segmentOf p u (named noDrive) z) ≡ [])
+            × (uncounted p (named noDrive) (segmentOf p u (named noDrive) z) ≡ []) × (length (counted p (named noDrive) (segmentOf p u (named noDrive) z)) < p .S)
         go (yes q) x = absurd (gone rag)
           where
             gone : Ragged (parOf p r) noDrive (itemsIn p u) z → ⊥
             gone (d, t, b, f) =
                 let y : itemsIn p u d z ≡ [] = ap (itemsIn p u d) q ∙ ap (λ (x : m-View). x d o) items-end ∙ rewrite-empty (parOf p r) (withPr g₀ alone) (itemsIn p v) w o n π ready (k .rest) (k .on .facts) d (t .0) in
                 let x : 0 < length {A = Item} [] = subst (λ (l : List Item). 0 < length l) y b in let j : ⊥ = omega arith in j
-        go (no q) (yes x) = rw x (counted-is ∙ ap below (sym (ap length counted-is ∙ length-below c)), uncounted-is)
+        go (no q) (yes x) = rw x (counted-is ∙ ap below (sym (ap length counted-is ∙ length-below c)), uncounted-is, subst (λ (y : ℕ). y < p .S) (sym (ap length counted-is ∙ length-below c)) part)
         go (no q) (no x) = absurd (q (same rag))
           where
             same : Ragged (parOf p r) noDrive (itemsIn p u) z → z ≡ o

@@ -1,5 +1,4 @@
 use Prim.Native.Nat.{ℕ, _+_, _*_}
-use Rattle.defs.specs.Engine.Call.{close}
 use Rattle.defs.specs.Lists.{only}
 use Rattle.defs.specs.Memory.{mkState, cell, filledIn, addEntry}
 use borrow.Author.Needs.{needs}

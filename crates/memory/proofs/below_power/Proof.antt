@@ -1,5 +1,4 @@
 use Prim.Native.Nat.{ℕ, _*_, _%_, _^_, _≤_, _<_}
-use Rattle.defs.specs.Engine.Call.{close}
 use borrow.Author.Needs.{needs}
 use borrow.Author.Tests.{lt-ltb}
 use lib.Dec.{ltb, lit<}

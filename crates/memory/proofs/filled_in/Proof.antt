@@ -1,4 +1,3 @@
-use Rattle.defs.specs.Engine.Call.{close}
 use Rattle.defs.specs.Memory.{filledIn}
 use borrow.Author.Needs.{needs}
 use Rattle.memory.proofs.filled_in.Statement.{statement}

@@ -1,5 +1,4 @@
 use Prim.Native.Nat.{_+_, _-_, _≤_}
-use Rattle.defs.specs.Engine.Call.{close}
 use Rattle.defs.specs.Lists.{upFrom, indexOf}
 use Rattle.defs.specs.Memory.{slotCount, slots, isFilling, fillingSlot}
 use Rattle.laws.specs.Ranges.{found-hit, found-miss, found-end, found-start}

@@ -1,5 +1,4 @@
 use Prim.Native.Nat.{ℕ}
-use Rattle.defs.specs.Engine.Call.{close}
 use Rattle.defs.specs.Lists.{upFrom, below}
 use Rattle.defs.specs.Memory.{slotCount, slots, isFilling, fillingSlot, hasFilling}
 use Rattle.laws.specs.Ranges.{indexOf-any}

@@ -1,5 +1,4 @@
 use Prim.Native.Nat.{_-_, _≤_}
-use Rattle.defs.specs.Engine.Call.{close}
 use Rattle.defs.specs.Lists.{upFrom, any}
 use Rattle.defs.specs.Memory.{holdsAt, holds}
 use Rattle.scans.specs.Scans.{any-found, any-passed, any-ended, any-start}

@@ -1,5 +1,4 @@
 use Prim.Native.Nat.{ℕ, _+_, _-_, _≤_}
-use Rattle.defs.specs.Engine.Call.{close}
 use Rattle.defs.specs.Lists.{upFrom, keep}
 use Rattle.defs.specs.Memory.{slotCount, slots, isFree, inFlight}
 use Rattle.scans.specs.Scans.{kept-one, kept-none, kept-ended, kept-start}

@@ -1,4 +1,3 @@
-use Rattle.defs.specs.Engine.Call.{close}
 use Rattle.defs.specs.Memory.{isFull, isFilling}
 use borrow.Author.Needs.{needs}
 use mathlib.Core.Bool.{Bool, not, _&&_}

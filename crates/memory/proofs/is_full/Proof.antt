@@ -1,4 +1,3 @@
-use Rattle.defs.specs.Engine.Call.{close}
 use Rattle.defs.specs.Memory.{filledIn, isFull}
 use borrow.Author.Needs.{needs}
 use lib.Dec.{leb}

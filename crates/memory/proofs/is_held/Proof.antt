@@ -1,5 +1,4 @@
 use Prim.Native.Nat.{_/_, _%_}
-use Rattle.defs.specs.Engine.Call.{close}
 use Rattle.defs.specs.Memory.{filledIn, holdsAt}
 use borrow.Author.Needs.{needs}
 use borrow.Author.Tests.{lt-ltb, le-ltb, eq-eqb, ne-eqb}

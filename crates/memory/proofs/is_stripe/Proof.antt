@@ -1,5 +1,4 @@
 use Prim.Native.Nat.{ℕ}
-use Rattle.defs.specs.Engine.Call.{close}
 use Rattle.defs.specs.Memory.{stripeIn}
 use borrow.Author.Needs.{needs}
 use lib.Dec.{eqb}

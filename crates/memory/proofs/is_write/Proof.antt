@@ -1,4 +1,3 @@
-use Rattle.defs.specs.Engine.Call.{close}
 use Rattle.defs.specs.Memory.{isWrite}
 use borrow.Author.Needs.{needs}
 use Rattle.memory.proofs.is_write.Statement.{statement}

@@ -1,4 +1,3 @@
-use Rattle.defs.specs.Engine.Call.{close}
 use Rattle.defs.specs.Memory.{landedIn}
 use borrow.Author.Needs.{needs}
 use mathlib.Core.Path.{refl}

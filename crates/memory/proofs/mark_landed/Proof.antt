@@ -1,5 +1,4 @@
 use Prim.Native.Nat.{ℕ, _+_, _*_}
-use Rattle.defs.specs.Engine.Call.{close}
 use Rattle.defs.specs.Memory.{mkState, cell, landedIn, landedMask, markLanded}
 use borrow.Author.Needs.{needs}
 use lib.ListN.{set}

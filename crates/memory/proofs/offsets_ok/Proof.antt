@@ -1,5 +1,4 @@
 use Prim.Native.Nat.{_-_, _≤_}
-use Rattle.defs.specs.Engine.Call.{close}
 use Rattle.defs.specs.Lists.{all}
 use Rattle.scans.specs.Scans.{all-broken-in, all-passed-in, all-ended-in}
 use borrow.Author.Needs.{needs}

@@ -1,5 +1,4 @@
 use Prim.Native.Nat.{ℕ, _-_}
-use Rattle.defs.specs.Engine.Call.{close}
 use Rattle.defs.specs.Memory.{openSegment}
 use borrow.Author.Needs.{needs}
 use mathlib.Core.Path.{ap}

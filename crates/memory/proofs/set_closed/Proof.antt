@@ -1,4 +1,3 @@
-use Rattle.defs.specs.Engine.Call.{close}
 use Rattle.defs.specs.Memory.{setClosed}
 use mathlib.Core.Path.{refl}
 use Rattle.memory.proofs.set_closed.Statement.{statement}

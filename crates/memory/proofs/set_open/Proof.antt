@@ -1,5 +1,4 @@
 use Prim.Native.Nat.{ℕ}
-use Rattle.defs.specs.Engine.Call.{close}
 use Rattle.defs.specs.Memory.{mkState, setOpen}
 use borrow.Author.Needs.{needs}
 use mathlib.Core.Path.{ap}

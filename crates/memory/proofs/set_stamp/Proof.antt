@@ -1,4 +1,3 @@
-use Rattle.defs.specs.Engine.Call.{close}
 use Rattle.defs.specs.Memory.{setStamp}
 use mathlib.Core.Path.{refl}
 use Rattle.memory.proofs.set_stamp.Statement.{statement}

@@ -1,5 +1,4 @@
 use Prim.Native.Nat.{_+_, _-_, _≤_}
-use Rattle.defs.specs.Engine.Call.{close}
 use Rattle.defs.specs.Landing.{slotOf}
 use Rattle.defs.specs.Lists.{upFrom, indexOf}
 use Rattle.defs.specs.Memory.{slotCount, slots, stripeIn, isFree}

@@ -1,5 +1,4 @@
 use Prim.Native.Nat.{ℕ, _^_}
-use Rattle.defs.specs.Engine.Call.{close}
 use Rattle.defs.specs.Memory.{stripeIn, filledIn, landedIn, slotOk}
 use Rattle.defs.specs.Params.{dataCount}
 use borrow.Author.Needs.{needs}

@@ -1,5 +1,4 @@
 use Prim.Native.Nat.{_-_, _≤_}
-use Rattle.defs.specs.Engine.Call.{close}
 use Rattle.defs.specs.Lists.{upFrom, all}
 use Rattle.defs.specs.Memory.{slotCount, slots, slotOk}
 use Rattle.scans.specs.Scans.{all-broken, all-passed, all-ended, all-start}

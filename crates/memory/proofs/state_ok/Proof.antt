@@ -1,5 +1,4 @@
 use Prim.Native.Nat.{_^_}
-use Rattle.defs.specs.Engine.Call.{close}
 use Rattle.defs.specs.Lists.{all}
 use Rattle.defs.specs.Memory.{slots, slotOk, stateOk}
 use borrow.Author.Needs.{needs}

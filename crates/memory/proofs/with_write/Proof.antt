@@ -1,5 +1,4 @@
 use Prim.Native.Nat.{_*_}
-use Rattle.defs.specs.Engine.Call.{close}
 use Rattle.defs.specs.Lists.{only}
 use borrow.Author.Needs.{needs}
 use lib.Bits.{bitOr, or-zero-r}

@@ -1,5 +1,4 @@
 use Prim.Native.Nat.{ℕ, _+_, _-_, _≤_}
-use Rattle.defs.specs.Engine.Call.{close}
 use Rattle.defs.specs.Landing.{writesIn}
 use Rattle.defs.specs.Lists.{upFrom, keep, tally}
 use Rattle.defs.specs.Memory.{filledIn, isWrite}

@@ -1,4 +1,3 @@
-use Rattle.defs.specs.Engine.Call.{close}
 use Rattle.defs.specs.Memory.{zeroState}
 use borrow.Author.Needs.{needs}
 use Rattle.memory.proofs.zero_state.Statement.{statement}

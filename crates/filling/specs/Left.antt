@@ -1,0 +1,100 @@
+-- What the functions leave, put together as the definitions have it (01, Write). Assumes nothing.
+use Prim.Native.Nat.{ℕ, suc, _+_, min, _≤_, _<_}
+use Rattle.defs.specs.Drives.{View, viewOf, Store, Disk, pointerOf, storeDisk, storeAll, zoneOn, emptyZones, headerStores}
+use Rattle.defs.specs.Lists.{upFrom, below, keep, firstOr}
+use Rattle.defs.specs.Memory.{setOpen}
+use Rattle.defs.specs.Params.{inRange, capacity, imageLen, pointersLen, drivesOf}
+use Rattle.defs.specs.Write.{opens, scarce, Placed, Sending, openedBy}
+use Rattle.defs.specs.declared.Params.{Params}
+use Rattle.defs.specs.declared.State.{State}
+use Rattle.filling.specs.declared.Opened.{Opened}
+use Rattle.filling.specs.declared.Put.{Put}
+use Rattle.filling.specs.declared.Taken.{Taken}
+use Rattle.laws.specs.Geometry.{ranged, capacity-low}
+use Rattle.laws.specs.Ranges.{all-in-below, first-passes}
+use Rattle.laws.specs.Stores.{stores-nil}
+use Rattle.views.specs.Views.{seen}
+use Rattle.zones.specs.Empty.{emptyBy, empty-list}
+use Rattle.zones.specs.Made.{madeOf, Storing}
+use Rattle.zones.specs.declared.Made.{Made}
+use borrow.Author.Tests.{eqb-true, le-ltb, le-leb, lt-leb}
+use lib.Dec.{leb, ltb, eqb}
+use lib.ListN.{length, take}
+use mathlib.Core.Bool.{Bool, true, false, cond}
+use mathlib.Core.List.{List, []}
+use mathlib.Core.Path.{_≡_, sym, ap, ap₂, _∙_, subst}
+use native.Mathlib.Decide.{decLe}
+use native.Mathlib.Omega.{arith}
+
+-- the stores of the headers, where a segment is opened
+abbrev pub openStores : Params → Disk → State → List Store
+openStores p k st = cond (opens p st) (headerStores p (firstOr 0 (emptyZones p (seen p k))) (suc (st .serial .0)) 0) []
+
+-- 01, Write; Store count: the first n of the headers' stores are made on the bytes k, which are then k′; r says whether more were due, and
+-- has the state with the segment open if not
+pub record Opening (p : Params) (st : State) (n : ℕ) (k : Disk) (r : Opened) (k′ : Disk) : Type 0 where
+  pub cut : r .cut ≡ ltb n (length (openStores p k st))
+  pub disk : k′ ≡ storeAll (storeDisk p) (take n (openStores p k st)) k
+  pub state : r .cut ≡ false → r .state ≡ openedBy p (seen p k) st
+
+-- a data position filled
+abbrev pub placedBy : Put → List ℕ → Placed
+placedBy r fl = record { state = r .state; inflight = fl; drive = r .drive }
+
+-- a block sent, its segment open
+abbrev pub takenBy : Taken → List ℕ → Sending
+takenBy r fl = record { stores = []; state = r .state; inflight = fl; stripe = r .stripe; drive = r .drive }
+
+-- ---- the three ends of an opening
+
+module _ (p : Params) (st : State) (n : ℕ) (k : Disk) where
+  -- none is due
+  pub opening-none : opens p st ≡ false → Opening p st n k (record { cut = false; state = st }) k
+  unfolding openedBy
+  opening-none e =
+      let g = firstOr 0 (emptyZones p (seen p k)) in
+      let hs = headerStores p g (suc (st .serial .0)) 0 in
+      let q : openStores p k st ≡ [] = ap (λ (x : Bool). cond x hs []) e in
+      record {
+        cut = sym (le-ltb n (length (openStores p k st)) (omega (arith, ap length q)));
+        disk = sym (ap (λ (x : List Store). storeAll (storeDisk p) (take n x) k) q ∙ stores-nil (storeDisk p) n k);
+        state = λ _. sym (ap (λ (x : Bool). cond x (setOpen st g (suc (st .serial .0))) st) e);
+      }
+
+  module _ (e : opens p st ≡ true) (g s : ℕ) (lowest : g ≡ firstOr 0 (emptyZones p (seen p k))) (next : s ≡ suc (st .serial .0)) where
+    stores-are : headerStores p g s 0 ≡ openStores p k st
+    stores-are =
+        ap₂ (λ (x y : ℕ). headerStores p x y 0) lowest next
+        ∙ ap (λ (x : Bool). cond x (headerStores p (firstOr 0 (emptyZones p (seen p k))) (suc (st .serial .0)) 0) []) (sym e)
+
+    -- made, or cut
+    pub opening-made : (r : Made) (k′ : Disk) (st′ : State) → Storing p n (headerStores p g s 0) k r k′ → (r .cut ≡ false → st′ ≡ setOpen st g s)
+        → Opening p st n k (record { cut = r .cut; state = st′ }) k′
+    unfolding madeOf openedBy
+    opening-made r k′ st′ h f = record {
+      cut = ap (λ (x : Made). x .cut) (h .made) ∙ ap (λ (x : List Store). ltb n (length x)) stores-are;
+      disk = h .disk ∙ ap (λ (x : List Store). storeAll (storeDisk p) (take n x) k) stores-are;
+      state = λ c. f c ∙ ap₂ (λ (x y : ℕ). setOpen st x y) lowest next
+          ∙ ap (λ (x : Bool). cond x (setOpen st (firstOr 0 (emptyZones p (seen p k))) (suc (st .serial .0))) st) (sym e);
+    }
+
+-- 01, Refusals, 8: a count that stops at n + 1
+pub scarce-count : (p : Params) (v : View) (n : ℕ) → leb (min (n + 1) (length (emptyZones p v))) n ≡ scarce p v n
+unfolding scarce
+scarce-count p v n = go (decLe (length (emptyZones p v)) n)
+  where
+    go : Dec (length (emptyZones p v) ≤ n) → leb (min (n + 1) (length (emptyZones p v))) n ≡ leb (length (emptyZones p v)) n
+    go (yes h) = le-leb (min (n + 1) (length (emptyZones p v))) n (omega arith) ∙ sym (le-leb (length (emptyZones p v)) n h)
+    go (no h) = lt-leb (min (n + 1) (length (emptyZones p v))) n (omega arith) ∙ sym (lt-leb (length (emptyZones p v)) n (omega arith))
+
+-- the lowest empty zone has room for a header on every drive
+pub lowest-room : (p : Params) (im ps : List ℕ) → inRange p ≡ true → length im ≡ imageLen p → length ps ≡ pointersLen p → 0 < length (emptyZones p (viewOf p im ps))
+    → (d : ℕ) → d < p .N → pointerOf p ps d (zoneOn (firstOr 0 (emptyZones p (viewOf p im ps))) d) < capacity p
+unfolding emptyBy drivesOf below
+lowest-room p im ps ok hi hp h d hd =
+    let e : emptyZones p (viewOf p im ps) ≡ keep (emptyBy p ps) (below (p .Z)) = empty-list p im ps hi hp in
+    let l : 0 < length (keep (emptyBy p ps) (upFrom 0 (p .Z))) = subst (λ (x : List ℕ). 0 < length x) e h in
+    let g = firstOr 0 (keep (emptyBy p ps) (upFrom 0 (p .Z))) in
+    let q : eqb (pointerOf p ps d (zoneOn g d)) 0 ≡ true = all-in-below (λ x. eqb (pointerOf p ps x (zoneOn g x)) 0) (p .N) d (first-passes (emptyBy p ps) 0 (p .Z) l .0) hd in
+    let z : pointerOf p ps d (zoneOn g d) ≡ 0 = eqb-true (pointerOf p ps d (zoneOn g d)) 0 q in
+    subst (λ (x : List ℕ). pointerOf p ps d (zoneOn (firstOr 0 x) d) < capacity p) (sym e) (omega (arith, z, capacity-low p (ranged p ok)))

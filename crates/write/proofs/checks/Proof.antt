@@ -1,0 +1,244 @@
+use Rattle.defs.specs.Drives.{Disk, mkDisk}
+use Rattle.defs.specs.Engine.{lentOk}
+use Rattle.defs.specs.Memory.{Memory, mkMemory, stateOk}
+use Rattle.defs.specs.Params.{inRange}
+use Rattle.defs.specs.Write.{opens, noStamp, noSerial, mustWait, scarce}
+use Rattle.views.specs.Views.{seen}
+use Rattle.write.specs.Order.{range-fails, range-passes, lengths-fail, block-fails, lengths-pass, missing-fails, missing-passes, address-fails, address-passes, stamp-fails, serial-fails, counts-pass, wait-fails, wait-passes, zones-fail, zones-suffice, state-fails, state-passes}
+use Rattle.write.specs.Ready.{lent-long}
+use borrow.Author.Needs.{needs}
+use borrow.Author.Tests.{not-true, not-false}
+use mathlib.Core.Bool.{true, false, cond}
+use mathlib.Core.Path.{_≡_, sym, ap, _∙_}
+use Rattle.write.proofs.checks.Statement.{statement}
+use Rattle.write.proofs.checks.Tie as tie
+
+in-range-requires : tie.Need-in-range-requires
+in-range-requires c κs = search needs
+
+returns : tie.Need-returns
+returns c =
+    let a = c .before .before .before .before .before .before .before .before .args in
+    let st = a .state in
+    let k : Disk = mkDisk (a .image .now) (a .pointers .now) in
+    let m : Memory = mkMemory st (a .addresses .now) (a .compact .now) (a .inflight .now) in
+    let er : inRange (a .p) ≡ false = sym (c .before .in-range .ensures) ∙ not-true (c .before .in-range .result) (c .if1 .taken) in
+    range-fails (a .p) k m (a .address .0) (a .block .now) er
+
+lent-ok-requires : tie.Need-lent-ok-requires
+lent-ok-requires c κs = sym (c .before .in-range .ensures) ∙ not-false (c .before .in-range .result) (c .if1 .left)
+
+returns-2 : tie.Need-returns-2
+returns-2 c =
+    let a = c .before .before .before .before .before .before .before .before .before .before .args in
+    let st = a .state in
+    let k : Disk = mkDisk (a .image .now) (a .pointers .now) in
+    let m : Memory = mkMemory st (a .addresses .now) (a .compact .now) (a .inflight .now) in
+    let er : inRange (a .p) ≡ true = sym (c .before .before .before .in-range .ensures) ∙ not-false (c .before .before .before .in-range .result) (c .before .before .if1 .left) in
+    let el : lentOk (a .p) k m ≡ false = sym (c .before .lent-ok .ensures st) ∙ not-true (c .before .lent-ok .result) (c .if2 .taken) in
+    lengths-fail (a .p) k m (a .address .0) (a .block .now) el
+    ∙ range-passes (a .p) k m (a .address .0) (a .block .now) er
+
+returns-3 : tie.Need-returns-3
+returns-3 c =
+    let a = c .before .before .before .before .before .before .before .before .before .before .before .before .args in
+    let st = a .state in
+    let k : Disk = mkDisk (a .image .now) (a .pointers .now) in
+    let m : Memory = mkMemory st (a .addresses .now) (a .compact .now) (a .inflight .now) in
+    let er : inRange (a .p) ≡ true = sym (c .before .before .before .before .before .in-range .ensures) ∙ not-false (c .before .before .before .before .before .in-range .result) (c .before .before .before .before .if1 .left) in
+    let el : lentOk (a .p) k m ≡ true = sym (c .before .before .before .lent-ok .ensures st) ∙ not-false (c .before .before .before .lent-ok .result) (c .before .before .if2 .left) in
+    block-fails (a .p) k m (a .address .0) (a .block .now) el (c .if3 .taken)
+    ∙ range-passes (a .p) k m (a .address .0) (a .block .now) er
+
+returns-4 : tie.Need-returns-4
+returns-4 c =
+    let a = c .before .before .before .before .before .before .before .before .before .before .before .before .before .before .args in
+    let st = a .state in
+    let k : Disk = mkDisk (a .image .now) (a .pointers .now) in
+    let m : Memory = mkMemory st (a .addresses .now) (a .compact .now) (a .inflight .now) in
+    let er : inRange (a .p) ≡ true = sym (c .before .before .before .before .before .before .before .in-range .ensures) ∙ not-false (c .before .before .before .before .before .before .before .in-range .result) (c .before .before .before .before .before .before .if1 .left) in
+    let el : lentOk (a .p) k m ≡ true = sym (c .before .before .before .before .before .lent-ok .ensures st) ∙ not-false (c .before .before .before .before .before .lent-ok .result) (c .before .before .before .before .if2 .left) in
+    missing-fails (a .p) k m (a .address .0) (a .block .now) (c .if4 .taken)
+    ∙ lengths-pass (a .p) k m (a .address .0) (a .block .now) el (c .before .before .if3 .left)
+    ∙ range-passes (a .p) k m (a .address .0) (a .block .now) er
+
+returns-5 : tie.Need-returns-5
+returns-5 c =
+    let a = c .before .before .before .before .before .before .before .before .before .before .before .before .before .before .before .before .args in
+    let st = a .state in
+    let k : Disk = mkDisk (a .image .now) (a .pointers .now) in
+    let m : Memory = mkMemory st (a .addresses .now) (a .compact .now) (a .inflight .now) in
+    let er : inRange (a .p) ≡ true = sym (c .before .before .before .before .before .before .before .before .before .in-range .ensures) ∙ not-false (c .before .before .before .before .before .before .before .before .before .in-range .result) (c .before .before .before .before .before .before .before .before .if1 .left) in
+    let el : lentOk (a .p) k m ≡ true = sym (c .before .before .before .before .before .before .before .lent-ok .ensures st) ∙ not-false (c .before .before .before .before .before .before .before .lent-ok .result) (c .before .before .before .before .before .before .if2 .left) in
+    address-fails (a .p) k m (a .address .0) (a .block .now) (c .if5 .taken)
+    ∙ missing-passes (a .p) k m (a .address .0) (a .block .now) (c .before .before .if4 .left)
+    ∙ lengths-pass (a .p) k m (a .address .0) (a .block .now) el (c .before .before .before .before .if3 .left)
+    ∙ range-passes (a .p) k m (a .address .0) (a .block .now) er
+
+no-stamp-requires : tie.Need-no-stamp-requires
+no-stamp-requires c κs = search needs
+
+returns-6 : tie.Need-returns-6
+returns-6 c =
+    let a = c .before .before .before .before .before .before .before .before .before .before .before .before .before .before .before .before .before .before .args in
+    let st = a .state in
+    let k : Disk = mkDisk (a .image .now) (a .pointers .now) in
+    let m : Memory = mkMemory st (a .addresses .now) (a .compact .now) (a .inflight .now) in
+    let er : inRange (a .p) ≡ true = sym (c .before .before .before .before .before .before .before .before .before .before .before .in-range .ensures) ∙ not-false (c .before .before .before .before .before .before .before .before .before .before .before .in-range .result) (c .before .before .before .before .before .before .before .before .before .before .if1 .left) in
+    let el : lentOk (a .p) k m ≡ true = sym (c .before .before .before .before .before .before .before .before .before .lent-ok .ensures st) ∙ not-false (c .before .before .before .before .before .before .before .before .before .lent-ok .result) (c .before .before .before .before .before .before .before .before .if2 .left) in
+    let es : noStamp st ≡ true = sym (c .before .no-stamp .ensures) ∙ c .if6 .taken in
+    stamp-fails (a .p) k m (a .address .0) (a .block .now) es
+    ∙ address-passes (a .p) k m (a .address .0) (a .block .now) (c .before .before .if5 .left)
+    ∙ missing-passes (a .p) k m (a .address .0) (a .block .now) (c .before .before .before .before .if4 .left)
+    ∙ lengths-pass (a .p) k m (a .address .0) (a .block .now) el (c .before .before .before .before .before .before .if3 .left)
+    ∙ range-passes (a .p) k m (a .address .0) (a .block .now) er
+
+no-serial-requires : tie.Need-no-serial-requires
+no-serial-requires c κs = search needs
+
+returns-7 : tie.Need-returns-7
+returns-7 c =
+    let a = c .before .before .before .before .before .before .before .before .before .before .before .before .before .before .before .before .before .before .before .before .args in
+    let st = a .state in
+    let k : Disk = mkDisk (a .image .now) (a .pointers .now) in
+    let m : Memory = mkMemory st (a .addresses .now) (a .compact .now) (a .inflight .now) in
+    let er : inRange (a .p) ≡ true = sym (c .before .before .before .before .before .before .before .before .before .before .before .before .before .in-range .ensures) ∙ not-false (c .before .before .before .before .before .before .before .before .before .before .before .before .before .in-range .result) (c .before .before .before .before .before .before .before .before .before .before .before .before .if1 .left) in
+    let el : lentOk (a .p) k m ≡ true = sym (c .before .before .before .before .before .before .before .before .before .before .before .lent-ok .ensures st) ∙ not-false (c .before .before .before .before .before .before .before .before .before .before .before .lent-ok .result) (c .before .before .before .before .before .before .before .before .before .before .if2 .left) in
+    let es : noStamp st ≡ false = sym (c .before .before .before .no-stamp .ensures) ∙ c .before .before .if6 .left in
+    let en : noSerial (a .p) st ≡ true = sym (c .before .no-serial .ensures) ∙ c .if7 .taken in
+    serial-fails (a .p) k m (a .address .0) (a .block .now) es en
+    ∙ address-passes (a .p) k m (a .address .0) (a .block .now) (c .before .before .before .before .if5 .left)
+    ∙ missing-passes (a .p) k m (a .address .0) (a .block .now) (c .before .before .before .before .before .before .if4 .left)
+    ∙ lengths-pass (a .p) k m (a .address .0) (a .block .now) el (c .before .before .before .before .before .before .before .before .if3 .left)
+    ∙ range-passes (a .p) k m (a .address .0) (a .block .now) er
+
+must-wait-requires : tie.Need-must-wait-requires
+must-wait-requires c κs = sym (c .before .before .before .before .before .before .before .before .before .before .before .before .before .in-range .ensures) ∙ not-false (c .before .before .before .before .before .before .before .before .before .before .before .before .before .in-range .result) (c .before .before .before .before .before .before .before .before .before .before .before .before .if1 .left)
+
+returns-8 : tie.Need-returns-8
+returns-8 c =
+    let a = c .before .before .before .before .before .before .before .before .before .before .before .before .before .before .before .before .before .before .before .before .before .before .args in
+    let st = a .state in
+    let k : Disk = mkDisk (a .image .now) (a .pointers .now) in
+    let m : Memory = mkMemory st (a .addresses .now) (a .compact .now) (a .inflight .now) in
+    let er : inRange (a .p) ≡ true = sym (c .before .before .before .before .before .before .before .before .before .before .before .before .before .before .before .in-range .ensures) ∙ not-false (c .before .before .before .before .before .before .before .before .before .before .before .before .before .before .before .in-range .result) (c .before .before .before .before .before .before .before .before .before .before .before .before .before .before .if1 .left) in
+    let el : lentOk (a .p) k m ≡ true = sym (c .before .before .before .before .before .before .before .before .before .before .before .before .before .lent-ok .ensures st) ∙ not-false (c .before .before .before .before .before .before .before .before .before .before .before .before .before .lent-ok .result) (c .before .before .before .before .before .before .before .before .before .before .before .before .if2 .left) in
+    let es : noStamp st ≡ false = sym (c .before .before .before .before .before .no-stamp .ensures) ∙ c .before .before .before .before .if6 .left in
+    let en : noSerial (a .p) st ≡ false = sym (c .before .before .before .no-serial .ensures) ∙ c .before .before .if7 .left in
+    let ew : mustWait (a .p) st ≡ true = sym (c .before .must-wait .ensures) ∙ c .if8 .taken in
+    wait-fails (a .p) k m (a .address .0) (a .block .now) ew
+    ∙ counts-pass (a .p) k m (a .address .0) (a .block .now) es en
+    ∙ address-passes (a .p) k m (a .address .0) (a .block .now) (c .before .before .before .before .before .before .if5 .left)
+    ∙ missing-passes (a .p) k m (a .address .0) (a .block .now) (c .before .before .before .before .before .before .before .before .if4 .left)
+    ∙ lengths-pass (a .p) k m (a .address .0) (a .block .now) el (c .before .before .before .before .before .before .before .before .before .before .if3 .left)
+    ∙ range-passes (a .p) k m (a .address .0) (a .block .now) er
+
+reserve-requires : tie.Need-reserve-requires
+reserve-requires c κs = search needs
+
+scarce-requires : tie.Need-scarce-requires
+scarce-requires c κs =
+    let a = c .before .before .before .before .before .before .before .before .before .before .before .before .before .before .before .before .before .before .before .before .before .before .before .args in
+    let st = a .state in
+    let k : Disk = mkDisk (a .image .now) (a .pointers .now) in
+    let m : Memory = mkMemory st (a .addresses .now) (a .compact .now) (a .inflight .now) in
+    let er : inRange (a .p) ≡ true = sym (c .before .before .before .before .before .before .before .before .before .before .before .before .before .before .before .before .in-range .ensures) ∙ not-false (c .before .before .before .before .before .before .before .before .before .before .before .before .before .before .before .before .in-range .result) (c .before .before .before .before .before .before .before .before .before .before .before .before .before .before .before .if1 .left) in
+    let el : lentOk (a .p) k m ≡ true = sym (c .before .before .before .before .before .before .before .before .before .before .before .before .before .before .lent-ok .ensures st) ∙ not-false (c .before .before .before .before .before .before .before .before .before .before .before .before .before .before .lent-ok .result) (c .before .before .before .before .before .before .before .before .before .before .before .before .before .if2 .left) in
+    (er, (lent-long (a .p) k m el .1, c .reserve .ensures .1))
+
+returns-9 : tie.Need-returns-9
+returns-9 c =
+    let a = c .before .before .before .before .before .before .before .before .before .before .before .before .before .before .before .before .before .before .before .before .before .before .before .before .before .args in
+    let st = a .state in
+    let k : Disk = mkDisk (a .image .now) (a .pointers .now) in
+    let m : Memory = mkMemory st (a .addresses .now) (a .compact .now) (a .inflight .now) in
+    let er : inRange (a .p) ≡ true = sym (c .before .before .before .before .before .before .before .before .before .before .before .before .before .before .before .before .before .before .in-range .ensures) ∙ not-false (c .before .before .before .before .before .before .before .before .before .before .before .before .before .before .before .before .before .before .in-range .result) (c .before .before .before .before .before .before .before .before .before .before .before .before .before .before .before .before .before .if1 .left) in
+    let el : lentOk (a .p) k m ≡ true = sym (c .before .before .before .before .before .before .before .before .before .before .before .before .before .before .before .before .lent-ok .ensures st) ∙ not-false (c .before .before .before .before .before .before .before .before .before .before .before .before .before .before .before .before .lent-ok .result) (c .before .before .before .before .before .before .before .before .before .before .before .before .before .before .before .if2 .left) in
+    let es : noStamp st ≡ false = sym (c .before .before .before .before .before .before .before .before .no-stamp .ensures) ∙ c .before .before .before .before .before .before .before .if6 .left in
+    let en : noSerial (a .p) st ≡ false = sym (c .before .before .before .before .before .before .no-serial .ensures) ∙ c .before .before .before .before .before .if7 .left in
+    let ew : mustWait (a .p) st ≡ false = sym (c .before .before .before .before .must-wait .ensures) ∙ c .before .before .before .if8 .left in
+    let long = lent-long (a .p) k m el in
+    let ez : scarce (a .p) (seen (a .p) k) (cond (opens (a .p) st) 2 1) ≡ true =
+    ap (scarce (a .p) (seen (a .p) k)) (sym (c .before .before .reserve .ensures .0)) ∙ sym (c .before .scarce .ensures (a .image .now) (long .0)) ∙ c .if9 .taken in
+    zones-fail (a .p) k m (a .address .0) (a .block .now) ez
+    ∙ wait-passes (a .p) k m (a .address .0) (a .block .now) ew
+    ∙ counts-pass (a .p) k m (a .address .0) (a .block .now) es en
+    ∙ address-passes (a .p) k m (a .address .0) (a .block .now) (c .before .before .before .before .before .before .before .before .before .if5 .left)
+    ∙ missing-passes (a .p) k m (a .address .0) (a .block .now) (c .before .before .before .before .before .before .before .before .before .before .before .if4 .left)
+    ∙ lengths-pass (a .p) k m (a .address .0) (a .block .now) el (c .before .before .before .before .before .before .before .before .before .before .before .before .before .if3 .left)
+    ∙ range-passes (a .p) k m (a .address .0) (a .block .now) er
+
+state-ok-requires : tie.Need-state-ok-requires
+state-ok-requires c κs = search needs
+
+returns-10 : tie.Need-returns-10
+returns-10 c =
+    let a = c .before .before .before .before .before .before .before .before .before .before .before .before .before .before .before .before .before .before .before .before .before .before .before .before .before .before .before .args in
+    let st = a .state in
+    let k : Disk = mkDisk (a .image .now) (a .pointers .now) in
+    let m : Memory = mkMemory st (a .addresses .now) (a .compact .now) (a .inflight .now) in
+    let er : inRange (a .p) ≡ true = sym (c .before .before .before .before .before .before .before .before .before .before .before .before .before .before .before .before .before .before .before .before .in-range .ensures) ∙ not-false (c .before .before .before .before .before .before .before .before .before .before .before .before .before .before .before .before .before .before .before .before .in-range .result) (c .before .before .before .before .before .before .before .before .before .before .before .before .before .before .before .before .before .before .before .if1 .left) in
+    let el : lentOk (a .p) k m ≡ true = sym (c .before .before .before .before .before .before .before .before .before .before .before .before .before .before .before .before .before .before .lent-ok .ensures st) ∙ not-false (c .before .before .before .before .before .before .before .before .before .before .before .before .before .before .before .before .before .before .lent-ok .result) (c .before .before .before .before .before .before .before .before .before .before .before .before .before .before .before .before .before .if2 .left) in
+    let es : noStamp st ≡ false = sym (c .before .before .before .before .before .before .before .before .before .before .no-stamp .ensures) ∙ c .before .before .before .before .before .before .before .before .before .if6 .left in
+    let en : noSerial (a .p) st ≡ false = sym (c .before .before .before .before .before .before .before .before .no-serial .ensures) ∙ c .before .before .before .before .before .before .before .if7 .left in
+    let ew : mustWait (a .p) st ≡ false = sym (c .before .before .before .before .before .before .must-wait .ensures) ∙ c .before .before .before .before .before .if8 .left in
+    let long = lent-long (a .p) k m el in
+    let ez : scarce (a .p) (seen (a .p) k) (cond (opens (a .p) st) 2 1) ≡ false =
+    ap (scarce (a .p) (seen (a .p) k)) (sym (c .before .before .before .before .reserve .ensures .0)) ∙ sym (c .before .before .before .scarce .ensures (a .image .now) (long .0)) ∙ c .before .before .if9 .left in
+    let eo : stateOk (a .p) st ≡ false = sym (c .before .state-ok .ensures) ∙ not-true (c .before .state-ok .result) (c .if10 .taken) in
+    state-fails (a .p) k m (a .address .0) (a .block .now) eo
+    ∙ zones-suffice (a .p) k m (a .address .0) (a .block .now) ez
+    ∙ wait-passes (a .p) k m (a .address .0) (a .block .now) ew
+    ∙ counts-pass (a .p) k m (a .address .0) (a .block .now) es en
+    ∙ address-passes (a .p) k m (a .address .0) (a .block .now) (c .before .before .before .before .before .before .before .before .before .before .before .if5 .left)
+    ∙ missing-passes (a .p) k m (a .address .0) (a .block .now) (c .before .before .before .before .before .before .before .before .before .before .before .before .before .if4 .left)
+    ∙ lengths-pass (a .p) k m (a .address .0) (a .block .now) el (c .before .before .before .before .before .before .before .before .before .before .before .before .before .before .before .if3 .left)
+    ∙ range-passes (a .p) k m (a .address .0) (a .block .now) er
+
+returns-11 : tie.Need-returns-11
+returns-11 c =
+    let a = c .before .before .before .before .before .before .before .before .before .before .before .before .before .before .before .before .before .before .before .before .before .before .before .before .before .before .before .args in
+    let st = a .state in
+    let k : Disk = mkDisk (a .image .now) (a .pointers .now) in
+    let m : Memory = mkMemory st (a .addresses .now) (a .compact .now) (a .inflight .now) in
+    let er : inRange (a .p) ≡ true = sym (c .before .before .before .before .before .before .before .before .before .before .before .before .before .before .before .before .before .before .before .before .in-range .ensures) ∙ not-false (c .before .before .before .before .before .before .before .before .before .before .before .before .before .before .before .before .before .before .before .before .in-range .result) (c .before .before .before .before .before .before .before .before .before .before .before .before .before .before .before .before .before .before .before .if1 .left) in
+    let el : lentOk (a .p) k m ≡ true = sym (c .before .before .before .before .before .before .before .before .before .before .before .before .before .before .before .before .before .before .lent-ok .ensures st) ∙ not-false (c .before .before .before .before .before .before .before .before .before .before .before .before .before .before .before .before .before .before .lent-ok .result) (c .before .before .before .before .before .before .before .before .before .before .before .before .before .before .before .before .before .if2 .left) in
+    let es : noStamp st ≡ false = sym (c .before .before .before .before .before .before .before .before .before .before .no-stamp .ensures) ∙ c .before .before .before .before .before .before .before .before .before .if6 .left in
+    let en : noSerial (a .p) st ≡ false = sym (c .before .before .before .before .before .before .before .before .no-serial .ensures) ∙ c .before .before .before .before .before .before .before .if7 .left in
+    let ew : mustWait (a .p) st ≡ false = sym (c .before .before .before .before .before .before .must-wait .ensures) ∙ c .before .before .before .before .before .if8 .left in
+    let long = lent-long (a .p) k m el in
+    let ez : scarce (a .p) (seen (a .p) k) (cond (opens (a .p) st) 2 1) ≡ false =
+    ap (scarce (a .p) (seen (a .p) k)) (sym (c .before .before .before .before .reserve .ensures .0)) ∙ sym (c .before .before .before .scarce .ensures (a .image .now) (long .0)) ∙ c .before .before .if9 .left in
+    let eo : stateOk (a .p) st ≡ true = sym (c .before .state-ok .ensures) ∙ not-false (c .before .state-ok .result) (c .if10 .left) in
+    state-passes (a .p) k m (a .address .0) (a .block .now) eo
+    ∙ zones-suffice (a .p) k m (a .address .0) (a .block .now) ez
+    ∙ wait-passes (a .p) k m (a .address .0) (a .block .now) ew
+    ∙ counts-pass (a .p) k m (a .address .0) (a .block .now) es en
+    ∙ address-passes (a .p) k m (a .address .0) (a .block .now) (c .before .before .before .before .before .before .before .before .before .before .before .if5 .left)
+    ∙ missing-passes (a .p) k m (a .address .0) (a .block .now) (c .before .before .before .before .before .before .before .before .before .before .before .before .before .if4 .left)
+    ∙ lengths-pass (a .p) k m (a .address .0) (a .block .now) el (c .before .before .before .before .before .before .before .before .before .before .before .before .before .before .before .if3 .left)
+    ∙ range-passes (a .p) k m (a .address .0) (a .block .now) er
+
+pub checks-spec : {M : Type 1} → statement M
+checks-spec =
+    tie.close
+    (tie.spec
+    in-range-requires
+    returns
+    lent-ok-requires
+    returns-2
+    returns-3
+    returns-4
+    returns-5
+    no-stamp-requires
+    returns-6
+    no-serial-requires
+    returns-7
+    must-wait-requires
+    returns-8
+    reserve-requires
+    scarce-requires
+    returns-9
+    state-ok-requires
+    returns-10
+    returns-11)
