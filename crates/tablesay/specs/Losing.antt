@@ -138,31 +138,19 @@ module _ (p : Params) (k : Disk) (m : Memory) (u : Run p k m) (lo : Lost p k m) 
 
   pub lost-write : (a : ℕ) (b : List ℕ) (n : ℕ) → Kept p (callDisk p k m (write a b n))
   unfolding callDisk callOn verdict storeCount lentBlock writeVerdict writeChecks
-  lost-write a b n = stopped (not (inRange p)) (not (lentOk p k m) || not (eqb (length b) (p .B)))
-      (rule 4 (leb (p .L) a) ∷ rule 6 (noStamp (m .state) || noSerial p (m .state)) ∷ rule 7 (mustWait p (m .state)) ∷ rule 8 (scarce p v (cond (opens p (m .state)) 2 1)) ∷ zones (stateFaults p (m .state)) ∷ [])
-      (writePlan p v m a b) n b
+  lost-write a b n = stopped _ _ _ _ n b
 
   pub lost-land : (e s n : ℕ) → Kept p (callDisk p k m (land e s n))
   unfolding callDisk callOn verdict storeCount lentBlock landVerdict landChecks
-  lost-land e s n = stopped (not (inRange p)) (not (lentOk p k m)) (rule 5 (not (waiting p (m .state) e s)) ∷ zones (stateFaults p (m .state) ++ landFaults p v m e s) ∷ []) (landPlan p v m e s) n []
+  lost-land e s n = stopped _ _ _ _ n []
 
   pub lost-close : (n : ℕ) → Kept p (callDisk p k m (close n))
   unfolding callDisk callOn verdict storeCount lentBlock closeVerdict closeChecks
-  lost-close n = stopped (not (inRange p)) (not (lentOk p k m))
-      (rule 5 (not (hasFilling p (m .state)) || (scarce p v 1 && not (isNil (idle p v (m .state) (victim p v (m .addresses))))))
-      ∷ zones (stateFaults p (m .state) ++ cond (scarce p v 1) (tableFaults p (m .addresses)) []) ∷ [])
-      (closePlan p m) n []
+  lost-close n = stopped _ _ _ _ n []
 
   pub lost-reclaim : (n : ℕ) → Kept p (callDisk p k m (reclaim n))
   unfolding callDisk callOn verdict storeCount lentBlock reclaimVerdict reclaimChecks
-  lost-reclaim n =
-      let w = victim p v (m .addresses) in
-      let st = m .state in
-      let live = not (isNil (victimLive w)) in
-      stopped (not (inRange p)) (not (lentOk p k m))
-      (rule 5 (isNone w || (live && isNil (idle p v st w))) ∷ rule 6 (live && noSerial p st) ∷ rule 7 (live && mustWait p st) ∷ rule 8 (live && opens p st && scarce p v 1)
-      ∷ zones (stateFaults p st ++ tableFaults p (m .addresses) ++ map (λ q. victimSegment w) (keep (λ q. not (between 1 (p .S) (placeBlock p q))) (victimLive w))) ∷ [])
-      (cond (isNil (victimLive w)) (resetPlan p m (victimSegment w)) (copyPlan p v m (firstOr 0 (idle p v st w)))) n []
+  lost-reclaim n = stopped _ _ _ _ n []
 
   -- ---- the rebuild
 
