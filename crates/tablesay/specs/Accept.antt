@@ -4,23 +4,24 @@ use mathlib.Core.List.{List, [], _∷_, _++_, map}
 use mathlib.Core.Bool.{true, false, not, _&&_, _||_}
 use Prim.Native.Nat.{ℕ, zero, suc, _+_, _≤_, _<_}
 use native.Mathlib.Nat.{add-zero, zero-add}
-use borrow.Author.Tests.{eq-eqb, ne-eqb, leb-false, ltb-false, eqb-false, not-false}
+use borrow.Author.Tests.{eq-eqb, ne-eqb, leb-false, ltb-false, not-false}
 use native.Mathlib.Omega.{arith}
 use lib.Dec.{leb, ltb, eqb}
 use lib.ListN.{length, getD}
 use Rattle.defs.specs.declared.Params.{Params}
 use Rattle.defs.specs.Calls.{Check}
-use Rattle.defs.specs.Drives.{View, zoneAt, pointerAt, sealedIn, dataStored, recordIn}
+use Rattle.defs.specs.Drives.{View, zoneAt, pointerAt, sealedIn}
 use Rattle.defs.specs.Faults.{pointerFaults, headerFault, serialFault, outside, twice, stripeFault, addressFault, footerFault, clashes, segmentFault, segmentFaults, imageChecks}
 use Rattle.defs.specs.Layout.{inGroupOf, Rec, mkRec}
 use Rattle.defs.specs.Lists.{below, any, keep, isNil, isIn}
 use Rattle.defs.specs.Params.{capacity, present}
 use Rattle.defs.specs.Segments.{remaining, Segment, recordsIn, segmentOf, segments, recsOn}
-use Rattle.tablesay.specs.Tests.{and-both, clash, or-left, or-right, cond-true}
+use Rattle.laws.specs.Ranges.{and-both}
 use Rattle.tablesay.specs.Checks.{Passes}
-use Rattle.tablesay.specs.Members.{In, in-map, none-in, keep-nil-in, in-below, in-getD}
+use Rattle.tablesay.specs.Members.{In, in-map, none-in, keep-nil-in, in-below}
 use Rattle.tablesay.specs.Reads.{InGroups}
 use Rattle.tablesay.specs.Segs.{in-present, length-records, record-at, recs-here, seg-is}
+use Rattle.tablesay.specs.Tests.{clash, or-left, or-right, cond-true}
 
 -- nothing is wrong on the drives
 pub record Accepted (p : Params) (v : View) (gone : ℕ) : Type 0 where
@@ -50,16 +51,6 @@ outside-in p b (r ∷ rs) q zero h =
 outside-in p b (r ∷ rs) q (suc i) h =
     ap (λ (x : ℕ). inGroupOf p x (getD rs i (mkRec 0 0 0) .stripe)) (let e : b + suc i ≡ suc b + i = omega arith in e)
     ∙ outside-in p (suc b) rs (or-right (not (inGroupOf p b (r .stripe))) (outside p (suc b) rs) q) i (omega arith)
-
-pub twice-in : (rs : List Rec) → twice rs ≡ false → (i j : ℕ) → i < j → j < length rs → getD rs j (mkRec 0 0 0) .stripe ≡ getD rs i (mkRec 0 0 0) .stripe → ⊥
-unfolding twice
-twice-in [] q i j x y e = let z : ⊥ = omega arith in z
-twice-in (r ∷ rs) q zero zero x y e = let z : ⊥ = omega arith in z
-twice-in (r ∷ rs) q zero (suc j) x y e =
-    eqb-false (getD rs j (mkRec 0 0 0) .stripe) (r .stripe)
-    (none-in (λ (u : Rec). eqb (u .stripe) (r .stripe)) rs (or-left (any (λ (u : Rec). eqb (u .stripe) (r .stripe)) rs) (twice rs) q) (getD rs j (mkRec 0 0 0)) (in-getD rs j (mkRec 0 0 0) (omega arith))) e
-twice-in (r ∷ rs) q (suc i) zero x y e = let z : ⊥ = omega arith in z
-twice-in (r ∷ rs) q (suc i) (suc j) x y e = twice-in rs (or-right (any (λ (u : Rec). eqb (u .stripe) (r .stripe)) rs) (twice rs) q) i j (omega arith) (omega arith) e
 
 module _ (p : Params) (v : View) (gone : ℕ) (acc : Accepted p v gone) where
   pub pointer-ok : (d z : ℕ) → d < p .N → z < p .Z → isIn gone d ≡ false → pointerAt v d z ≤ capacity p
@@ -124,15 +115,6 @@ module _ (p : Params) (v : View) (gone : ℕ) (acc : Accepted p v gone) where
       let rs = recordsIn p w (zoneAt v d g) in
       let i = outside-in p 0 rs (zone-stripes g d m hd q .0) o (subst (λ (x : ℕ). o < x) (sym (length-records p w (zoneAt v d g))) h) in
       ap₂ (λ (x y : ℕ). inGroupOf p x y) (sym (zero-add o)) (ap (λ (r : Rec). r .stripe) (sym (record-at p w (zoneAt v d g) o (mkRec 0 0 0) h))) ∙ i
-
-  -- no stripe is twice in a zone
-  pub stripes-differ : (g d i j : ℕ) → In g (remaining p v gone) → d < p .N → isIn gone d ≡ false → i < j → j < dataStored p (zoneAt v d g)
-      → recordIn p (sealedIn p v gone g) (zoneAt v d g) j .stripe ≡ recordIn p (sealedIn p v gone g) (zoneAt v d g) i .stripe → ⊥
-  stripes-differ g d i j m hd q h k e =
-      let w = sealedIn p v gone g in
-      let rs = recordsIn p w (zoneAt v d g) in
-      twice-in rs (zone-stripes g d m hd q .1) i j h (subst (λ (x : ℕ). j < x) (sym (length-records p w (zoneAt v d g))) k)
-      (ap (λ (r : Rec). r .stripe) (record-at p w (zoneAt v d g) j (mkRec 0 0 0) k) ∙ e ∙ ap (λ (r : Rec). r .stripe) (sym (record-at p w (zoneAt v d g) i (mkRec 0 0 0) (let z : i < dataStored p (zoneAt v d g) = omega arith in z))))
 
   pub copied-low : (g : ℕ) → In g (remaining p v gone) → segmentOf p v gone g .copied < segmentOf p v gone g .serial
   unfolding serialFault

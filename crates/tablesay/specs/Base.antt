@@ -23,15 +23,17 @@ use Rattle.defs.specs.Rank.{Cand, best, placeOr, candsOf}
 use Rattle.defs.specs.Read.{Found, lookup, foundFaults, shown, decodeFaults, storedAt, decodedAt, readPiece}
 use Rattle.defs.specs.Read.Found.{nowhere, here, away}
 use Rattle.defs.specs.Segments.{segmentOf, segments, offsetOn, storedPiece, pieceOf, offsetOf, candOf, candidates, addressTable, compactTable}
-use Rattle.tablesay.specs.Range.{capacity-low, place-zone, Range}
-use Rattle.tablesay.specs.Tests.{Test, test, cond-true, cond-false}
-use Rattle.tablesay.specs.Tests.Test.{yes!, no! }
-use Rattle.tablesay.specs.Members.{map-map, In, map-in, in-none, map-cong}
+use Rattle.laws.specs.Geometry.{Ranged, place-zone}
+use Rattle.laws.specs.Ranges.{Test, test, map-map}
+use Rattle.laws.specs.Ranges.Test.{yes!, no! }
 use Rattle.views.specs.Views.{seen}
+use Rattle.tablesay.specs.Members.{In, map-in, in-none, map-cong}
+use Rattle.tablesay.specs.Range.{capacity-over}
 use Rattle.tablesay.specs.Ranks.{best-in}
 use Rattle.tablesay.specs.Reads.{Spot, counts-in, spot-of, spot-block, spot-drive, spot-low, spot-faults, InGroups, shown-first}
 use Rattle.tablesay.specs.Segs.{present-in, remaining-low, zone-by, seg-is, ChunkAt, chunk-at, CandAt, cand-at}
 use Rattle.tablesay.specs.Tables.{place-at, remains}
+use Rattle.tablesay.specs.Tests.{cond-true, cond-false}
 use Rattle.tablesay.specs.Zones.{Shaped}
 
 -- every chunk of what remains sits at an offset of its group, where a drive is missing
@@ -57,7 +59,7 @@ pub data Finds (p : Params) (v : View) (gone : ℕ) (o : Opt Cand) (f : Found) :
 never-word : neverPlace < 256 ^ 4
 never-word = lit< tt
 
-module _ (p : Params) (r : Range p) (v : View) (gone : ℕ) where
+module _ (p : Params) (r : Ranged p) (v : View) (gone : ℕ) where
   abbrev said : List Cand
   said = candidates p gone (segments p v gone)
 
@@ -116,7 +118,7 @@ module _ (p : Params) (r : Range p) (v : View) (gone : ℕ) where
 
     pub cand-zone : placeZone p (c .place) ≡ k .of
     cand-zone = ap (placeZone p) cand-place
-        ∙ place-zone p (c .drive) (k .of) (1 + c .offset) (remaining-low p v gone (k .of) (k .remains)) (omega (arith, capacity-low p r, t .offset-low))
+        ∙ place-zone p (c .drive) (k .of) (1 + c .offset) (remaining-low p v gone (k .of) (k .remains)) (omega (arith, capacity-over p r, t .offset-low))
 
     pub offset-here : isIn gone (c .drive) ≡ false → c .offset ≡ offsetOn (segmentOf p v gone (k .of)) (c .drive) (k .stripe)
     unfolding offsetOf

@@ -16,11 +16,12 @@ use Rattle.defs.specs.Layout.{group, Rec, recordOf, footerRecord}
 use Rattle.defs.specs.Lists.{tally}
 use Rattle.defs.specs.Memory.{slots, stripeIn, offsetIn}
 use Rattle.defs.specs.Params.{spareLen, perFooter, capacity}
-use Rattle.tablesay.specs.Range.{capacity-low, Range}
+use Rattle.laws.specs.Geometry.{Ranged}
 use Rattle.views.specs.Views.{blocks-long}
 use Rattle.tablesay.specs.Idle.{StateOk}
 use Rattle.tablesay.specs.Image.{bytes-part}
 use Rattle.tablesay.specs.Laid.{bytes-nil, address-low, stamp-low}
+use Rattle.tablesay.specs.Range.{capacity-over}
 use Rattle.tablesay.specs.Run.{spareAt, flies, awaits, Flight, Open}
 use Rattle.tablesay.specs.Settled.{SameZones}
 use Rattle.tablesay.specs.Zones.{Bytes, ZoneOk}
@@ -115,5 +116,5 @@ module _ (p : Params) (v u : View) (st : State) (z : ℕ) (sm : SameZones p v u 
   }
 
 -- the pointers of the open segment are at data blocks
-pub open-short : (p : Params) (r : Range p) (v : View) (st : State) (z : ℕ) → StateOk p st → Open p v st (flies st) z → (d : ℕ) → d < p .N → pointerAt v d z < capacity p
-open-short p r v st z so o d h = let c = o .count d h in let n = so .next-low in let l = capacity-low p r in omega arith
+pub open-short : (p : Params) (r : Ranged p) (v : View) (st : State) (z : ℕ) → StateOk p st → Open p v st (flies st) z → (d : ℕ) → d < p .N → pointerAt v d z < capacity p
+open-short p r v st z so o d h = let c = o .count d h in let n = so .next-low in let l = capacity-over p r in omega arith

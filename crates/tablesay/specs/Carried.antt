@@ -14,10 +14,11 @@ use Rattle.defs.specs.Layout.{dataPosition, isData, group, Rec}
 use Rattle.defs.specs.Lists.{isIn}
 use Rattle.defs.specs.Memory.{slots, stripeIn, filledIn, landedIn, entryIn, offsetIn, setStamp, beginStripe, addEntry}
 use Rattle.defs.specs.Params.{capacity}
+use Rattle.laws.specs.Geometry.{Ranged}
 use Rattle.tablesay.specs.Filling.{begin-ok}
 use Rattle.tablesay.specs.Idle.{StateOk}
 use Rattle.tablesay.specs.Opened.{busy-same, add-open, begin-open}
-use Rattle.tablesay.specs.Range.{Range, data-count}
+use Rattle.tablesay.specs.Range.{data-count}
 use Rattle.tablesay.specs.Run.{spareAt, flies, awaits, LandedAt, Flight, Open, Lists, Tidy, Healthy}
 use Rattle.tablesay.specs.Slots.{begin-filled, begin-filled-other, begin-lists, add-filled, add-filled-other, add-lists, free-is, some-flies}
 use Rattle.tablesay.specs.Tallies.{tally-cong}
@@ -127,7 +128,7 @@ stamp-ok p st t s = record {
 
 -- ---- a stripe begins, with its first entry
 
-pub begin-healthy : (p : Params) (r : Range p) (v : View) (st : State) (z i a t w : ℕ) → Healthy p v st → StateOk p st → st .opened ≡ suc z → i < 8 → flies st i ≡ false → st .next < p .S
+pub begin-healthy : (p : Params) (r : Ranged p) (v : View) (st : State) (z i a t w : ℕ) → Healthy p v st → StateOk p st → st .opened ≡ suc z → i < 8 → flies st i ≡ false → st .next < p .S
     → ((j : ℕ) → j < 8 → flies st j ≡ true → group p (stripeIn st j) ≡ group p (st .next)) → a < 256 ^ 8 → t < 256 ^ 8
     → Healthy p v (addEntry (beginStripe st i) i a t w)
 begin-healthy p r v st z i a t w h so op hi fi nx gr ha ht = record {
@@ -178,4 +179,4 @@ begin-healthy p r v st z i a t w h so op hi fi nx gr ha ht = record {
         let k = begin-ok p r st (h .lists) so i hi nx in
         busy-same p v sw more! (flies sw) y same!
         (add-open p r v su (begin-lists st (h .lists) i hi) more! y i a t w hi (or-true-right (flies st i) (eqb i i) (eqb-self i))
-        (let e = begin-filled st (h .lists) i hi in let c = data-count p r in omega (arith, r .n-low)) ha ht b (λ j hj. k .slots-ok j hj .filled-ok))
+        (let e = begin-filled st (h .lists) i hi in let c = data-count p r in omega (arith, r .drives-low)) ha ht b (λ j hj. k .slots-ok j hj .filled-ok))

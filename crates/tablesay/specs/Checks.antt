@@ -13,7 +13,7 @@ use Rattle.defs.specs.Calls.Check.{rule, zones}
 use Rattle.defs.specs.Calls.Verdict.{refused, due}
 use Rattle.defs.specs.Lists.{Opt}
 use Rattle.defs.specs.Lists.Opt.{none, some}
-use Rattle.tablesay.specs.Tests.{not-both}
+use Rattle.tablesay.specs.Tests.{true-false}
 
 -- no check holds
 abbrev pub Passes : List Check → Type 0
@@ -75,7 +75,7 @@ decide cs q = go (firstRefusal cs) refl
 pub passed : (cs : List Check) → Passes cs → firstRefusal cs ≡ none
 unfolding firstRefusal ruled ninth
 passed [] c = refl
-passed (rule n true ∷ cs) c = not-both (c .0)
+passed (rule n true ∷ cs) c = true-false (c .0)
 passed (rule n false ∷ cs) c = passed cs (c .1)
 passed (zones [] ∷ cs) c = passed cs (c .1)
 passed (zones (z ∷ zs) ∷ cs) c = let e = c .0 in absurd (let x : _≡_ {A = ℕ} 0 1 = cc in let y : ⊥ = omega arith in y)

@@ -12,10 +12,10 @@ use lib.ListN.{length}
 use Rattle.defs.specs.Faults.{twice}
 use Rattle.defs.specs.Layout.{Rec}
 use Rattle.defs.specs.Lists.{any, consIf, keep, greatest}
-use Rattle.tablesay.specs.Tests.{Test, test, or-left, or-right}
-use Rattle.tablesay.specs.Tests.Test.{yes!, no! }
-use Rattle.tablesay.specs.Rebuilding.{length-keep}
+use Rattle.laws.specs.Ranges.{Test, test, length-keep}
+use Rattle.laws.specs.Ranges.Test.{yes!, no! }
 use Rattle.tablesay.specs.Members.{In, map-in, in-keep, keep-in, none-in, keep-all}
+use Rattle.tablesay.specs.Tests.{or-left, or-right}
 
 abbrev pub Different : List ℕ → Type 0
 Different [] = Unit {0}

@@ -15,22 +15,23 @@ use Rattle.defs.specs.Lists.{below, all, any, keep, flat, greatest}
 use Rattle.defs.specs.Params.{capacity, present}
 use Rattle.defs.specs.Restart.{freeZones, dropStores}
 use Rattle.defs.specs.Segments.{lowDrive, headerAt, leftBy1, isCopy, remaining, Segment, segmentOf, segments, greatestSerial}
-use Rattle.tablesay.specs.Tests.{Test, test, and-left, and-right, and-both, clash, same-test, cond-true, cond-false}
-use Rattle.tablesay.specs.Tests.Test.{yes!, no! }
+use Rattle.laws.specs.Geometry.{Ranged}
+use Rattle.laws.specs.Mask.{isIn-empty}
+use Rattle.laws.specs.Ranges.{Test, test, and-left, and-right, and-both}
+use Rattle.laws.specs.Ranges.Test.{yes!, no! }
 use Rattle.tablesay.specs.Accept.{Accepted, pointer-ok, copied-low, serials-differ}
 use Rattle.tablesay.specs.Counting.{in-greatest}
-use Rattle.tablesay.specs.Masks.{in-empty}
 use Rattle.tablesay.specs.Members.{In, in-map, map-in, flat-in, in-keep, keep-in, all-in, in-all, any-in, in-any, keep-cong, flat-cong, in-below, below-in}
 use Rattle.tablesay.specs.Puts.{hits-flat, hits-resets, flat-one}
-use Rattle.tablesay.specs.Range.{Range}
 use Rattle.tablesay.specs.Resetting.{reset-within}
 use Rattle.tablesay.specs.Run.{usedAt, Tidy}
 use Rattle.tablesay.specs.Segs.{present-in, seg-is, serial-is, copied-is}
 use Rattle.tablesay.specs.Settled.{present-all, low-first, SameZones, zones-header, zones-pointer}
 use Rattle.tablesay.specs.Tables.{remains, in-remaining, remaining-in}
+use Rattle.tablesay.specs.Tests.{clash, same-test, cond-true, cond-false}
 use Rattle.tablesay.specs.Zones.{Shaped, zoneStore, hits, zone-after, Room, Within, reset-pointer, Roomy}
 
-module _ (p : Params) (r : Range p) (v : View) (sh : Shaped p v) (acc : Accepted p v 0) where
+module _ (p : Params) (r : Ranged p) (v : View) (sh : Shaped p v) (acc : Accepted p v 0) where
   abbrev gs : List Segment
   gs = segments p v 0
 
@@ -38,7 +39,7 @@ module _ (p : Params) (r : Range p) (v : View) (sh : Shaped p v) (acc : Accepted
   keeps! y = remains p v 0 y
 
   h0 : 0 < p .N
-  h0 = omega (arith, r .n-low)
+  h0 = omega (arith, r .drives-low)
 
   pub free-test : (z : ℕ) → z < p .Z → any (λ (g : Segment). eqb (g .seg) z) gs ≡ keeps! z
   free-test z hz = as! (same-test (any (λ (g : Segment). eqb (g .seg) z) (map (segmentOf p v 0) (remaining p v 0))) (keeps! z)
@@ -207,7 +208,7 @@ module _ (p : Params) (r : Range p) (v : View) (sh : Shaped p v) (acc : Accepted
   }
     where
       low : (d z : ℕ) → d < p .N → z < p .Z → Test (keeps! z) → pointerAt va d z ≤ capacity p
-      low d z hd hz (yes! q) = subst (λ (x : ℕ). x ≤ capacity p) (zones-pointer p r v va z (drop-same z hz q) d hd) (pointer-ok p v 0 acc d z hd hz (in-empty d))
+      low d z hd hz (yes! q) = subst (λ (x : ℕ). x ≤ capacity p) (zones-pointer p r v va z (drop-same z hz q) d hd) (pointer-ok p v 0 acc d z hd hz (isIn-empty d))
       low d z hd hz (no! q) = let e = drop-empty z hz q d hd in omega arith
 
       tog : (d z : ℕ) → d < p .N → z < p .Z → Test (keeps! z) → eqb (pointerAt va d z) 0 ≡ eqb (pointerAt va 0 z) 0

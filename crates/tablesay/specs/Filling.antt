@@ -21,21 +21,21 @@ use Rattle.defs.specs.Lists.{below, only}
 use Rattle.defs.specs.Memory.{stripeIn, filledIn, isFull, beginStripe, addEntry, slotByte, slotBlock, setSlotBlock, setSlotParity}
 use Rattle.defs.specs.Params.{dataCount, capacity, inflightLen}
 use Rattle.defs.specs.Write.{placed}
-use Rattle.laws.specs.Geometry.{slot-within, parity-drive-lt}
+use Rattle.laws.specs.Geometry.{Ranged, slot-within, parity-drive-lt, data-drive-lt}
 use Rattle.laws.specs.Splice.{length-part, length-splice}
-use Rattle.tablesay.specs.Rebuilding.{length-parity}
 use Rattle.tablesay.specs.Idle.{SlotOk, StateOk}
 use Rattle.tablesay.specs.Masks.{only-low}
 use Rattle.tablesay.specs.Members.{map-in, below-in}
 use Rattle.tablesay.specs.Opened.{busy-same, add-open}
-use Rattle.tablesay.specs.Range.{Range, data-count, data-drive-low}
+use Rattle.tablesay.specs.Range.{data-count}
+use Rattle.tablesay.specs.Rebuilding.{parity-length}
 use Rattle.tablesay.specs.Run.{flies, Lists, Tidy, Healthy}
 use Rattle.tablesay.specs.Slots.{begin-number, begin-number-other, begin-filled, begin-filled-other, begin-landed, begin-landed-other, begin-writes, begin-writes-other, begin-next, add-filled, add-filled-other, add-number, add-landed, add-writes, add-writes-other, add-lists, free-is, some-flies}
 use Rattle.tablesay.specs.Tests.{clash}
 
 -- ---- the in-flight buffer
 
-module _ (p : Params) (r : Range p) (fl : List ℕ) (l : length fl ≡ inflightLen p) (i : ℕ) (hi : i < 8) where
+module _ (p : Params) (r : Ranged p) (fl : List ℕ) (l : length fl ≡ inflightLen p) (i : ℕ) (hi : i < 8) where
   pub slot-long : (d : ℕ) (b : List ℕ) → d < p .N → length b ≡ p .B → length (setSlotBlock p fl i d b) ≡ inflightLen p
   unfolding setSlotBlock
   slot-long d b hd e = length-splice fl (slotByte p i d) b (let w = slot-within p i d hi hd in omega arith) ∙ l
@@ -46,20 +46,20 @@ module _ (p : Params) (r : Range p) (fl : List ℕ) (l : length fl ≡ inflightL
 
   pub parity-long : (s : ℕ) → length (setSlotParity p fl i s) ≡ inflightLen p
   unfolding setSlotParity dataDrives
-  parity-long s = slot-long (parityDrive p s) (parity (p .B) (map (slotBlock p fl i) (map (dataDrive p s) (below (dataCount p))))) (parity-drive-lt p s (omega (arith, r .n-low)))
-      (length-parity (p .B) (map (slotBlock p fl i) (map (dataDrive p s) (below (dataCount p))))
+  parity-long s = slot-long (parityDrive p s) (parity (p .B) (map (slotBlock p fl i) (map (dataDrive p s) (below (dataCount p))))) (parity-drive-lt p s (omega (arith, r .drives-low)))
+      (parity-length (p .B) (map (slotBlock p fl i) (map (dataDrive p s) (below (dataCount p))))
       (λ b m.
       let (d, n, e) = map-in (slotBlock p fl i) (map (dataDrive p s) (below (dataCount p))) b m in
       let (x, o, f) = map-in (dataDrive p s) (below (dataCount p)) d n in
-      ap length e ∙ block-long! d (subst (λ (y : ℕ). y < p .N) (sym f) (data-drive-low p s x (omega (arith, r .n-low)) (below-in (dataCount p) x o)))))
+      ap length e ∙ block-long! d (subst (λ (y : ℕ). y < p .N) (sym f) (data-drive-lt p s x (below-in (dataCount p) x o)))))
 
-pub placed-long : (p : Params) → Range p → (st : State) (fl : List ℕ) (i a t w : ℕ) (b : List ℕ) → length fl ≡ inflightLen p → i < 8 → filledIn st i < dataCount p → length b ≡ p .B
+pub placed-long : (p : Params) → Ranged p → (st : State) (fl : List ℕ) (i a t w : ℕ) (b : List ℕ) → length fl ≡ inflightLen p → i < 8 → filledIn st i < dataCount p → length b ≡ p .B
     → length (placed p st fl i a t w b .inflight) ≡ inflightLen p
 unfolding placed
 placed-long p r st fl i a t w b l hi f e =
     let d = dataDrive p (stripeIn st i) (filledIn st i) in
     let fl′ = setSlotBlock p fl i d b in
-    let q : length fl′ ≡ inflightLen p = slot-long p r fl l i hi d b (data-drive-low p (stripeIn st i) (filledIn st i) (omega (arith, r .n-low)) f) e in
+    let q : length fl′ ≡ inflightLen p = slot-long p r fl l i hi d b (data-drive-lt p (stripeIn st i) (filledIn st i) f) e in
     go (isFull p (addEntry st i a t w) i) fl′ (setSlotParity p fl′ i (stripeIn st i)) q (parity-long p r fl′ q i hi (stripeIn st i))
   where
     go : (c : Bool) (x y : List ℕ) → length x ≡ inflightLen p → length y ≡ inflightLen p → length (cond c y x) ≡ inflightLen p
@@ -68,7 +68,7 @@ placed-long p r st fl i a t w b l hi f e =
 
 -- ---- the state in range
 
-module _ (p : Params) (r : Range p) (st : State) (ls : Lists st) (so : StateOk p st) (i : ℕ) (hi : i < 8) where
+module _ (p : Params) (r : Ranged p) (st : State) (ls : Lists st) (so : StateOk p st) (i : ℕ) (hi : i < 8) where
   pub add-ok : (a t w : ℕ) → filledIn st i < dataCount p → w ≤ 1 → StateOk p (addEntry st i a t w)
   add-ok a t w f hw = record {
     live-is = live-same ∙ so .live-is;
@@ -97,7 +97,7 @@ module _ (p : Params) (r : Range p) (st : State) (ls : Lists st) (so : StateOk p
 
       mask-low : (k w : ℕ) → w ≤ 1 → k < dataCount p → w * only k < 2 ^ dataCount p
       mask-low k zero h l = subst (λ (x : ℕ). x < 2 ^ dataCount p) (sym (zero-mul (only k))) (pow-pos (dataCount p))
-      mask-low k (suc zero) h l = subst (λ (x : ℕ). x < 2 ^ dataCount p) (sym (one-mul (only k))) (only-low k (dataCount p) l (let e = data-count p r in omega (arith, r .n-high)))
+      mask-low k (suc zero) h l = subst (λ (x : ℕ). x < 2 ^ dataCount p) (sym (one-mul (only k))) (only-low k (dataCount p) l (let e = data-count p r in omega (arith, r .drives-high)))
       mask-low k (suc (suc w)) h l = absurd (let z : ⊥ = omega arith in z)
 
       go : (j : ℕ) → SlotOk p st j → Dec (j ≡ i) → SlotOk p (addEntry st i a t w) j
@@ -154,7 +154,7 @@ module _ (p : Params) (r : Range p) (st : State) (ls : Lists st) (so : StateOk p
 -- ---- what holds is kept
 
 -- a position of a stripe in flight is filled
-pub fill-healthy : (p : Params) (r : Range p) (v : View) (st : State) (i a t w : ℕ) → Healthy p v st → StateOk p st → i < 8 → flies st i ≡ true → filledIn st i < dataCount p → a < 256 ^ 8 → t < 256 ^ 8
+pub fill-healthy : (p : Params) (r : Ranged p) (v : View) (st : State) (i a t w : ℕ) → Healthy p v st → StateOk p st → i < 8 → flies st i ≡ true → filledIn st i < dataCount p → a < 256 ^ 8 → t < 256 ^ 8
     → Healthy p v (addEntry st i a t w)
 fill-healthy p r v st i a t w h so hi fi f ha ht = record {
   tidy = subst (λ (x : ℕ). Tidy p v x) (sym serial-same) (h .tidy);

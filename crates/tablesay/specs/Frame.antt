@@ -12,10 +12,10 @@ use Rattle.defs.specs.Layout.{headerBlock, headerSerial, headerCopied}
 use Rattle.defs.specs.Lists.{below, all, any, keep, flat, isIn}
 use Rattle.defs.specs.Params.{capacity, drivesOf, present}
 use Rattle.defs.specs.Segments.{lowDrive, headerAt, leftBy1, isCopy, remaining, Segment, recordsIn, segmentOf, segments, recsOn, offsetOn, hasChunk, counts, counted, storedRec, recOf, offsetOf, candOf, segmentCands, candidates, compactRow, rowOf, compactTable, unsealed}
-use Rattle.tablesay.specs.Tests.{Test, test}
-use Rattle.tablesay.specs.Tests.Test.{yes!, no! }
-use Rattle.tablesay.specs.Members.{map-map, getD-map-below, keep-none, In, keep-in, all-cong, any-cong, keep-cong, map-cong, flat-cong, keep-map, flat-map, below-in}
+use Rattle.laws.specs.Ranges.{Test, test, map-map, getD-map-below}
+use Rattle.laws.specs.Ranges.Test.{yes!, no! }
 use Rattle.tablesay.specs.Accept.{Accepted, segment-ok}
+use Rattle.tablesay.specs.Members.{In, keep-in, all-cong, any-cong, keep-cong, map-cong, flat-cong, keep-nothing, keep-map, flat-map, below-in}
 use Rattle.tablesay.specs.Segs.{present-in, remaining-low, zone-by, seg-is, serial-is, copied-is, full-is}
 
 abbrev pub Agree : Params → ℕ → View → View → Type 0
@@ -194,5 +194,5 @@ module _ (p : Params) (gone : ℕ) (v u : View) (low : In (lowDrive p gone) (pre
         keep-cong (λ g. segmentFault p gone (segments p v gone) (segmentOf p v gone g)) (λ g. segmentFault p gone (segments p u gone) (segmentOf p u gone g)) (remaining p v gone)
         (λ g m. same-segment-fault g (remaining-low p v gone g m))
         ∙ ap (keep (λ g. segmentFault p gone (segments p u gone) (segmentOf p u gone g))) same-remaining)
-        ∙ keep-none (λ g. segmentFault p gone (segments p v gone) (segmentOf p v gone g)) (remaining p v gone) (segment-ok p v gone a));
+        ∙ keep-nothing (λ g. segmentFault p gone (segments p v gone) (segmentOf p v gone g)) (remaining p v gone) (segment-ok p v gone a));
   }

@@ -25,7 +25,8 @@ use Rattle.defs.specs.Reclaim.{tableFaults, victim, idle}
 use Rattle.defs.specs.Segments.{segments, candidates, addressTable, compactTable}
 use Rattle.defs.specs.Write.{opens, noStamp, noSerial, mustWait, scarce, placed, sending, writeChecks, writePlan, writeVerdict}
 use Rattle.laws.specs.Be.{room}
-use Rattle.laws.specs.Geometry.{ranged, addresses-all}
+use Rattle.laws.specs.Geometry.{Ranged, ranged, addresses-all}
+use Rattle.laws.specs.Mask.{isIn-empty}
 use Rattle.views.specs.Views.{Whole, seen, view-stores, whole-stores}
 use Rattle.tablesay.specs.Carried.{stamp-healthy, stamp-ok}
 use Rattle.tablesay.specs.Checks.{Passes, clear}
@@ -33,11 +34,10 @@ use Rattle.tablesay.specs.Filling.{placed-long, add-ok, fill-healthy}
 use Rattle.tablesay.specs.Idle.{StateOk, state-of, of-state, lengths-of, of-lengths, whole-of}
 use Rattle.tablesay.specs.Live.{table-clear}
 use Rattle.tablesay.specs.Losing.{refused-kept, cut-kept}
-use Rattle.tablesay.specs.Masks.{in-empty}
 use Rattle.tablesay.specs.Members.{In}
 use Rattle.tablesay.specs.Outcomes.{Ended, ended}
 use Rattle.tablesay.specs.Outcomes.Ended.{ended-refused, ended-done, ended-cut}
-use Rattle.tablesay.specs.Range.{Range, in-range, capacity-word}
+use Rattle.tablesay.specs.Range.{capacity-word}
 use Rattle.tablesay.specs.Reading.{state-clear, nil-append}
 use Rattle.tablesay.specs.Run.{flies, Healthy, Well, Run, Kept}
 use Rattle.tablesay.specs.Sending.{filling-slot, SentOk, sends}
@@ -53,7 +53,7 @@ pub well-run : (p : Params) (k : Disk) (ss : List Store) (m : Memory) → inRang
     → m .compact ≡ compactTable p (segments p (storeAll storeView ss (seen p k)) 0) → length (m .inflight) ≡ inflightLen p
     → Run p (storeAll (storeDisk p) ss k) m
 well-run p k ss m ir w sh ro wi ms so he ad co fl =
-    let r = in-range p ir in
+    let r = ranged p ir in
     let fit = all-fit p (seen p k) ss (sh .sized) wi ro in
     let ev = view-stores p k ss (capacity-word p r) w fit in
     let w′ = whole-stores p k ss (capacity-word p r) w fit in
@@ -73,7 +73,7 @@ well-run p k ss m ir w sh ro wi ms so he ad co fl =
         state-ok = of-state p (m .state) so;
         addresses-say = ad ∙ ap₂ (λ (x : View) (g : ℕ). addressTable p (candidates p g (segments p x g))) (sym ev) (sym ms);
         compact-says = co ∙ ap₂ (λ (x : View) (g : ℕ). compactTable p (segments p x g)) (sym ev) (sym ms);
-        decodes = λ d q. clash q (ap (λ (x : ℕ). isIn x d) ms ∙ in-empty d);
+        decodes = λ d q. clash q (ap (λ (x : ℕ). isIn x d) ms ∙ isIn-empty d);
       };
       mode = inr (record { none-missing = ms; healthy = subst (λ (x : View). Healthy p x (m .state)) (sym ev) he });
     }
@@ -88,8 +88,8 @@ module _ (p : Params) (k : Disk) (m : Memory) (u : Run p k m) (we : Well p k m) 
   abbrev st : State
   st = m .state
 
-  rg : Range p
-  rg = in-range p (u .base .ranged)
+  rg : Ranged p
+  rg = ranged p (u .base .ranged)
 
   so : StateOk p st
   so = state-of p rg st (u .base .state-ok)

@@ -14,8 +14,9 @@ use Rattle.defs.specs.Layout.{headerSerial, headerCopied, Rec}
 use Rattle.defs.specs.Lists.{below, flat, isIn}
 use Rattle.defs.specs.Params.{capacity, drivesOf}
 use Rattle.defs.specs.Segments.{lowDrive, headerAt, remaining, Segment, recordsIn, segmentOf, segments, recsOn, offsetOn, hasChunk, counts, counted, storedRec, recOf, offsetOf, candOf, segmentCands, candidates, compactRow, rowOf, compactTable}
-use Rattle.tablesay.specs.Members.{map-map, getD-map-below, keep-cong, map-cong, flat-cong, flat-map, below-in}
-use Rattle.tablesay.specs.Range.{Range}
+use Rattle.laws.specs.Geometry.{Ranged}
+use Rattle.laws.specs.Ranges.{map-map, getD-map-below}
+use Rattle.tablesay.specs.Members.{keep-cong, map-cong, flat-cong, flat-map, below-in}
 use Rattle.tablesay.specs.Run.{usedAt, Tidy}
 use Rattle.tablesay.specs.Segs.{remaining-low, seg-is, serial-is, copied-is}
 use Rattle.tablesay.specs.Settled.{low-first, remains-used, SameZones, zones-header, zones-pointer, zones-used, zones-segment}
@@ -51,9 +52,9 @@ pub record Grows (p : Params) (v u : View) (z : ℕ) : Type 0 where
   pub low-now : (d : ℕ) → d < p .N → pointerAt u d z ≤ capacity p
   pub same-head : headerAt v 0 z ≡ headerAt u 0 z
 
-module _ (p : Params) (r : Range p) (v u : View) (z : ℕ) (w : Grows p v u z) where
+module _ (p : Params) (r : Ranged p) (v u : View) (z : ℕ) (w : Grows p v u z) where
   h0 : 0 < p .N
-  h0 = omega (arith, r .n-low)
+  h0 = omega (arith, r .drives-low)
 
   pub grows-used : (y : ℕ) → y < p .Z → usedAt v y ≡ usedAt u y
   grows-used y hy = go (ℕ-discrete z y)

@@ -22,13 +22,14 @@ use Rattle.defs.specs.Params.{capacity, drivesOf}
 use Rattle.defs.specs.Rank.{Cand, best, candsOf}
 use Rattle.defs.specs.Segments.{headerAt, recordsIn, segmentOf, segments, recsOn, candidates, addressTable, compactRow, compactTable}
 use Rattle.laws.specs.Be.{room}
-use Rattle.tablesay.specs.Range.{capacity-low, Range}
+use Rattle.laws.specs.Geometry.{Ranged}
+use Rattle.laws.specs.Mask.{isIn-empty}
 use Rattle.views.specs.Views.{blocks-long}
 use Rattle.tablesay.specs.Idle.{slots-in}
 use Rattle.tablesay.specs.Laid.{header-serial, header-copied}
-use Rattle.tablesay.specs.Masks.{in-empty}
 use Rattle.tablesay.specs.Members.{In, map-in, all-in, in-below, below-in}
 use Rattle.tablesay.specs.Puts.{hits-headers, header-sound}
+use Rattle.tablesay.specs.Range.{capacity-over}
 use Rattle.tablesay.specs.Ranks.{same-best}
 use Rattle.tablesay.specs.Run.{usedAt, flies, awaits, Open, Lists, Tidy, Healthy}
 use Rattle.tablesay.specs.Segs.{recs-here, CandAt, cand-at, at-cand}
@@ -39,7 +40,7 @@ use Rattle.tablesay.specs.Tests.{clash, and-false-left, cond-true, cond-
 use Rattle.tablesay.specs.Zones.{Shaped, zoneStore, hits, zone-after, Room, Within, put-pointer, Roomy}
 
 -- zones behind headers
-module _ (p : Params) (r : Range p) (v : View) (sh : Shaped p v) (g rn cn : ℕ) (hg : g < p .Z) (em : (d : ℕ) → d < p .N → pointerAt v d g ≡ 0) where
+module _ (p : Params) (r : Ranged p) (v : View) (sh : Shaped p v) (g rn cn : ℕ) (hg : g < p .Z) (em : (d : ℕ) → d < p .N → pointerAt v d g ≡ 0) where
   abbrev hs : List Store
   hs = headerStores p g rn cn
 
@@ -75,7 +76,7 @@ module _ (p : Params) (r : Range p) (v : View) (sh : Shaped p v) (g rn cn : ℕ)
 
   pub header-block : headerAt u 0 g ≡ headerBlock p 0 g rn cn
   header-block =
-      let h0 : 0 < p .N = omega (arith, r .n-low) in
+      let h0 : 0 < p .N = omega (arith, r .drives-low) in
       at ∙ ap (λ (q : Zone). getD (q .blocks) 0 noChunk .block) (header-zone 0 h0) ∙ back (zoneAt v 0 g) (as! (em 0 h0)) (sh .zone-ok 0 g h0 hg .blocks-long)
     where
       at : headerAt u 0 g ≡ getD (zoneAt u 0 g .blocks) 0 noChunk .block
@@ -86,7 +87,7 @@ module _ (p : Params) (r : Range p) (v : View) (sh : Shaped p v) (g rn cn : ℕ)
 
       back : (q : Zone) → q .pointer ≡ 0 → length (q .blocks) ≡ capacity p → getD (putZone (headerBlock p 0 g rn cn) zeroSpare q .blocks) 0 noChunk .block ≡ headerBlock p 0 g rn cn
       back q e l = unfold putZone in (ap (λ (x : ℕ). getD (set (q .blocks) x (mkChunk (headerBlock p 0 g rn cn) zeroSpare)) 0 noChunk .block) e
-          ∙ ap (λ (c : Chunk). c .block) (getD-set-same (q .blocks) 0 (mkChunk (headerBlock p 0 g rn cn) zeroSpare) noChunk (let c = capacity-low p r in omega arith)))
+          ∙ ap (λ (c : Chunk). c .block) (getD-set-same (q .blocks) 0 (mkChunk (headerBlock p 0 g rn cn) zeroSpare) noChunk (let c = capacity-over p r in omega arith)))
 
   pub header-roomy : Roomy p v hs
   header-roomy d y hd hy = go (ℕ-discrete g y)
@@ -98,7 +99,7 @@ module _ (p : Params) (r : Range p) (v : View) (sh : Shaped p v) (g rn cn : ℕ)
           (subst (λ (l : List Store). Room p (pointerAt v d g) l)
           (sym (hits-headers p d g g rn cn hd ∙ cond-true (eqb g g) (put d g (headerBlock p d g rn cn) zeroSpare ∷ []) [] (eqb-self g)))
           (subst (λ (x : ℕ). Room p x (put d g (headerBlock p d g rn cn) zeroSpare ∷ [])) (sym (em d hd))
-          (record { room = let c = capacity-low p r in omega arith; fine = header-sound p r d g rn cn }, tt)))
+          (record { room = let c = capacity-over p r in omega arith; fine = header-sound p r d g rn cn }, tt)))
 
   pub header-within : (s : Store) → In s hs → Within p s
   header-within s m = go (as! m)
@@ -115,7 +116,7 @@ pub empty-all : (p : Params) (v : View) (g : ℕ) → emptyOnAll p v g ≡ true 
 unfolding emptyOnAll drivesOf zoneOn
 empty-all p v g q d h = eqb-true (pointerAt v d g) 0 (all-in (λ d. eqb (pointerAt v d g) 0) (below (p .N)) q d (in-below (p .N) d h))
 
-module _ (p : Params) (r : Range p) (v : View) (sh : Shaped p v) (s g : ℕ) (t : Tidy p v s) (hg : g < p .Z) (em : (d : ℕ) → d < p .N → pointerAt v d g ≡ 0) (fit : suc s < 256 ^ 8) where
+module _ (p : Params) (r : Ranged p) (v : View) (sh : Shaped p v) (s g : ℕ) (t : Tidy p v s) (hg : g < p .Z) (em : (d : ℕ) → d < p .N → pointerAt v d g ≡ 0) (fit : suc s < 256 ^ 8) where
   abbrev after : View
   after = storeAll storeView (headerStores p g (suc s) 0) v
 
@@ -123,13 +124,10 @@ module _ (p : Params) (r : Range p) (v : View) (sh : Shaped p v) (s g : ℕ) (t 
   same-off y hy n d hd = sym (header-other p r v sh g (suc s) 0 hg em d y hd hy n)
 
   h0 : 0 < p .N
-  h0 = omega (arith, r .n-low)
+  h0 = omega (arith, r .drives-low)
 
   unused : usedAt v g ≡ false
   unused = ap not (eq-eqb (pointerAt v 0 g) 0 (em 0 h0))
-
-  used-after : usedAt after g ≡ true
-  used-after = ap not (ne-eqb (pointerAt after 0 g) 0 (λ e. let x = header-pointer p r v sh g (suc s) 0 hg em 0 h0 in let z : ⊥ = omega arith in z))
 
   head-serial : headerSerial (headerAt after 0 g) ≡ suc s
   head-serial = ap headerSerial (header-block p r v sh g (suc s) 0 hg em) ∙ header-serial p 0 g (suc s) 0 fit
@@ -159,7 +157,7 @@ module _ (p : Params) (r : Range p) (v : View) (sh : Shaped p v) (s g : ℕ) (t 
   }
     where
       low : (d z : ℕ) → d < p .N → z < p .Z → Dec (g ≡ z) → pointerAt after d z ≤ capacity p
-      low d z hd hz (yes e) = subst (λ (x : ℕ). pointerAt after d x ≤ capacity p) e (let q = header-pointer p r v sh g (suc s) 0 hg em d hd in let c = capacity-low p r in omega arith)
+      low d z hd hz (yes e) = subst (λ (x : ℕ). pointerAt after d x ≤ capacity p) e (let q = header-pointer p r v sh g (suc s) 0 hg em d hd in let c = capacity-over p r in omega arith)
       low d z hd hz (no n) = subst (λ (x : ℕ). x ≤ capacity p) (zones-pointer p r v after z (same-off z hz n) d hd) (t .pointer-low d z hd hz)
 
       tog : (d z : ℕ) → d < p .N → z < p .Z → Dec (g ≡ z) → eqb (pointerAt after d z) 0 ≡ eqb (pointerAt after 0 z) 0
@@ -248,7 +246,7 @@ module _ (p : Params) (r : Range p) (v : View) (sh : Shaped p v) (s g : ℕ) (t 
       empty-before = unfold rowAt in cond-false (remains p v 0 g) (recsOn (segmentOf p v 0 g) d) [] (remains-used p r v s t g hg ∙ unused)
 
       empty-recs : recsOn (segmentOf p after 0 g) d ≡ []
-      empty-recs = recs-here p after 0 g d hd (in-empty d) ∙ go (sealedIn p after 0 g) (zoneAt after d g) (no-data d hd)
+      empty-recs = recs-here p after 0 g d hd (isIn-empty d) ∙ go (sealedIn p after 0 g) (zoneAt after d g) (no-data d hd)
         where
           go : (w : Bool) (q : Zone) → dataStored p q ≡ 0 → recordsIn p w q ≡ []
           go w q e = unfold recordsIn in (ap (λ (n : ℕ). map (recordIn p w q) (below n)) e ∙ (unfold below upFrom in refl))
@@ -326,7 +324,7 @@ module _ (p : Params) (r : Range p) (v : View) (sh : Shaped p v) (s g : ℕ) (t 
         below-next = λ d o hd q. absurd (let e = one d hd in let z : ⊥ = omega arith in z);
         flight = λ i hi q. clash q (flies-is i ∙ nf i hi);
         once = λ i j hi hj a b e. clash a (flies-is i ∙ nf i hi);
-        goes-on = λ q. absurd (let e = sym next-is ∙ q in let l = r .s-low in let z : ⊥ = omega arith in z);
+        goes-on = λ q. absurd (let e = sym next-is ∙ q in let l = r .stripes-low in let z : ⊥ = omega arith in z);
       }
 
       at : (z : ℕ) → suc g ≡ suc z → Open p after su (flies su) z

@@ -16,10 +16,10 @@ use Rattle.defs.specs.Engine.{lentOk}
 use Rattle.defs.specs.Lists.{all}
 use Rattle.defs.specs.Memory.{Memory, slotCount, slots, idleState, stripeIn, filledIn, landedIn, slotOk, stateOk}
 use Rattle.defs.specs.Params.{dataCount, imageLen, pointersLen, addressesLen, compactLen, inflightLen}
-use Rattle.tablesay.specs.Tests.{and-left, and-right, and-both}
+use Rattle.laws.specs.Geometry.{Ranged}
+use Rattle.laws.specs.Ranges.{and-left, and-right, and-both}
 use Rattle.views.specs.Views.{Whole}
 use Rattle.tablesay.specs.Members.{In, all-in, in-all, in-below, below-in, in-getD, getD-in}
-use Rattle.tablesay.specs.Range.{Range}
 use Rattle.tablesay.specs.Tables.{zero-at}
 
 pub record SlotOk (p : Params) (st : State) (i : ℕ) : Type 0 where
@@ -73,7 +73,7 @@ pub slots-in : (i : ℕ) → In i slots → i < 8
 unfolding slots slotCount
 slots-in i m = below-in 8 i m
 
-pub state-of : (p : Params) → Range p → (st : State) → stateOk p st ≡ true → StateOk p st
+pub state-of : (p : Params) → Ranged p → (st : State) → stateOk p st ≡ true → StateOk p st
 unfolding stateOk
 state-of p r st q =
     let t1 = eqb (st .live) 1 in
@@ -100,7 +100,7 @@ state-of p r st q =
   where
     go : all (λ o. ltb o (p .S)) (st .offsets) ≡ true → (j : ℕ) → Dec (j < length (st .offsets)) → getD (st .offsets) j 0 < p .S
     go a j (yes h) = ltb-true (getD (st .offsets) j 0) (p .S) (all-in (λ o. ltb o (p .S)) (st .offsets) a (getD (st .offsets) j 0) (in-getD (st .offsets) j 0 h))
-    go a j (no h) = subst (λ (x : ℕ). x < p .S) (sym (List·getD-eq-default (st .offsets) 0 {n = j} (omega arith))) (r .s-low)
+    go a j (no h) = subst (λ (x : ℕ). x < p .S) (sym (List·getD-eq-default (st .offsets) 0 {n = j} (omega arith))) (r .stripes-low)
 
 pub of-state : (p : Params) (st : State) → StateOk p st → stateOk p st ≡ true
 unfolding stateOk
@@ -124,7 +124,7 @@ of-state p st s =
     (in-all (slotOk p st) slots (λ i m. of-slot p st i (s .slots-ok i (slots-in i m)))))
     (in-all (λ o. ltb o (p .S)) (st .offsets) (λ a m. let (k, h, e) = getD-in (st .offsets) 0 a m in lt-ltb a (p .S) (subst (λ (x : ℕ). x < p .S) (sym e) (s .offsets-low k))))
 
-pub idle-ok : (p : Params) → Range p → (gone t s o x : ℕ) → gone < 2 ^ p .N → ones gone ≤ 1 → o ≤ p .Z → x ≤ p .S → stateOk p (idleState 1 gone t s o x) ≡ true
+pub idle-ok : (p : Params) → Ranged p → (gone t s o x : ℕ) → gone < 2 ^ p .N → ones gone ≤ 1 → o ≤ p .Z → x ≤ p .S → stateOk p (idleState 1 gone t s o x) ≡ true
 unfolding idleState stripeIn filledIn landedIn
 idle-ok p r gone t s o x hg h1 ho hx = of-state p (idleState 1 gone t s o x) (record {
   live-is = refl;
@@ -133,12 +133,12 @@ idle-ok p r gone t s o x hg h1 ho hx = of-state p (idleState 1 gone t s o x) (re
   opened-low = ho;
   next-low = hx;
   slots-ok = λ i h. record {
-    stripe-ok = subst (λ (y : ℕ). y < p .S) (sym (zero-at 8 i)) (r .s-low);
+    stripe-ok = subst (λ (y : ℕ). y < p .S) (sym (zero-at 8 i)) (r .stripes-low);
     filled-ok = subst (λ (y : ℕ). y ≤ dataCount p) (sym (zero-at 8 i)) (omega arith);
     writes-ok = subst (λ (y : ℕ). y < 2 ^ dataCount p) (sym (zero-at 8 i)) (pow-pos (dataCount p));
     landed-ok = subst (λ (y : ℕ). y < 2 ^ p .N) (sym (zero-at 8 i)) (pow-pos (p .N));
   };
-  offsets-low = λ j. subst (λ (y : ℕ). y < p .S) (sym (zero-at 64 j)) (r .s-low);
+  offsets-low = λ j. subst (λ (y : ℕ). y < p .S) (sym (zero-at 64 j)) (r .stripes-low);
 })
 
 -- ---- lengths

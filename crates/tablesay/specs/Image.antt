@@ -15,8 +15,7 @@ use Rattle.defs.specs.Drives.{noChunk, zoneAt, chunkAt, zoneOf, driveOf, viewOf
 use Rattle.defs.specs.Lists.{all, pieces, zipped}
 use Rattle.defs.specs.Params.{spareLen, capacity, unitLen, zoneLen, driveLen, placeOf, placeByte}
 use Rattle.laws.specs.Geometry.{block-within}
-use Rattle.tablesay.specs.Tests.{and-left, and-right}
-use Rattle.laws.specs.Ranges.{length-pieces, getD-zipped}
+use Rattle.laws.specs.Ranges.{and-left, and-right, length-pieces, getD-zipped, length-zipped}
 use Rattle.laws.specs.Splice.{length-part}
 use Rattle.views.specs.Views.{Whole, blocks-long, block-view, spare-view, seen}
 use Rattle.tablesay.specs.Zones.{Sized, Bytes, Sound, Shaped}
@@ -40,28 +39,22 @@ bytes-of [] q i = omega arith
 bytes-of (b ∷ l) q zero = ltb-true b 256 (and-left (ltb b 256) (all (λ x. ltb x 256) l) q)
 bytes-of (b ∷ l) q (suc i) = bytes-of l (and-right (ltb b 256) (all (λ x. ltb x 256) l) q) i
 
-length-zipped : {A B C : Type 0} (f : A → B → C) (xs : List A) (ys : List B) → length xs ≡ length ys → length (zipped f xs ys) ≡ length xs
-unfolding zipped
-length-zipped f [] ys h = refl
-length-zipped f (x ∷ xs) [] h = absurd (let q : ⊥ = omega arith in q)
-length-zipped f (x ∷ xs) (y ∷ ys) h = ap suc (length-zipped f xs ys (omega arith))
-
 sized-of : (p : Params) (k : Disk) → Whole p k → Sized p (seen p k)
 unfolding viewOf driveOf
 sized-of p k w = record {
-  drives-long = length-zipped (driveOf p) (pieces (driveLen p) (p .N) (k .image)) (pieces (4 * p .Z) (p .N) (k .pointers))
-      (length-pieces (driveLen p) (p .N) (k .image) ∙ sym (length-pieces (4 * p .Z) (p .N) (k .pointers)))
-      ∙ length-pieces (driveLen p) (p .N) (k .image);
+  drives-long = pair-long (driveOf p) (pieces (driveLen p) (p .N) (k .image)) (pieces (4 * p .Z) (p .N) (k .pointers)) (p .N)
+      (length-pieces (driveLen p) (p .N) (k .image)) (length-pieces (4 * p .Z) (p .N) (k .pointers));
   zones-long = λ d h.
+      let im = getD (pieces (driveLen p) (p .N) (k .image)) d [] in
+      let ps = getD (pieces (4 * p .Z) (p .N) (k .pointers)) d [] in
       ap length (getD-zipped (driveOf p) (pieces (driveLen p) (p .N) (k .image)) (pieces (4 * p .Z) (p .N) (k .pointers)) d [] [] []
       (subst (λ (x : ℕ). d < x) (sym (length-pieces (driveLen p) (p .N) (k .image))) h)
       (subst (λ (x : ℕ). d < x) (sym (length-pieces (4 * p .Z) (p .N) (k .pointers))) h))
-      ∙ length-zipped (zoneOf p) (pieces (zoneLen p) (p .Z) (getD (pieces (driveLen p) (p .N) (k .image)) d []))
-      (pieces 4 (p .Z) (getD (pieces (4 * p .Z) (p .N) (k .pointers)) d []))
-      (length-pieces (zoneLen p) (p .Z) (getD (pieces (driveLen p) (p .N) (k .image)) d [])
-      ∙ sym (length-pieces 4 (p .Z) (getD (pieces (4 * p .Z) (p .N) (k .pointers)) d [])))
-      ∙ length-pieces (zoneLen p) (p .Z) (getD (pieces (driveLen p) (p .N) (k .image)) d []);
+      ∙ pair-long (zoneOf p) (pieces (zoneLen p) (p .Z) im) (pieces 4 (p .Z) ps) (p .Z) (length-pieces (zoneLen p) (p .Z) im) (length-pieces 4 (p .Z) ps);
 }
+  where
+    pair-long : {A B C : Type 0} (f : A → B → C) (xs : List A) (ys : List B) (n : ℕ) → length xs ≡ n → length ys ≡ n → length (zipped f xs ys) ≡ n
+    pair-long f xs ys n a b = length-zipped f xs ys ∙ omega arith
 
 pub shaped-of : (p : Params) (k : Disk) → Whole p k → Bytes (k .image) → Shaped p (seen p k)
 shaped-of p k w b = record {

@@ -1,24 +1,27 @@
 -- Headers, records and footers as bytes: lengths, that they are bytes, and that they are read back. Assumes nothing.
-use mathlib.Core.Path.{_≡_, refl, sym, ap, ap₂, _∙_, subst}
+use mathlib.Core.Path.{_≡_, refl, sym, ap, _∙_, subst}
 use mathlib.Core.List.{List, [], _∷_, _++_, append-nil, append-assoc}
 use mathlib.Core.Logic.{inl, inr}
 use Prim.Native.Nat.{ℕ, zero, suc, _+_, _-_, _*_, _/_, _%_, _^_, _≤_, _<_}
-use native.Mathlib.Nat.{div-add-mod', pow-succ', one-mul, pow-le-pow-right, mod-lt, mul-assoc, mul-suc, mul-le-mul-right}
+use native.Mathlib.Nat.{div-add-mod', pow-le-pow-right, mod-lt, mul-suc, mul-le-mul-right}
 use native.Mathlib.Omega.{arith}
 use lib.Dec.{lit<}
-use lib.ListN.{length, getD, take, drop, replicate, length-append, length-take, length-drop, length-replicate}
-use lib.Seq.{take-at, drop-append-add, getD-take, getD-drop}
+use lib.ListN.{length, getD, take, drop, replicate, length-take, length-drop, length-replicate}
+use lib.Seq.{take-at, getD-take, getD-drop}
 use Rattle.defs.specs.declared.Params.{Params}
-use Rattle.defs.specs.Bytes.{beFrom, beOf, toBe, part, Field, field, bytesOf, readField}
+use Rattle.defs.specs.Bytes.{beOf, toBe, part, Field, field, bytesOf, readField}
 use Rattle.defs.specs.Drives.{zeroSpare}
 use Rattle.defs.specs.Layout.{headerWidths, headerValues, headerFields, headerBlock, headerSerial, headerCopied, Rec, recordFields, recordBytes, recordOf, footerBlock}
 use Rattle.defs.specs.Lists.{flat, total, padTo, zipped}
 use Rattle.defs.specs.Params.{recordWidths, spareLen, perFooter}
-use Rattle.laws.specs.Be.{length-toBe, beOf-toBe}
-use Rattle.tablesay.specs.Tables.{length-flat, zero-at}
+use Rattle.laws.specs.Be.{beOf-lt, toBe-byte}
+use Rattle.laws.specs.Fields.{widths, length-bytesOf, readField-bytesOf}
+use Rattle.laws.specs.Geometry.{Ranged, spare-len, per-footer-low, per-footer-fits}
+use Rattle.laws.specs.Ranges.{length-padTo}
+use Rattle.laws.specs.Splice.{part-append-right}
 use Rattle.tablesay.specs.Image.{bytes-part}
 use Rattle.tablesay.specs.Members.{In}
-use Rattle.tablesay.specs.Range.{Range, spare-is, per-low, per-fits}
+use Rattle.tablesay.specs.Tables.{length-flat-in, zero-at}
 use Rattle.tablesay.specs.Zones.{Bytes}
 
 -- ---- bytes
@@ -35,13 +38,7 @@ pub bytes-zeros : (n : ℕ) → Bytes (replicate n 0)
 bytes-zeros n i = subst (λ (x : ℕ). x < 256) (sym (zero-at n i)) (lit< tt)
 
 pub bytes-toBe : (w n : ℕ) → Bytes (toBe w n)
-unfolding toBe
-bytes-toBe zero n = bytes-nil
-bytes-toBe (suc w) n = bytes-append (toBe w (n / 256)) (n % 256 ∷ []) (bytes-toBe w (n / 256)) one
-  where
-    one : Bytes (n % 256 ∷ [])
-    one zero = mod-lt n (lit< tt)
-    one (suc i) = omega arith
+bytes-toBe w n i = toBe-byte w n i
 
 pub bytes-pad : (n : ℕ) (l : List ℕ) → Bytes l → Bytes (padTo n l)
 unfolding padTo
@@ -53,37 +50,13 @@ bytes-fields [] = bytes-nil
 bytes-fields (f ∷ fs) = bytes-append (toBe (f .width) (f .value)) (bytesOf fs) (bytes-toBe (f .width) (f .value)) (bytes-fields fs)
 
 -- what bytes say
-be-low : (n : ℕ) (l : List ℕ) → Bytes l → beFrom n l < suc n * 256 ^ length l
-unfolding beFrom
-be-low n [] h = omega arith
-be-low n (b ∷ l) h =
-    let ih : beFrom (n * 256 + b) l < suc (n * 256 + b) * 256 ^ length l = be-low (n * 256 + b) l (λ i. h (suc i)) in
-    let hb : b < 256 = h 0 in
-    let m : suc (n * 256 + b) * 256 ^ length l ≤ (suc n * 256) * 256 ^ length l = mul-le-mul-right (256 ^ length l) (let z : suc (n * 256 + b) ≤ suc n * 256 = omega arith in z) in
-    let e : suc n * 256 * 256 ^ length l ≡ suc n * 256 ^ suc (length l) = mul-assoc (suc n) 256 (256 ^ length l) ∙ ap (λ (x : ℕ). suc n * x) (sym (pow-succ' 256 (length l))) in
-    omega arith
-
 pub beOf-low : (l : List ℕ) → Bytes l → beOf l < 256 ^ length l
-unfolding beOf
-beOf-low l h = let z = be-low 0 l h in omega (arith, one-mul (256 ^ length l))
+beOf-low l h = beOf-lt l (λ k x. h k)
 
 -- ---- lengths
 
-pub length-padTo : (n : ℕ) (l : List ℕ) → length l ≤ n → length (padTo n l) ≡ n
-unfolding padTo
-length-padTo n l h = length-append l (replicate (n - length l) 0) ∙ ap (λ (k : ℕ). length l + k) (length-replicate (n - length l) 0) ∙ omega arith
-
-unfoldable pub widthOf : List Field → ℕ
-widthOf [] = 0
-widthOf (f ∷ fs) = f .width + widthOf fs
-
-pub length-bytesOf : (fs : List Field) → length (bytesOf fs) ≡ widthOf fs
-unfolding bytesOf widthOf
-length-bytesOf [] = refl
-length-bytesOf (f ∷ fs) = length-append (toBe (f .width) (f .value)) (bytesOf fs) ∙ ap₂ (λ (x y : ℕ). x + y) (length-toBe (f .width) (f .value)) (length-bytesOf fs)
-
-header-width : (p : Params) (d z r c : ℕ) → widthOf (headerFields p d z r c) ≡ 41
-unfolding widthOf headerFields headerWidths headerValues zipped
+header-width : (p : Params) (d z r c : ℕ) → widths (headerFields p d z r c) ≡ 41
+unfolding widths headerFields headerWidths headerValues zipped
 header-width p d z r c = refl
 
 pub length-header : (p : Params) (d z r c : ℕ) → 41 ≤ p .B → length (headerBlock p d z r c) ≡ p .B
@@ -104,13 +77,13 @@ pub bytes-zeroSpare : Bytes zeroSpare
 unfolding zeroSpare
 bytes-zeroSpare = bytes-zeros spareLen
 
-record-width : (r : Rec) → widthOf (recordFields r) ≡ 20
-unfolding widthOf recordFields recordWidths zipped
+record-width : (r : Rec) → widths (recordFields r) ≡ 20
+unfolding widths recordFields recordWidths zipped
 record-width r = refl
 
 pub length-record : (r : Rec) → length (recordBytes r) ≡ spareLen
 unfolding recordBytes
-length-record r = length-bytesOf (recordFields r) ∙ record-width r ∙ sym spare-is
+length-record r = length-bytesOf (recordFields r) ∙ record-width r ∙ sym spare-len
 
 pub bytes-record : (r : Rec) → Bytes (recordBytes r)
 unfolding recordBytes
@@ -132,16 +105,16 @@ in-drop (suc n) [] a m = absurd m
 in-drop (suc n) (x ∷ l) a m = inr (in-drop n l a m)
 
 length-rows : (k : ℕ) (ss : List (List ℕ)) → Long k ss → length (flat (λ (b : List ℕ). b) ss) ≡ length ss * k
-length-rows k ss h = length-flat (λ (b : List ℕ). b) k ss h
+length-rows k ss h = length-flat-in (λ (b : List ℕ). b) k ss h
 
-pub length-footer : (p : Params) → Range p → (ss : List (List ℕ)) (i : ℕ) → Long spareLen ss → length (footerBlock p ss i) ≡ p .B
+pub length-footer : (p : Params) → Ranged p → (ss : List (List ℕ)) (i : ℕ) → Long spareLen ss → length (footerBlock p ss i) ≡ p .B
 unfolding footerBlock
 length-footer p r ss i h =
     let l = take (perFooter p) (drop (i * perFooter p) ss) in
     let e : length (flat (λ (b : List ℕ). b) l) ≡ length l * spareLen = length-rows spareLen l (λ s m. h s (in-drop (i * perFooter p) ss s (in-take (perFooter p) (drop (i * perFooter p) ss) s m))) in
     let n : length l ≤ perFooter p = subst (λ (x : ℕ). x ≤ perFooter p) (sym (length-take (perFooter p) (drop (i * perFooter p) ss))) (omega arith) in
     let m : length l * spareLen ≤ perFooter p * spareLen = mul-le-mul-right spareLen n in
-    let q : perFooter p * spareLen ≤ p .B = subst (λ (x : ℕ). perFooter p * x ≤ p .B) (sym spare-is) (per-fits p r) in
+    let q : perFooter p * spareLen ≤ p .B = per-footer-fits p r in
     length-padTo (p .B) (flat (λ (b : List ℕ). b) l) (omega arith)
 
 bytes-rows : (ss : List (List ℕ)) → ((s : List ℕ) → In s ss → Bytes s) → Bytes (flat (λ (b : List ℕ). b) ss)
@@ -156,64 +129,38 @@ bytes-footer p ss i h = bytes-pad (p .B) (flat (λ (b : List ℕ). b) (take (per
 
 -- ---- fields are read back
 
-part-behind : (s t : List ℕ) (a n : ℕ) → part (length s + a) n (s ++ t) ≡ part a n t
-unfolding part
-part-behind s t a n = ap (take n) (drop-append-add s t a)
-
-part-front : (s t : List ℕ) (n : ℕ) → length s ≡ n → part 0 n (s ++ t) ≡ s
-unfolding part
-part-front s t n e = take-at s t n e
-
-field-part : (ws vs : List ℕ) (i : ℕ) (t : List ℕ) → i < length ws → length ws ≡ length vs
-    → part (total (take i ws)) (getD ws i 0) (bytesOf (zipped field ws vs) ++ t) ≡ toBe (getD ws i 0) (getD vs i 0)
-unfolding bytesOf zipped total
-field-part [] vs i t h l = absurd (let z : ⊥ = omega arith in z)
-field-part (w ∷ ws) [] i t h l = absurd (let z : ⊥ = omega arith in z)
-field-part (w ∷ ws) (v ∷ vs) zero t h l =
-    ap (part 0 w) (append-assoc (toBe w v) (bytesOf (zipped field ws vs)) t) ∙ part-front (toBe w v) (bytesOf (zipped field ws vs) ++ t) w (length-toBe w v)
-field-part (w ∷ ws) (v ∷ vs) (suc i) t h l =
-    ap (part (w + total (take i ws)) (getD ws i 0)) (append-assoc (toBe w v) (bytesOf (zipped field ws vs)) t)
-    ∙ ap (λ (x : ℕ). part (x + total (take i ws)) (getD ws i 0) (toBe w v ++ (bytesOf (zipped field ws vs) ++ t))) (sym (length-toBe w v))
-    ∙ part-behind (toBe w v) (bytesOf (zipped field ws vs) ++ t) (total (take i ws)) (getD ws i 0)
-    ∙ field-part ws vs i t (omega arith) (omega arith)
-
-pub field-read : (ws vs : List ℕ) (i : ℕ) (t : List ℕ) → i < length ws → length ws ≡ length vs → getD vs i 0 < 256 ^ getD ws i 0
-    → readField ws i (bytesOf (zipped field ws vs) ++ t) ≡ getD vs i 0
-unfolding readField
-field-read ws vs i t h l b = ap beOf (field-part ws vs i t h l) ∙ beOf-toBe (getD ws i 0) (getD vs i 0) b
-
 pub header-serial : (p : Params) (d z r c : ℕ) → r < 256 ^ 8 → headerSerial (headerBlock p d z r c) ≡ r
 unfolding headerSerial headerBlock padTo headerFields headerWidths headerValues
 header-serial p d z r c h =
     let vs = headerValues p d z r c in
     let t : List ℕ = replicate (p .B - length (bytesOf (zipped field headerWidths vs))) 0 in
-    field-read headerWidths vs 9 t (lit< tt) refl h
+    readField-bytesOf headerWidths vs 9 t (lit< tt) (lit< tt) h
 
 pub header-copied : (p : Params) (d z r c : ℕ) → c < 256 ^ 8 → headerCopied (headerBlock p d z r c) ≡ c
 unfolding headerCopied headerBlock padTo headerFields headerWidths headerValues
 header-copied p d z r c h =
     let vs = headerValues p d z r c in
     let t : List ℕ = replicate (p .B - length (bytesOf (zipped field headerWidths vs))) 0 in
-    field-read headerWidths vs 10 t (lit< tt) refl h
+    readField-bytesOf headerWidths vs 10 t (lit< tt) (lit< tt) h
 
-record-field : (r : Rec) (i : ℕ) → i < length recordWidths → length recordWidths ≡ 3 → getD (r .address ∷ r .stamp ∷ r .stripe ∷ []) i 0 < 256 ^ getD recordWidths i 0
+record-field : (r : Rec) (i : ℕ) → i < length recordWidths → i < 3 → getD (r .address ∷ r .stamp ∷ r .stripe ∷ []) i 0 < 256 ^ getD recordWidths i 0
     → readField recordWidths i (recordBytes r) ≡ getD (r .address ∷ r .stamp ∷ r .stripe ∷ []) i 0
 unfolding recordBytes recordFields
 record-field r i h l b =
     let vs = r .address ∷ r .stamp ∷ r .stripe ∷ [] in
-    ap (readField recordWidths i) (sym (append-nil (bytesOf (zipped field recordWidths vs)))) ∙ field-read recordWidths vs i [] h l b
+    ap (readField recordWidths i) (sym (append-nil (bytesOf (zipped field recordWidths vs)))) ∙ readField-bytesOf recordWidths vs i [] h l b
 
 pub record-stripe : (r : Rec) → r .stripe < 256 ^ 4 → recordOf (recordBytes r) .stripe ≡ r .stripe
 unfolding recordOf recordWidths
-record-stripe r h = record-field r 2 (lit< tt) refl h
+record-stripe r h = record-field r 2 (lit< tt) (lit< tt) h
 
 pub record-back : (r : Rec) → r .address < 256 ^ 8 → r .stamp < 256 ^ 8 → r .stripe < 256 ^ 4 → recordOf (recordBytes r) ≡ r
 unfolding recordOf recordWidths
 record-back r a t s =
     λ i. record {
-      address = record-field r 0 (lit< tt) refl a i;
-      stamp = record-field r 1 (lit< tt) refl t i;
-      stripe = record-field r 2 (lit< tt) refl s i;
+      address = record-field r 0 (lit< tt) (lit< tt) a i;
+      stamp = record-field r 1 (lit< tt) (lit< tt) t i;
+      stripe = record-field r 2 (lit< tt) (lit< tt) s i;
     }
 
 -- ---- what bytes say is small
@@ -244,6 +191,10 @@ stamp-low l h = field-low recordWidths 1 l h
 
 -- ---- footers are read back
 
+part-front : (s t : List ℕ) (n : ℕ) → length s ≡ n → part 0 n (s ++ t) ≡ s
+unfolding part
+part-front s t n e = take-at s t n e
+
 row-of : (k : ℕ) (t : List (List ℕ)) (j : ℕ) (u : List ℕ) → Long k t → j < length t → part (k * j) k (flat (λ (b : List ℕ). b) t ++ u) ≡ getD t j []
 unfolding flat
 row-of k [] j u h l = absurd (let z : ⊥ = omega arith in z)
@@ -252,17 +203,17 @@ row-of k (s ∷ t) zero u h l =
     ∙ ap (part 0 k) (append-assoc s (flat (λ (b : List ℕ). b) t) u) ∙ part-front s (flat (λ (b : List ℕ). b) t ++ u) k (h s (inl refl))
 row-of k (s ∷ t) (suc j) u h l =
     ap (λ (x : ℕ). part x k (s ++ flat (λ (b : List ℕ). b) t ++ u)) (let e : k * suc j ≡ length s + k * j = mul-suc k j ∙ (let q : length s ≡ k = h s (inl refl) in omega arith) in e)
-    ∙ ap (part (length s + k * j) k) (append-assoc s (flat (λ (b : List ℕ). b) t) u) ∙ part-behind s (flat (λ (b : List ℕ). b) t ++ u) (k * j) k
+    ∙ ap (part (length s + k * j) k) (append-assoc s (flat (λ (b : List ℕ). b) t) u) ∙ part-append-right (k * j) k s (flat (λ (b : List ℕ). b) t ++ u)
     ∙ row-of k t j u (λ x m. h x (inr m)) (omega arith)
 
-pub getD-footer : (p : Params) → Range p → (ss : List (List ℕ)) (o : ℕ) → Long spareLen ss → o < length ss
+pub getD-footer : (p : Params) → Ranged p → (ss : List (List ℕ)) (o : ℕ) → Long spareLen ss → o < length ss
     → part (spareLen * (o % perFooter p)) spareLen (footerBlock p ss (o / perFooter p)) ≡ getD ss o []
 unfolding footerBlock padTo
 getD-footer p r ss o h l =
     let k = perFooter p in
     let j = o % k in
     let i = o / k in
-    let jk : j < k = mod-lt o (let z : 0 < k = omega (arith, per-low p r) in z) in
+    let jk : j < k = mod-lt o (let z : 0 < k = omega (arith, per-footer-low p r) in z) in
     let e : i * k + j ≡ o = div-add-mod' o k in
     let d = drop (i * k) ss in
     let t = take k d in

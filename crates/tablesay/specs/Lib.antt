@@ -35,11 +35,11 @@ pub mod Live
 pub mod Going
 pub mod Reclaiming
 pub mod Growing
-pub mod Landing1
+pub mod Chunks
 pub mod Pointing
 pub mod Sealing
 pub mod Joins
-pub mod Landing2
+pub mod Landings
 pub mod Counting
 pub mod Resting
 pub mod Dropping
@@ -48,3 +48,4 @@ pub mod Mending
 pub mod Rewriting
 pub mod Restarting
 pub mod Theorem
+pub mod Instance

@@ -16,8 +16,8 @@ use Rattle.defs.specs.Params.{placeDrive}
 use Rattle.defs.specs.Rank.{Cand, best, placeOr, candsOf}
 use Rattle.defs.specs.Reclaim.{placesIn, tableFaults}
 use Rattle.defs.specs.Segments.{segments, candidates, addressTable}
+use Rattle.laws.specs.Geometry.{Ranged}
 use Rattle.tablesay.specs.Members.{In, in-map, map-in, in-keep, keep-in, in-none, in-below, below-in}
-use Rattle.tablesay.specs.Range.{Range}
 use Rattle.tablesay.specs.Ranks.{best-in}
 use Rattle.tablesay.specs.Reads.{Spot, spot-of, spot-drive, spot-low}
 use Rattle.tablesay.specs.Segs.{CandAt, cand-at}
@@ -29,7 +29,7 @@ pub data Holds (p : Params) (v : View) (tb : List ℕ) (a : ℕ) : Type 0 where
   holds-none : best none (candsOf a (candidates p 0 (segments p v 0))) ≡ none → placeAt tb a ≡ neverPlace → Holds p v tb a
   holds-some : (c : Cand) → best none (candsOf a (candidates p 0 (segments p v 0))) ≡ some c → CandAt p v 0 c → Spot p v 0 c → c .address ≡ a → placeAt tb a ≡ c .place → Holds p v tb a
 
-pub table-holds : (p : Params) (r : Range p) (v : View) (tb : List ℕ) → tb ≡ addressTable p (candidates p 0 (segments p v 0)) → (a : ℕ) → a < p .L → Holds p v tb a
+pub table-holds : (p : Params) (r : Ranged p) (v : View) (tb : List ℕ) → tb ≡ addressTable p (candidates p 0 (segments p v 0)) → (a : ℕ) → a < p .L → Holds p v tb a
 table-holds p r v tb e a h = go (best none (candsOf a cs)) refl
   where
     cs : List Cand
@@ -67,7 +67,7 @@ pub record Pointed (p : Params) (v : View) (q : ℕ) : Type 0 where
   pub of-address : cand .address ≡ address
   pub place! : q ≡ cand .place
 
-pub places-pointed : (p : Params) (r : Range p) (v : View) (tb : List ℕ) → tb ≡ addressTable p (candidates p 0 (segments p v 0)) → (q : ℕ) → In q (placesIn p tb) → Pointed p v q
+pub places-pointed : (p : Params) (r : Ranged p) (v : View) (tb : List ℕ) → tb ≡ addressTable p (candidates p 0 (segments p v 0)) → (q : ℕ) → In q (placesIn p tb) → Pointed p v q
 places-pointed p r v tb e q m = go (as! m)
   where
     as! : In q (placesIn p tb) → In q (keep (λ q. not (eqb q neverPlace)) (map (placeAt tb) (below (p .L))))
@@ -84,7 +84,7 @@ places-pointed p r v tb e q m = go (as! m)
         two a ha f x (holds-some c b k t ea y) = record { address = a; cand = c; address-low = ha; wins = b; at-cand! = k; spot = t; of-address = ea; place! = f ∙ y }
 
 -- the place of a record that holds is in the table
-pub holds-place : (p : Params) (r : Range p) (v : View) (tb : List ℕ) → tb ≡ addressTable p (candidates p 0 (segments p v 0)) → (a : ℕ) (c : Cand) → a < p .L
+pub holds-place : (p : Params) (r : Ranged p) (v : View) (tb : List ℕ) → tb ≡ addressTable p (candidates p 0 (segments p v 0)) → (a : ℕ) (c : Cand) → a < p .L
     → best none (candsOf a (candidates p 0 (segments p v 0))) ≡ some c → In (c .place) (placesIn p tb)
 holds-place p r v tb e a c h q = go (table-holds p r v tb e a h)
   where
@@ -99,7 +99,7 @@ holds-place p r v tb e a c h q = go (table-holds p r v tb e a h)
         let e : d ≡ c = (let x : some d ≡ some c = sym b ∙ q in cc) in
         found! (y ∙ ap (λ (x : Cand). x .place) e) (subst (λ (x : Cand). x .place < neverPlace) e (spot-low p r v 0 d t))
 
-pub table-clear : (p : Params) (r : Range p) (v : View) (tb : List ℕ) → tb ≡ addressTable p (candidates p 0 (segments p v 0)) → tableFaults p tb ≡ []
+pub table-clear : (p : Params) (r : Ranged p) (v : View) (tb : List ℕ) → tb ≡ addressTable p (candidates p 0 (segments p v 0)) → tableFaults p tb ≡ []
 table-clear p r v tb e = clear! (in-none (λ q. leb (p .N) (placeDrive p q)) (placesIn p tb)
     (λ q m. let t = places-pointed p r v tb e q m in lt-leb (p .N) (placeDrive p q) (subst (λ (x : ℕ). placeDrive p x < p .N) (sym (t .place!)) (subst (λ (x : ℕ). x < p .N) (sym (spot-drive p r v 0 (t .cand) (t .spot))) (t .spot .drive-low)))))
   where

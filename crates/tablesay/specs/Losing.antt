@@ -31,38 +31,40 @@ use Rattle.defs.specs.Reclaim.{tableFaults, victim, isNone, victimSegment, vict
 use Rattle.defs.specs.Segments.{lowDrive, segments, candidates, addressTable, compactTable}
 use Rattle.defs.specs.Write.{opens, noStamp, noSerial, mustWait, scarce, writeChecks, writePlan, writeVerdict}
 use Rattle.laws.specs.Be.{room}
-use Rattle.laws.specs.Geometry.{ranged}
-use Rattle.tablesay.specs.Tests.{and-left, and-right, clash, or-right, eqb-self}
+use Rattle.laws.specs.Geometry.{Ranged, ranged}
+use Rattle.laws.specs.Mask.{isIn-only}
+use Rattle.laws.specs.Ranges.{and-left, and-right}
 use Rattle.views.specs.Views.{seen, view-stores, whole-stores}
 use Rattle.tablesay.specs.Accept.{Accepted, checks-of, in-groups}
 use Rattle.tablesay.specs.Base.{Base}
 use Rattle.tablesay.specs.Checks.{Passes, Clear, clear}
 use Rattle.tablesay.specs.Frame.{Agree, same-candidates, same-compact, same-accepted}
 use Rattle.tablesay.specs.Idle.{lengths-of, of-lengths, whole-of}
-use Rattle.tablesay.specs.Masks.{only-low, in-only, ones-only, only-nonzero}
+use Rattle.tablesay.specs.Masks.{only-low, ones-only, only-nonzero}
 use Rattle.tablesay.specs.Members.{In, first-in, in-some}
 use Rattle.tablesay.specs.Outcomes.{Ended, ended, cut-cut, cut-mild}
 use Rattle.tablesay.specs.Outcomes.Ended.{ended-refused, ended-done, ended-cut}
-use Rattle.tablesay.specs.Range.{Range, in-range, capacity-word}
+use Rattle.tablesay.specs.Range.{capacity-word}
 use Rattle.tablesay.specs.Reading.{Idle}
 use Rattle.tablesay.specs.Reads.{InGroups}
 use Rattle.tablesay.specs.Rebuilding.{rebuild-roomy, rebuild-within, rebuild-agrees}
 use Rattle.tablesay.specs.Segs.{in-present}
+use Rattle.tablesay.specs.Tests.{clash, or-right, eqb-self}
 use Rattle.tablesay.specs.Zones.{Shaped, all-fit, shaped-after}
 
 -- ---- the mask of a drive
 
-module _ (p : Params) (r : Range p) (d : ℕ) (hd : d < p .N) where
+module _ (p : Params) (r : Ranged p) (d : ℕ) (hd : d < p .N) where
   eight : d < 8
-  eight = omega (arith, r .n-high)
+  eight = omega (arith, r .drives-high)
 
   pub named-in : isIn (named d) d ≡ true
   unfolding named
-  named-in = in-only d d eight eight ∙ eqb-self d
+  named-in = isIn-only d d eight eight ∙ eqb-self d
 
   pub named-low : named d < 2 ^ p .N
   unfolding named
-  named-low = only-low d (p .N) hd (r .n-high)
+  named-low = only-low d (p .N) hd (r .drives-high)
 
   pub named-ones : ones (named d) ≤ 1
   unfolding named
@@ -74,15 +76,15 @@ module _ (p : Params) (r : Range p) (d : ℕ) (hd : d < p .N) where
 
   other : (e : ℕ) → e < p .N → (e ≡ d → ⊥) → In e (present p (named d))
   unfolding named
-  other e he ne = in-present p (only d) e he (in-only d e eight (omega (arith, r .n-high)) ∙ ne-eqb e d ne)
+  other e he ne = in-present p (only d) e he (isIn-only d e eight (omega (arith, r .drives-high)) ∙ ne-eqb e d ne)
 
   pub low-present : In (lowDrive p (named d)) (present p (named d))
   unfolding lowDrive
   low-present = first-in (present p (named d)) 0 (go (ℕ-discrete 0 d))
     where
       go : Dec (0 ≡ d) → isNil (present p (named d)) ≡ false
-      go (no n) = in-some (present p (named d)) 0 (other 0 (omega (arith, r .n-low)) n)
-      go (yes n) = in-some (present p (named d)) 1 (other 1 (omega (arith, r .n-low)) (λ e. let z : ⊥ = omega arith in z))
+      go (no n) = in-some (present p (named d)) 0 (other 0 (omega (arith, r .drives-low)) n)
+      go (yes n) = in-some (present p (named d)) 1 (other 1 (omega (arith, r .drives-low)) (λ e. let z : ⊥ = omega arith in z))
 
 -- ---- a call that changes nothing keeps what holds
 
@@ -114,8 +116,8 @@ module _ (p : Params) (k : Disk) (m : Memory) (u : Run p k m) (lo : Lost p k m) 
   abbrev d : ℕ
   d = lo .which
 
-  rg : Range p
-  rg = in-range p (u .base .ranged)
+  rg : Ranged p
+  rg = ranged p (u .base .ranged)
 
   missing-some : eqb (m .state .missing) 0 ≡ false
   missing-some = ap (λ (x : ℕ). eqb x 0) (lo .names-it) ∙ named-some p rg d (lo .which-low)

@@ -1,6 +1,6 @@
 -- Members of lists, and the tests and lists made of them. Assumes nothing.
 use mathlib.Core.Path.{_≡_, refl, sym, ap, ap₂, _∙_, subst}
-use mathlib.Core.List.{List, [], _∷_, _++_, map, append-assoc}
+use mathlib.Core.List.{List, [], _∷_, _++_, map}
 use mathlib.Core.Bool.{Bool, true, false, _&&_, _||_}
 use mathlib.Core.Logic.{_⊎_, inl, inr, ⊎-elim}
 use Prim.Native.Nat.{ℕ, zero, suc, _+_, _≤_, _<_}
@@ -10,8 +10,9 @@ use native.Mathlib.Omega.{arith}
 use lib.Dec.{eqb}
 use lib.ListN.{length, getD}
 use Rattle.defs.specs.Lists.{upFrom, below, all, any, isMember, consIf, keep, isNil, sucUnless, indexOf, flat, firstOr}
-use Rattle.tablesay.specs.Tests.{Test, test, and-left, and-right, and-both, not-both, clash, not-both′, or-left, or-right, or-neither, or-true-left, or-true-right, not-so, eqb-self}
-use Rattle.tablesay.specs.Tests.Test.{yes!, no! }
+use Rattle.laws.specs.Ranges.{Test, test, and-left, and-right, and-both, keep-append}
+use Rattle.laws.specs.Ranges.Test.{yes!, no! }
+use Rattle.tablesay.specs.Tests.{clash, true-false, false-true, or-left, or-right, or-neither, or-true-left, or-true-right, not-so, eqb-self}
 
 abbrev pub In : {A : Type 0} → A → List A → Type 0
 In a [] = ⊥
@@ -108,7 +109,7 @@ in-none f (b ∷ l) h = or-neither (f b) (any f l) (h b (inl refl)) (in-none f l
 
 pub any-in : {A : Type 0} (f : A → Bool) (l : List A) → any f l ≡ true → (a : A) × In a l × (f a ≡ true)
 unfolding any
-any-in f [] q = not-both′ q
+any-in f [] q = false-true q
 any-in {A} f (b ∷ l) q = go (test (f b)) (any-in f l)
   where
     go : Test (f b) → (any f l ≡ true → (a : A) × In a l × (f a ≡ true)) → (a : A) × In a (b ∷ l) × (f a ≡ true)
@@ -124,7 +125,7 @@ in-any f (b ∷ l) a (inr m) q = or-true-right (f b) (any f l) (in-any f l a m q
 -- a test over all fails somewhere
 pub some-fails : {A : Type 0} (f : A → Bool) (l : List A) → all f l ≡ false → (a : A) × In a l × (f a ≡ false)
 unfolding all
-some-fails f [] q = not-both q
+some-fails f [] q = true-false q
 some-fails {A} f (b ∷ l) q = go (test (f b)) (some-fails f l)
   where
     go : Test (f b) → (all f l ≡ false → (a : A) × In a l × (f a ≡ false)) → (a : A) × In a (b ∷ l) × (f a ≡ false)
@@ -159,32 +160,23 @@ flat-cong f g (a ∷ l) h = ap₂ _++_ (h a (inl refl)) (flat-cong f g l (λ b m
 
 -- ---- nothing, everything
 
-pub keep-none : {A : Type 0} (f : A → Bool) (l : List A) → ((a : A) → In a l → f a ≡ false) → keep f l ≡ []
+pub keep-nothing : {A : Type 0} (f : A → Bool) (l : List A) → ((a : A) → In a l → f a ≡ false) → keep f l ≡ []
 unfolding keep consIf
-keep-none f [] h = refl
-keep-none f (a ∷ l) h = rw (h a (inl refl)) (keep-none f l (λ b m. h b (inr m)))
+keep-nothing f [] h = refl
+keep-nothing f (a ∷ l) h = rw (h a (inl refl)) (keep-nothing f l (λ b m. h b (inr m)))
 
 pub keep-all : {A : Type 0} (f : A → Bool) (l : List A) → ((a : A) → In a l → f a ≡ true) → keep f l ≡ l
 unfolding keep consIf
 keep-all f [] h = refl
 keep-all f (a ∷ l) h = rw (h a (inl refl)) (ap (λ x. a ∷ x) (keep-all f l (λ b m. h b (inr m))))
 
-pub flat-none : {A B : Type 0} (f : A → List B) (l : List A) → ((a : A) → In a l → f a ≡ []) → flat f l ≡ []
+pub flat-nothing : {A B : Type 0} (f : A → List B) (l : List A) → ((a : A) → In a l → f a ≡ []) → flat f l ≡ []
 unfolding flat
-flat-none f [] h = refl
-flat-none f (a ∷ l) h = rw (h a (inl refl)) (flat-none f l (λ b m. h b (inr m)))
+flat-nothing f [] h = refl
+flat-nothing f (a ∷ l) h = rw (h a (inl refl)) (flat-nothing f l (λ b m. h b (inr m)))
 
 pub keep-nil-in : {A : Type 0} (f : A → Bool) (l : List A) → keep f l ≡ [] → (a : A) → In a l → f a ≡ false
 keep-nil-in f l q a m = not-so (f a) (λ e. subst (λ x. In a x) q (in-keep f l a m e))
-
-pub keep-append : {A : Type 0} (f : A → Bool) (s t : List A) → keep f (s ++ t) ≡ keep f s ++ keep f t
-unfolding keep consIf
-keep-append f [] t = refl
-keep-append f (a ∷ s) t = go (test (f a)) (keep-append f s t)
-  where
-    go : Test (f a) → keep f (s ++ t) ≡ keep f s ++ keep f t → keep f (a ∷ s ++ t) ≡ keep f (a ∷ s) ++ keep f t
-    go (yes! e) ih = rw e (ap (λ x. a ∷ x) ih)
-    go (no! e) ih = rw e ih
 
 pub keep-keep : {A : Type 0} (f g : A → Bool) (l : List A) → keep f (keep g l) ≡ keep (λ a. g a && f a) l
 unfolding keep consIf
@@ -195,23 +187,10 @@ keep-keep f g (a ∷ l) = go (test (g a)) (keep-keep f g l)
     go (yes! e) ih = rw e (ap (consIf (f a) a) ih)
     go (no! e) ih = rw e ih
 
-pub flat-append : {A B : Type 0} (f : A → List B) (s t : List A) → flat f (s ++ t) ≡ flat f s ++ flat f t
-unfolding flat
-flat-append f [] t = refl
-flat-append f (a ∷ s) t = ap (λ x. f a ++ x) (flat-append f s t) ∙ sym (append-assoc (f a) (flat f s) (flat f t))
-
 pub keep-flat : {A B : Type 0} (f : B → Bool) (g : A → List B) (l : List A) → keep f (flat g l) ≡ flat (λ a. keep f (g a)) l
 unfolding flat keep
 keep-flat f g [] = refl
 keep-flat f g (a ∷ l) = keep-append f (g a) (flat g l) ∙ ap (λ x. keep f (g a) ++ x) (keep-flat f g l)
-
-pub map-append : {A B : Type 0} (f : A → B) (s t : List A) → map f (s ++ t) ≡ map f s ++ map f t
-map-append f [] t = refl
-map-append f (a ∷ s) t = ap (λ x. f a ∷ x) (map-append f s t)
-
-pub map-map : {A B C : Type 0} (f : B → C) (g : A → B) (l : List A) → map f (map g l) ≡ map (λ a. f (g a)) l
-map-map f g [] = refl
-map-map f g (a ∷ l) = ap (λ x. f (g a) ∷ x) (map-map f g l)
 
 pub keep-map : {A B : Type 0} (f : B → Bool) (g : A → B) (l : List A) → keep f (map g l) ≡ map g (keep (λ a. f (g a)) l)
 unfolding keep consIf
@@ -252,34 +231,6 @@ pub below-in : (n e : ℕ) → In e (below n) → e < n
 unfolding below
 below-in n e m = let h = from-in 0 n e m in omega arith
 
-pub length-from : (i n : ℕ) → length (upFrom i n) ≡ n
-unfolding upFrom
-length-from i zero = refl
-length-from i (suc n) = ap suc (length-from (suc i) n)
-
-pub length-below : (n : ℕ) → length (below n) ≡ n
-unfolding below
-length-below n = length-from 0 n
-
-pub getD-from : (i n k d : ℕ) → k < n → getD (upFrom i n) k d ≡ i + k
-unfolding upFrom
-getD-from i zero k d h = absurd (let q : ⊥ = omega arith in q)
-getD-from i (suc n) zero d h = omega arith
-getD-from i (suc n) (suc k) d h = getD-from (suc i) n k d (omega arith) ∙ omega arith
-
-pub getD-below : (n k d : ℕ) → k < n → getD (below n) k d ≡ k
-unfolding below
-getD-below n k d h = getD-from 0 n k d h ∙ omega arith
-
--- an element of a mapped list
-pub getD-map-at : {A B : Type 0} (f : A → B) (l : List A) (k : ℕ) (a : A) (b : B) → k < length l → getD (map f l) k b ≡ f (getD l k a)
-getD-map-at f [] k a b h = absurd (let q : ⊥ = omega arith in q)
-getD-map-at f (x ∷ l) zero a b h = refl
-getD-map-at f (x ∷ l) (suc k) a b h = getD-map-at f l k a b (omega arith)
-
-pub getD-map-below : {B : Type 0} (f : ℕ → B) (n k : ℕ) (b : B) → k < n → getD (map f (below n)) k b ≡ f k
-getD-map-below f n k b h = getD-map-at f (below n) k 0 b (subst (λ x. k < x) (sym (length-below n)) h) ∙ ap f (getD-below n k 0 h)
-
 -- an element by its index
 pub in-getD : {A : Type 0} (l : List A) (k : ℕ) (d : A) → k < length l → In (getD l k d) l
 in-getD [] k d h = absurd (let q : ⊥ = omega arith in q)
@@ -295,7 +246,7 @@ getD-in (x ∷ l) d a (inr m) = let (k, h, e) = getD-in l d a m in (suc k, omega
 
 pub index-below : {A : Type 0} (f : A → Bool) (l : List A) → any f l ≡ true → indexOf f l < length l
 unfolding any indexOf sucUnless
-index-below f [] q = not-both′ q
+index-below f [] q = false-true q
 index-below f (a ∷ l) q = go (test (f a)) (index-below f l)
   where
     go : Test (f a) → (any f l ≡ true → indexOf f l < length l) → indexOf f (a ∷ l) < suc (length l)
@@ -304,7 +255,7 @@ index-below f (a ∷ l) q = go (test (f a)) (index-below f l)
 
 pub index-passes : {A : Type 0} (f : A → Bool) (l : List A) (d : A) → any f l ≡ true → f (getD l (indexOf f l) d) ≡ true
 unfolding any indexOf sucUnless
-index-passes f [] d q = not-both′ q
+index-passes f [] d q = false-true q
 index-passes f (a ∷ l) d q = go (test (f a)) (index-passes f l d)
   where
     go : Test (f a) → (any f l ≡ true → f (getD l (indexOf f l) d) ≡ true) → f (getD (a ∷ l) (indexOf f (a ∷ l)) d) ≡ true
@@ -336,18 +287,13 @@ index-none f (a ∷ l) q = rw (or-left (f a) (any f l) q) (ap suc (index-none f 
 
 pub first-in : (l : List ℕ) (n : ℕ) → isNil l ≡ false → In (firstOr n l) l
 unfolding isNil firstOr
-first-in [] n q = not-both q
+first-in [] n q = true-false q
 first-in (a ∷ l) n q = inl refl
 
 pub nil-is : {A : Type 0} (l : List A) → isNil l ≡ true → l ≡ []
 unfolding isNil
 nil-is [] q = refl
-nil-is (a ∷ l) q = not-both′ q
-
-pub some-in : {A : Type 0} (l : List A) → isNil l ≡ false → (a : A) × In a l
-unfolding isNil
-some-in [] q = not-both q
-some-in (a ∷ l) q = (a, inl refl)
+nil-is (a ∷ l) q = false-true q
 
 pub in-some : {A : Type 0} (l : List A) (a : A) → In a l → isNil l ≡ false
 unfolding isNil

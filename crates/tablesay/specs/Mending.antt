@@ -17,14 +17,15 @@ use Rattle.defs.specs.Lists.{below, flat}
 use Rattle.defs.specs.Params.{footers, capacity, drivesOf}
 use Rattle.defs.specs.Restart.{isWhole, isRagged, missingFooters, dropStores}
 use Rattle.defs.specs.Segments.{headerAt, Segment, segmentOf, segments, counted, greatestSerial}
-use Rattle.tablesay.specs.Range.{capacity-low, Range, capacity-is}
+use Rattle.laws.specs.Geometry.{Ranged}
+use Rattle.laws.specs.Mask.{isIn-empty}
 use Rattle.tablesay.specs.Accept.{Accepted, pointer-ok}
 use Rattle.tablesay.specs.Dropping.{drop-same, drop-roomy, kept-pointer, drop-used, drop-tidy}
 use Rattle.tablesay.specs.Growing.{Grows, grows-used, grows-tidy}
 use Rattle.tablesay.specs.Joins.{roomy-none, stores-none}
-use Rattle.tablesay.specs.Masks.{in-empty}
 use Rattle.tablesay.specs.Members.{In, flat-cong, below-in}
 use Rattle.tablesay.specs.Puts.{putAt, putAll, puts-pointer, puts-old}
+use Rattle.tablesay.specs.Range.{capacity-is, capacity-over}
 use Rattle.tablesay.specs.Reclaiming.{sealed-full}
 use Rattle.tablesay.specs.Resting.{Steady, SealedAll, Rest}
 use Rattle.tablesay.specs.Resting.Rest.{rest-sealed, rest-open}
@@ -55,7 +56,7 @@ mended-none p v b t q = record {
 }
 
 -- a steady segment in a view with the same zones
-pub steady-goes : (p : Params) (r : Range p) (v u : View) (g c : ℕ) → SameZones p v u g → Steady p v g c → Steady p u g c
+pub steady-goes : (p : Params) (r : Ranged p) (v u : View) (g c : ℕ) → SameZones p v u g → Steady p v g c → Steady p u g c
 steady-goes p r v u g c sm s = record {
   steady-low = s .steady-low;
   steady-used = sym (zones-used p r v u g sm) ∙ s .steady-used;
@@ -65,7 +66,7 @@ steady-goes p r v u g c sm s = record {
   steady-count = ap (λ (x : Segment). length (counted p 0 x)) (sym (zones-segment p r v u g sm)) ∙ s .steady-count;
 }
 
-module _ (p : Params) (r : Range p) (v : View) (sh : Shaped p v) (acc : Accepted p v 0) where
+module _ (p : Params) (r : Ranged p) (v : View) (sh : Shaped p v) (acc : Accepted p v 0) where
   abbrev gs : List Segment
   gs = segments p v 0
 
@@ -76,7 +77,7 @@ module _ (p : Params) (r : Range p) (v : View) (sh : Shaped p v) (acc : Accepted
   va = storeAll storeView (dropStores p gs) v
 
   h0 : 0 < p .N
-  h0 = omega (arith, r .n-low)
+  h0 = omega (arith, r .drives-low)
 
   pub shaped-a : Shaped p va
   shaped-a = shaped-after p v (dropStores p gs) sh (drop-roomy p r v sh acc)
@@ -136,7 +137,7 @@ module _ (p : Params) (r : Range p) (v : View) (sh : Shaped p v) (acc : Accepted
 
       -- a zone's pointer and the footers that it has
       has-pointer : (d : ℕ) → d < p .N → zoneAt v d g .pointer ≡ 1 + p .S + have d
-      has-pointer d hd = as! (whole-pointer p r v sh acc g hg kg ng wh d hd) (pointer-ok p v 0 acc d g hd hg (in-empty d))
+      has-pointer d hd = as! (whole-pointer p r v sh acc g hg kg ng wh d hd) (pointer-ok p v 0 acc d g hd hg (isIn-empty d))
         where
           as! : 1 + p .S ≤ pointerAt v d g → pointerAt v d g ≤ capacity p → zoneAt v d g .pointer ≡ 1 + p .S + have d
           as! a b = unfold footersStored pointerAt in (let c = capacity-is p r in omega arith)
@@ -185,7 +186,7 @@ module _ (p : Params) (r : Range p) (v : View) (sh : Shaped p v) (acc : Accepted
         zone-is = hg;
         others = b-other;
         used-before = λ d hd. some d hd;
-        used-now = λ d hd. let a = b-pointer d hd in let c = capacity-low p r in omega arith;
+        used-now = λ d hd. let a = b-pointer d hd in let c = capacity-over p r in omega arith;
         low-now = λ d hd. le-of-eq (b-pointer d hd);
         same-head = head;
       }

@@ -1,11 +1,11 @@
 -- The open segment while stripes begin and fill: no store is made. Assumes nothing.
 use mathlib.Core.Path.{_≡_, refl, sym, ap, ap₂, _∙_, subst}
 use mathlib.Core.Bool.{Bool, true, false, not, _&&_, _||_}
-use mathlib.Core.Logic.{_⊎_, inl, inr, ⊎-elim}
+use mathlib.Core.Logic.{_⊎_, inl, inr}
 use Prim.Native.Nat.{ℕ, suc, _+_, _*_, _/_, _%_, _^_, _≤_, _<_}
 use native.Mathlib.Nat.{div-add-mod', mod-lt, suc-mul}
 use native.Mathlib.Decide.{decLt, ℕ-discrete}
-use borrow.Author.Tests.{ne-eqb, eqb-true}
+use borrow.Author.Tests.{ne-eqb}
 use native.Mathlib.Omega.{arith}
 use lib.Dec.{eqb}
 use Rattle.defs.specs.declared.Params.{Params}
@@ -16,15 +16,16 @@ use Rattle.defs.specs.Lists.{any, tally, isIn}
 use Rattle.defs.specs.Memory.{slots, cell, stripeIn, filledIn, landedIn, entryIn, beginStripe, addEntry}
 use Rattle.defs.specs.Params.{dataCount}
 use Rattle.laws.specs.Be.{room}
-use Rattle.tablesay.specs.Tests.{Test, test, and-both, clash, and-false-left, or-true-right, or-cases, eqb-self}
-use Rattle.tablesay.specs.Tests.Test.{yes!, no! }
+use Rattle.laws.specs.Geometry.{Ranged}
+use Rattle.laws.specs.Mask.{isIn-empty}
+use Rattle.laws.specs.Ranges.{Test, test, and-both}
+use Rattle.laws.specs.Ranges.Test.{yes!, no! }
 use Rattle.tablesay.specs.Idle.{in-slots, slots-in}
-use Rattle.tablesay.specs.Masks.{in-empty}
 use Rattle.tablesay.specs.Members.{none-in, any-in}
-use Rattle.tablesay.specs.Range.{Range}
 use Rattle.tablesay.specs.Run.{spareAt, awaits, LandedAt, Flight, Open, Lists}
 use Rattle.tablesay.specs.Slots.{cell-same, begin-number, begin-number-other, begin-filled, begin-filled-other, begin-landed, begin-landed-other, begin-entry-other, begin-offset, add-filled, add-filled-other, add-number, add-landed, add-offset, add-entry, add-entry-other}
 use Rattle.tablesay.specs.Tallies.{tally-cong, tally-none, tally-some, tally-more}
+use Rattle.tablesay.specs.Tests.{clash, and-false-left, or-true-right, eqb-self}
 
 -- the eighths in use, told otherwise
 pub busy-same : (p : Params) (v : View) (st : State) (busy busy′ : ℕ → Bool) (z : ℕ) → ((i : ℕ) → i < 8 → busy i ≡ busy′ i) → Open p v st busy z → Open p v st busy′ z
@@ -40,14 +41,14 @@ busy-same p v st busy busy′ z e o = record {
 
 -- ---- an entry more
 
-module _ (p : Params) (r : Range p) (v : View) (st : State) (ls : Lists st) (busy : ℕ → Bool) (z i a t w : ℕ) (hi : i < 8) (bi : busy i ≡ true)
+module _ (p : Params) (r : Ranged p) (v : View) (st : State) (ls : Lists st) (busy : ℕ → Bool) (z i a t w : ℕ) (hi : i < 8) (bi : busy i ≡ true)
     (room : filledIn st i < dataCount p) (ha : a < 256 ^ 8) (ht : t < 256 ^ 8) (o : Open p v st busy z) where
   abbrev st′ : State
   st′ = addEntry st i a t w
 
   eight : dataCount p ≤ 7
   unfolding dataCount
-  eight = omega (arith, r .n-high)
+  eight = omega (arith, r .drives-high)
 
   -- entries that were there stay
   kept-entry : (j e : ℕ) → e < 8 → ((j ≡ i → ⊥) ⊎ (e < filledIn st i)) → entryIn st′ j e ≡ entryIn st j e
@@ -143,17 +144,17 @@ module _ (p : Params) (r : Range p) (v : View) (st : State) (ls : Lists st) (bus
 group-of : (p : Params) (s : ℕ) → group p s ≡ s / p .G
 group-of p s = unfold group in refl
 
-group-under : (p : Params) → Range p → (s : ℕ) → group p s * p .G ≤ s
+group-under : (p : Params) → Ranged p → (s : ℕ) → group p s * p .G ≤ s
 group-under p r s = let e = div-add-mod' s (p .G) in subst (λ (x : ℕ). x * p .G ≤ s) (sym (group-of p s)) (omega arith)
 
-group-over : (p : Params) → Range p → (s : ℕ) → suc s ≤ suc (group p s) * p .G
+group-over : (p : Params) → Ranged p → (s : ℕ) → suc s ≤ suc (group p s) * p .G
 group-over p r s =
     let e = div-add-mod' s (p .G) in
-    let m : s % p .G < p .G = mod-lt s (r .g-low) in
+    let m : s % p .G < p .G = mod-lt s (r .group-low) in
     let q : suc (s / p .G) * p .G ≡ s / p .G * p .G + p .G = suc-mul (s / p .G) (p .G) in
     subst (λ (x : ℕ). suc s ≤ suc x * p .G) (sym (group-of p s)) (omega arith)
 
-module _ (p : Params) (r : Range p) (v : View) (st : State) (ls : Lists st) (busy : ℕ → Bool) (z i : ℕ) (hi : i < 8) (bi : busy i ≡ false)
+module _ (p : Params) (r : Ranged p) (v : View) (st : State) (ls : Lists st) (busy : ℕ → Bool) (z i : ℕ) (hi : i < 8) (bi : busy i ≡ false)
     (nx : st .next < p .S) (gr : (j : ℕ) → j < 8 → busy j ≡ true → group p (stripeIn st j) ≡ group p (st .next)) (o : Open p v st busy z) where
   abbrev su : State
   su = beginStripe st i
@@ -171,16 +172,13 @@ module _ (p : Params) (r : Range p) (v : View) (st : State) (ls : Lists st) (bus
       or-false! true = refl
       or-false! false = refl
 
-  more-cases : (j : ℕ) → more j ≡ true → (j ≡ i) ⊎ (busy j ≡ true)
-  more-cases j q = ⊎-elim (λ x. inr x) (λ x. inl (eqb-true j i x)) (or-cases (busy j) (eqb j i) q)
-
   next-su : su .next ≡ suc (st .next)
   next-su = unfold beginStripe in refl
 
   tally-su : (d : ℕ) → tally (awaits su more d) slots ≡ suc (tally (awaits st busy d) slots)
   tally-su d = tally-more (awaits su more d) (awaits st busy d) i hi
       (λ j n. ap₂ (λ (b : Bool) (x : ℕ). b && not (isIn x d)) (more-other j n) (begin-landed-other st ls i hi j n))
-      (and-both (more i) (not (isIn (landedIn su i) d)) more-here (ap (λ (x : ℕ). not (isIn x d)) (begin-landed st ls i hi) ∙ ap not (in-empty d)))
+      (and-both (more i) (not (isIn (landedIn su i) d)) more-here (ap (λ (x : ℕ). not (isIn x d)) (begin-landed st ls i hi) ∙ ap not (isIn-empty d)))
       (and-false-left (busy i) (not (isIn (landedIn st i) d)) bi)
 
   -- with nothing in flight the pointers are behind the stripes begun
@@ -206,7 +204,7 @@ module _ (p : Params) (r : Range p) (v : View) (st : State) (ls : Lists st) (bus
         group-low = subst (λ (x : ℕ). (d : ℕ) → d < p .N → group p x * p .G < pointerAt v d z) (sym en) low-here;
         group-high = subst (λ (x : ℕ). su .next ≤ suc (group p x) * p .G) (sym en) (subst (λ (x : ℕ). x ≤ suc (group p (st .next)) * p .G) (sym next-su) (group-over p r (st .next)));
         not-there = λ d e hd q x y. let l = o .below-next d e hd x in let s = y ∙ en in let bad : ⊥ = omega arith in bad;
-        lands = λ d hd q. clash q (ap (λ (x : ℕ). isIn x d) (begin-landed st ls i hi) ∙ in-empty d);
+        lands = λ d hd q. clash q (ap (λ (x : ℕ). isIn x d) (begin-landed st ls i hi) ∙ isIn-empty d);
         entries-low = λ e h. absurd (let f = begin-filled st ls i hi in let bad : ⊥ = omega arith in bad);
       }
 

@@ -18,9 +18,9 @@ use Rattle.defs.specs.Drives.{Disk, storeDisk, storeAll}
 use Rattle.defs.specs.Lists.Opt.{some}
 use Rattle.defs.specs.Lists.{least}
 use Rattle.defs.specs.Memory.{Memory}
+use Rattle.laws.specs.Stores.{refused-same}
 use Rattle.tablesay.specs.Checks.{Passes, Decided, decide}
 use Rattle.tablesay.specs.Checks.Decided.{stops, goes}
-use Rattle.tablesay.specs.Reading.{left-refused}
 
 pub data Ended (p : Params) (k : Disk) (m : Memory) (cs : List Check) (q : Plan) (r : After Disk) : Type 0 where
   ended-refused : (a : Answer) → firstRefusal cs ≡ some a → r .answer ≡ a → r .drives ≡ k → r .memory ≡ m → Ended p k m cs q r
@@ -42,7 +42,7 @@ ended p k m cs q n b = go (decide cs q)
 
     go : Decided cs q (decided (firstRefusal cs) q) → Ended p k m cs q (outcome p (storeDisk p) n k m b (decided (firstRefusal cs) q))
     go (stops a e w) = subst (λ (x : Verdict). Ended p k m cs q (outcome p (storeDisk p) n k m b x)) (sym w)
-        (ended-refused a e (ap (λ (r : After Disk). r .answer) (left-refused p (storeDisk p) n k m b a)) (ap (λ (r : After Disk). r .drives) (left-refused p (storeDisk p) n k m b a)) (ap (λ (r : After Disk). r .memory) (left-refused p (storeDisk p) n k m b a)))
+        (ended-refused a e (ap (λ (r : After Disk). r .answer) (refused-same p (storeDisk p) n k m b a)) (ap (λ (r : After Disk). r .drives) (refused-same p (storeDisk p) n k m b a)) (ap (λ (r : After Disk). r .memory) (refused-same p (storeDisk p) n k m b a)))
     go (goes c w) = subst (λ (x : Verdict). Ended p k m cs q (outcome p (storeDisk p) n k m b x)) (sym w) (limits (leb (length (q .stores)) n) refl c)
 
 -- ---- answers

@@ -21,12 +21,13 @@ use Rattle.defs.specs.Params.{addressesLen}
 use Rattle.defs.specs.Rank.{Cand, best, placeOr, candsOf}
 use Rattle.defs.specs.Segments.{addressTable}
 use Rattle.laws.specs.Be.{length-toBe}
-use Rattle.tablesay.specs.Tests.{Test, test, cond-true, cond-false}
-use Rattle.tablesay.specs.Tests.Test.{yes!, no! }
-use Rattle.tablesay.specs.Members.{keep-none, In, none-in, any-in}
+use Rattle.laws.specs.Ranges.{Test, test}
+use Rattle.laws.specs.Ranges.Test.{yes!, no! }
 use Rattle.laws.specs.Splice.{length-splice, part-splice, part-splice-below, part-splice-above}
+use Rattle.tablesay.specs.Members.{In, none-in, any-in, keep-nothing}
 use Rattle.tablesay.specs.Ranks.{best-append, cands-append}
 use Rattle.tablesay.specs.Tables.{part-flat, length-addresses, addresses-ext}
+use Rattle.tablesay.specs.Tests.{cond-true, cond-false}
 
 module _ (p : Params) (v : View) (tb : List ℕ) (cs : List Cand) where
   -- what an address gets
@@ -133,7 +134,7 @@ module _ (p : Params) (v : View) (tb : List ℕ) (cs : List Cand) where
       go a h (no! q) = inl (row a h ∙ ap (λ (o : Opt Cand). toBe 4 (placeOr o)) (sym (hh a h)) ∙ ap (λ (o : Opt Cand). toBe 4 (placeOr o)) (sym (none! (held p v tb a))))
         where
           nil! : candsOf a cs ≡ []
-          nil! = as! (keep-none (λ (c : Cand). eqb (c .address) a) cs (λ c m. none-in (λ (c : Cand). eqb (c .address) a) cs q c m))
+          nil! = as! (keep-nothing (λ (c : Cand). eqb (c .address) a) cs (λ c m. none-in (λ (c : Cand). eqb (c .address) a) cs q c m))
             where
               as! : keep (λ (c : Cand). eqb (c .address) a) cs ≡ [] → candsOf a cs ≡ []
               as! e = unfold candsOf in e

@@ -18,18 +18,14 @@ use Rattle.defs.specs.Layout.{headerBlock, Rec, recordBytes, footerBlock}
 use Rattle.defs.specs.Lists.{upFrom, below, consIf, keep, flat}
 use Rattle.defs.specs.Params.{spareLen, capacity, drivesOf}
 use Rattle.laws.specs.Be.{room}
-use Rattle.tablesay.specs.Tests.{Test, test, and-false-right}
-use Rattle.tablesay.specs.Tests.Test.{yes!, no! }
-use Rattle.tablesay.specs.Members.{keep-append, keep-none, In, map-in, keep-all, keep-flat, keep-map, from-in}
+use Rattle.laws.specs.Geometry.{Ranged}
+use Rattle.laws.specs.Ranges.{Test, test, keep-append}
+use Rattle.laws.specs.Ranges.Test.{yes!, no! }
 use Rattle.tablesay.specs.Laid.{length-header, bytes-header, length-zeroSpare, bytes-zeroSpare, length-record, bytes-record, Long, length-footer, bytes-footer}
-use Rattle.tablesay.specs.Range.{Range}
+use Rattle.tablesay.specs.Members.{In, map-in, keep-nothing, keep-all, keep-flat, keep-map, from-in}
 use Rattle.tablesay.specs.Tables.{the-row}
+use Rattle.tablesay.specs.Tests.{and-false-right}
 use Rattle.tablesay.specs.Zones.{Bytes, Sound, hitsAt, zoneStore, hits, Room}
-
-pub stores-append : {D : Type 0} (f : Store → D → D) (ss ts : List Store) (d : D) → storeAll f (ss ++ ts) d ≡ storeAll f ts (storeAll f ss d)
-unfolding storeAll
-stores-append f [] ts d = refl
-stores-append f (s ∷ ss) ts d = stores-append f ss ts (f s d)
 
 -- ---- which fall on a zone
 
@@ -54,7 +50,7 @@ hits-puts e y d z cs = go (test (eqb d e && eqb z y))
 
     go : Test (eqb d e && eqb z y) → hits e y (map (putAt d z) cs) ≡ cond (eqb d e && eqb z y) (map (putAt d z) cs) []
     go (yes! q) = rw q (keep-all (hitsAt e y) (map (putAt d z) cs) (λ s m. of s m ∙ q))
-    go (no! q) = rw q (keep-none (hitsAt e y) (map (putAt d z) cs) (λ s m. of s m ∙ q))
+    go (no! q) = rw q (keep-nothing (hitsAt e y) (map (putAt d z) cs) (λ s m. of s m ∙ q))
 
 -- one number of a range
 pub keep-one : (f : ℕ → Bool) (z i n : ℕ) → ((y : ℕ) → f y ≡ eqb y z) → i ≤ z → z < i + n → keep f (upFrom i n) ≡ z ∷ []
@@ -65,7 +61,7 @@ keep-one f z i (suc n) h a b = go (ℕ-discrete i z) (keep-one f z (suc i) n h)
     go : Dec (i ≡ z) → (suc i ≤ z → z < suc i + n → keep f (upFrom (suc i) n) ≡ z ∷ []) → consIf (f i) i (keep f (upFrom (suc i) n)) ≡ z ∷ []
     go (yes e) ih =
         let t : f i ≡ true = h i ∙ eq-eqb i z e in
-        rw t (ap₂ _∷_ e (keep-none f (upFrom (suc i) n) (λ y m. let (u, w) = from-in (suc i) n y m in h y ∙ ne-eqb y z (λ q. let x : ⊥ = omega arith in x))))
+        rw t (ap₂ _∷_ e (keep-nothing f (upFrom (suc i) n) (λ y m. let (u, w) = from-in (suc i) n y m in h y ∙ ne-eqb y z (λ q. let x : ⊥ = omega arith in x))))
     go (no e) ih = let t : f i ≡ false = h i ∙ ne-eqb i z e in rw t (ih (omega arith) (omega arith))
 
 pub keep-one-below : (f : ℕ → Bool) (z n : ℕ) → ((y : ℕ) → f y ≡ eqb y z) → z < n → keep f (below n) ≡ z ∷ []
@@ -84,7 +80,7 @@ hits-drives p e y z f h he = keep-map (hitsAt e y) f (below (p .N)) ∙ go (test
         and-true! : (b : Bool) → b && true ≡ b
         and-true! true = refl
         and-true! false = refl
-    go (no! q) = rw q (ap (map f) (keep-none (λ d. hitsAt e y (f d)) (below (p .N)) (λ d m. h d ∙ and-false-right (eqb d e) (eqb z y) q)))
+    go (no! q) = rw q (ap (map f) (keep-nothing (λ d. hitsAt e y (f d)) (below (p .N)) (λ d m. h d ∙ and-false-right (eqb d e) (eqb z y) q)))
 
 pub hits-resets : (p : Params) (e y g : ℕ) → e < p .N → hits e y (resetStores p g) ≡ cond (eqb g y) (reset e g ∷ []) []
 unfolding resetStores zoneOn
@@ -152,9 +148,9 @@ room-append p d z n (c ∷ cs) ss a b = (a .0, room-append p d z (suc n) cs ss (
 
 -- ---- chunks that are sound
 
-pub header-sound : (p : Params) → Range p → (d z r c : ℕ) → Sound p 0 (mkChunk (headerBlock p d z r c) zeroSpare)
+pub header-sound : (p : Params) → Ranged p → (d z r c : ℕ) → Sound p 0 (mkChunk (headerBlock p d z r c) zeroSpare)
 header-sound p r d z s c = record {
-  block-long = length-header p d z s c (omega (arith, r .b-low));
+  block-long = length-header p d z s c (omega (arith, r .block-low));
   spare-long = length-zeroSpare;
   spare-bytes = bytes-zeroSpare;
   block-bytes = λ x. bytes-header p d z s c;
@@ -169,7 +165,7 @@ data-sound p n b r l h e = record {
   block-bytes = λ x. absurd (⊎-elim (λ y. let z : ⊥ = omega arith in z) (λ y. let z : ⊥ = omega arith in z) x);
 }
 
-pub footer-sound : (p : Params) → Range p → (n : ℕ) (ss : List (List ℕ)) (i : ℕ) → Long spareLen ss → ((s : List ℕ) → In s ss → Bytes s) → Sound p n (mkChunk (footerBlock p ss i) zeroSpare)
+pub footer-sound : (p : Params) → Ranged p → (n : ℕ) (ss : List (List ℕ)) (i : ℕ) → Long spareLen ss → ((s : List ℕ) → In s ss → Bytes s) → Sound p n (mkChunk (footerBlock p ss i) zeroSpare)
 footer-sound p r n ss i l b = record {
   block-long = length-footer p r ss i l;
   spare-long = length-zeroSpare;

@@ -10,9 +10,10 @@ use lib.Dec.{ltb, eqb}
 use Rattle.defs.specs.Lists.{Opt}
 use Rattle.defs.specs.Lists.Opt.{none, some}
 use Rattle.defs.specs.Rank.{Cand, beats, better, best, candsOf}
-use Rattle.tablesay.specs.Tests.{Test, test, and-left, and-right, clash, or-cases}
-use Rattle.tablesay.specs.Tests.Test.{yes!, no! }
-use Rattle.tablesay.specs.Members.{keep-append, In, in-keep, keep-in}
+use Rattle.laws.specs.Ranges.{Test, test, and-left, and-right, keep-append}
+use Rattle.laws.specs.Ranges.Test.{yes!, no! }
+use Rattle.tablesay.specs.Members.{In, in-keep, keep-in}
+use Rattle.tablesay.specs.Tests.{clash, or-cases}
 
 -- ---- the rule as a statement
 

@@ -28,20 +28,16 @@ use Rattle.defs.specs.Rank.{Cand, best, candsOf}
 use Rattle.defs.specs.Read.{Found, lookup, foundFaults, decodeFaults, readPiece, readAnswer, readChecks, readVerdict, fillVerdict}
 use Rattle.defs.specs.Read.Found.{nowhere, here, away}
 use Rattle.defs.specs.Segments.{segments, candidates, compactTable}
-use Rattle.laws.specs.Geometry.{ranged}
-use Rattle.tablesay.specs.Tests.{and-both}
+use Rattle.laws.specs.Geometry.{Ranged, ranged}
+use Rattle.laws.specs.Ranges.{and-both}
+use Rattle.laws.specs.Stores.{refused-same}
 use Rattle.views.specs.Views.{seen}
 use Rattle.tablesay.specs.Base.{Base, Finds, finds, found-clear, said-here, said-away, decodes-clear}
 use Rattle.tablesay.specs.Base.Finds.{finds-none, finds-here, finds-away}
 use Rattle.tablesay.specs.Checks.{Clear, clear, Decided, decide, passed}
 use Rattle.tablesay.specs.Checks.Decided.{stops, goes}
-use Rattle.tablesay.specs.Range.{Range, in-range}
 
 -- a call that is decided: refused it leaves all; due, and with no store, it leaves the drives
-pub left-refused : {D : Type 0} (p : Params) (f : Store → D → D) (n : ℕ) (d : D) (m : Memory) (b : List ℕ) (a : Answer) → outcome p f n d m b (refused a) ≡ mkAfter a d m b
-unfolding outcome
-left-refused p f n d m b a = refl
-
 pub left-idle : {D : Type 0} (p : Params) (f : Store → D → D) (n : ℕ) (d : D) (m m′ : Memory) (b b′ : List ℕ) (a : Answer)
     → outcome p f n d m b (due (mkPlan [] a m′ b′)) ≡ mkAfter a d m′ b′
 unfolding outcome limited storeAll
@@ -67,8 +63,8 @@ module _ (p : Params) (k : Disk) (m : Memory) (b : Base p k m) where
   abbrev winner : ℕ → Opt Cand
   winner a = best none (candsOf a (candidates p gone (segments p v gone)))
 
-  rg : Range p
-  rg = in-range p (b .ranged)
+  rg : Ranged p
+  rg = ranged p (b .ranged)
 
   pub found : (a : ℕ) → a < p .L → Finds p v gone (winner a) (place a)
   found a h = subst (λ (x : List ℕ). Finds p v gone (winner a) (lookup p gone x a)) (sym (b .addresses-say)) (finds p rg v gone a h)
@@ -141,11 +137,8 @@ module _ (p : Params) (k : Disk) (m : Memory) (b : Base p k m) where
     pub same-memory : r .memory ≡ m
 
   idle-refused : (n : ℕ) (l : List ℕ) (a : Answer) (w : Verdict) → isRefusedAs 9 a ≡ false → w ≡ refused a → Idle (outcome p (storeDisk p) n k m l w)
-  idle-refused n l a w h e = subst (λ (x : After Disk). Idle x) (sym (ap (outcome p (storeDisk p) n k m l) e ∙ left-refused p (storeDisk p) n k m l a))
+  idle-refused n l a w h e = subst (λ (x : After Disk). Idle x) (sym (ap (outcome p (storeDisk p) n k m l) e ∙ refused-same p (storeDisk p) n k m l a))
       (record { mild = h; same-drives = refl; same-memory = refl })
-
-  pub refused-idle : (n : ℕ) (l : List ℕ) (a : Answer) (w : Verdict) → isRefusedAs 9 a ≡ false → w ≡ refused a → Idle (outcome p (storeDisk p) n k m l w)
-  refused-idle = idle-refused
 
   idle-due : (n : ℕ) (l l′ : List ℕ) (a : Answer) (w : Verdict) → isRefusedAs 9 a ≡ false → w ≡ due (mkPlan [] a m l′) → Idle (outcome p (storeDisk p) n k m l w)
   idle-due n l l′ a w h e = subst (λ (x : After Disk). Idle x) (sym (ap (outcome p (storeDisk p) n k m l) e ∙ left-idle p (storeDisk p) n k m m l l′ a))

@@ -21,12 +21,14 @@ use Rattle.defs.specs.Rank.{Cand}
 use Rattle.defs.specs.Read.{placeFaults}
 use Rattle.defs.specs.Read.Found.{here}
 use Rattle.defs.specs.Segments.{remaining, Segment, recordsIn, segmentOf, segments, recsOn, offsetOn, hasChunk, counts, offsetOf, candOf, compactTable}
-use Rattle.tablesay.specs.Range.{capacity-low, place-block, place-zone, place-drive, Range, between-is, place-low, data-drive-low}
-use Rattle.tablesay.specs.Tests.{Test, test, and-left, and-right, and-both, not-both, not-so, cond-true}
-use Rattle.tablesay.specs.Tests.Test.{yes!, no! }
+use Rattle.laws.specs.Geometry.{between-of, Ranged, place-block, place-zone, place-drive, data-drive-lt}
+use Rattle.laws.specs.Ranges.{Test, test, and-left, and-right, and-both}
+use Rattle.laws.specs.Ranges.Test.{yes!, no! }
 use Rattle.tablesay.specs.Members.{In, all-in, keep-keep}
+use Rattle.tablesay.specs.Range.{capacity-over, place-low}
 use Rattle.tablesay.specs.Segs.{in-present, remaining-low, length-records, record-at, data-low, low-data, recs-here, seg-is, chunk-at, CandAt}
 use Rattle.tablesay.specs.Tables.{row-at, remains, remaining-in, rowAt, compact-at}
+use Rattle.tablesay.specs.Tests.{true-false, not-so, cond-true}
 
 -- ---- the spot of a candidate
 
@@ -42,7 +44,7 @@ pub counts-in : (p : Params) (gone : ℕ) (g : Segment) (s d : ℕ) → counts p
 unfolding counts
 counts-in p gone g s d q h i = all-in (hasChunk g s) (present p gone) q d (in-present p gone d h i)
 
-module _ (p : Params) (r : Range p) (v : View) (gone : ℕ) where
+module _ (p : Params) (r : Ranged p) (v : View) (gone : ℕ) where
   pub spot-of : (c : Cand) → CandAt p v gone c → Spot p v gone c
   unfolding candOf offsetOf zoneOn pointerAt
   spot-of c k =
@@ -50,7 +52,7 @@ module _ (p : Params) (r : Range p) (v : View) (gone : ℕ) where
       let s = k .stripe in
       let d = dataDrive p s (k .position) in
       let x = segmentOf p v gone g in
-      let hd : d < p .N = data-drive-low p s (k .position) (omega (arith, r .n-low)) (k .position-low) in
+      let hd : d < p .N = data-drive-lt p s (k .position) (k .position-low) in
       let hz : g < p .Z = remaining-low p v gone g (k .remains) in
       let o = offsetOf gone x s d in
       let m : (o < p .S) × (isIn gone d ≡ false → 1 + o < zoneAt v d g .pointer) = go g s d hd (k .stripe-low) (k .it-counts) (test (isIn gone d)) in
@@ -66,14 +68,14 @@ module _ (p : Params) (r : Range p) (v : View) (gone : ℕ) where
       go : (g s d : ℕ) → d < p .N → s < p .S → counts p gone (segmentOf p v gone g) s ≡ true → Test (isIn gone d)
           → (cond (isIn gone d) s (offsetOn (segmentOf p v gone g) d s) < p .S)
           × (isIn gone d ≡ false → 1 + cond (isIn gone d) s (offsetOn (segmentOf p v gone g) d s) < zoneAt v d g .pointer)
-      go g s d hd hs q (yes! e) = rw e (hs, λ f. not-both f)
+      go g s d hd hs q (yes! e) = rw e (hs, λ f. true-false f)
       go g s d hd hs q (no! e) =
           let l = data-low p (zoneAt v d g) (offsetOn (segmentOf p v gone g) d s) (chunk-at p v gone g d s hd e (counts-in p gone (segmentOf p v gone g) s d q hd e) .stored-there) in
           rw e (l .0, λ f. l .1)
 
   module _ (c : Cand) (t : Spot p v gone c) where
     block-fits : 1 + c .offset < capacity p
-    block-fits = omega (arith, capacity-low p r, t .offset-low)
+    block-fits = omega (arith, capacity-over p r, t .offset-low)
 
     pub spot-block : placeBlock p (c .place) ≡ 1 + c .offset
     spot-block = ap (placeBlock p) (t .place-is) ∙ place-block p (c .drive) (t .zone) (1 + c .offset) block-fits
@@ -94,7 +96,7 @@ module _ (p : Params) (r : Range p) (v : View) (gone : ℕ) where
       spot-zone,
       spot-block,
       lt-leb (p .N) (c .drive) (t .drive-low),
-      between-is 1 (p .S) (1 + c .offset) (omega arith) (omega (arith, t .offset-low)),
+      between-of 1 (p .S) (1 + c .offset) (omega arith) (omega (arith, t .offset-low)),
     ) (go (test (isIn gone (c .drive))))
       where
         go : Test (isIn gone (c .drive)) → consIf (not (isIn gone (c .drive)) && leb (pointerAt v (c .drive) (t .zone)) (1 + c .offset)) (t .zone) [] ≡ []
@@ -124,7 +126,7 @@ abbrev pub InGroups : Params → View → ℕ → Type 0
 InGroups p v gone = (g d o : ℕ) → In g (remaining p v gone) → d < p .N → isIn gone d ≡ false → o < dataStored p (zoneAt v d g)
     → inGroupOf p o (recordIn p (sealedIn p v gone g) (zoneAt v d g) o .stripe) ≡ true
 
-module _ (p : Params) (r : Range p) (v : View) (gone : ℕ) (groups : InGroups p v gone) (g d s : ℕ) (hg : In g (remaining p v gone)) (hd : d < p .N)
+module _ (p : Params) (r : Ranged p) (v : View) (gone : ℕ) (groups : InGroups p v gone) (g d s : ℕ) (hg : In g (remaining p v gone)) (hd : d < p .N)
     (pr : isIn gone d ≡ false) (c : hasChunk (segmentOf p v gone g) s d ≡ true) where
   abbrev table : List ℕ
   table = compactTable p (segments p v gone)
@@ -155,7 +157,7 @@ module _ (p : Params) (r : Range p) (v : View) (gone : ℕ) (groups : InGroups p
       let gr : inGroupOf p o s ≡ true = subst (λ (x : ℕ). inGroupOf p o x ≡ true) (k .its-stripe) (groups g d o hg hd pr (k .stored-there)) in
       let same : s / p .G ≡ o / p .G = go-group o gr in
       let eo : o / p .G * p .G + o % p .G ≡ o = div-add-mod' o (p .G) in
-      let mo : o % p .G < p .G = mod-lt o (r .g-low) in
+      let mo : o % p .G < p .G = mod-lt o (r .group-low) in
       let es : s / p .G * p .G ≡ o / p .G * p .G = ap (λ (x : ℕ). x * p .G) same in
       let f : ℕ → Bool = λ x. ltb x (p .S) && shows x in
       let here : f o ≡ true = and-both (ltb o (p .S)) (shows o) (lt-ltb o (p .S) (low .0))

@@ -9,49 +9,38 @@ use native.Mathlib.Decide.{ℕ-discrete}
 use borrow.Author.Tests.{ne-eqb}
 use native.Mathlib.Omega.{arith}
 use lib.Dec.{eqb}
-use lib.ListN.{length, getD, length-replicate, length-map}
+use lib.ListN.{length, getD, length-map}
 use Rattle.defs.specs.declared.Params.{Params}
-use Rattle.defs.specs.Bytes.{xors, parity}
+use Rattle.defs.specs.Bytes.{parity}
 use Rattle.defs.specs.Drives.{Chunk, mkChunk, noChunk, Zone, View, zoneAt, pointerAt, Store, storeView, storeAll, zoneOn, zeroSpare}
 use Rattle.defs.specs.Drives.Store.{put, reset}
 use Rattle.defs.specs.Layout.{headerBlock, Rec, mkRec, recordBytes, footerBlock}
-use Rattle.defs.specs.Lists.{below, consIf, keep, flat, isIn}
+use Rattle.defs.specs.Lists.{below, flat, isIn}
 use Rattle.defs.specs.Params.{footers, named, present}
 use Rattle.defs.specs.Parity.{Piece, mkPiece, parityPiece}
 use Rattle.defs.specs.Rebuild.{rebuiltZone, rebuildStores}
 use Rattle.defs.specs.Segments.{remaining, Segment, segmentOf, segments, offsetOn, hasChunk, counts, counted, storedPiece, pieceOf, putPiece}
-use Rattle.tablesay.specs.Range.{capacity-low, Range, capacity-is}
-use Rattle.tablesay.specs.Tests.{Test, test, clash, and-false-left, cond-false, eqb-self}
-use Rattle.tablesay.specs.Tests.Test.{yes!, no! }
-use Rattle.tablesay.specs.Members.{length-below, map-append, map-map, getD-map-below, keep-none, flat-none, In, in-append, map-in, flat-in, keep-in, flat-cong, keep-map, flat-map, below-in, getD-map-at, in-getD}
+use Rattle.laws.specs.Geometry.{Ranged}
+use Rattle.laws.specs.Ranges.{length-below, map-append, map-map, getD-map, getD-map-below, length-keep}
+use Rattle.laws.specs.Xor.{AllLong, length-parity}
 use Rattle.tablesay.specs.Frame.{Agree}
 use Rattle.tablesay.specs.Laid.{length-record, bytes-record, Long}
+use Rattle.tablesay.specs.Members.{In, in-append, map-in, flat-in, keep-in, flat-cong, keep-nothing, flat-nothing, keep-map, flat-map, below-in, in-getD}
 use Rattle.tablesay.specs.Puts.{hits-append, hits-flat, putAt, hits-puts, keep-one-below, flat-one, room-puts, room-append, header-sound, data-sound, footer-sound}
+use Rattle.tablesay.specs.Range.{capacity-is, capacity-over}
 use Rattle.tablesay.specs.Reading.{nil-append}
 use Rattle.tablesay.specs.Reads.{counts-in}
 use Rattle.tablesay.specs.Segs.{present-in, remaining-low, data-low, zone-by, seg-is, chunk-at}
 use Rattle.tablesay.specs.Tables.{remains, remaining-is}
+use Rattle.tablesay.specs.Tests.{clash, and-false-left, cond-false, eqb-self}
 use Rattle.tablesay.specs.Zones.{Bytes, Sound, Shaped, hitsAt, zoneStore, hits, zone-after, Room, Within, Roomy}
 
-pub length-keep : {A : Type 0} (f : A → Bool) (l : List A) → length (keep f l) ≤ length l
-unfolding keep consIf
-length-keep f [] = omega arith
-length-keep f (a ∷ l) = go (test (f a)) (length-keep f l)
-  where
-    go : Test (f a) → length (keep f l) ≤ length l → length (consIf (f a) a (keep f l)) ≤ suc (length l)
-    go (yes! q) h = rw q (omega arith)
-    go (no! q) h = rw q (omega arith)
+all-long : (n : ℕ) (bs : List (List ℕ)) → Long n bs → AllLong n bs
+all-long n [] h = tt
+all-long n (b ∷ bs) h = (h b (inl refl), all-long n bs (λ c m. h c (inr m)))
 
-pub length-xors : (s t : List ℕ) → length (xors s t) ≡ length s
-unfolding xors
-length-xors [] t = refl
-length-xors (a ∷ s) [] = refl
-length-xors (a ∷ s) (b ∷ t) = ap suc (length-xors s t)
-
-pub length-parity : (n : ℕ) (bs : List (List ℕ)) → Long n bs → length (parity n bs) ≡ n
-unfolding parity
-length-parity n [] h = length-replicate n 0
-length-parity n (b ∷ bs) h = length-xors b (parity n bs) ∙ h b (inl refl)
+pub parity-length : (n : ℕ) (bs : List (List ℕ)) → Long n bs → length (parity n bs) ≡ n
+parity-length n bs h = length-parity n bs (all-long n bs h)
 
 pub counted-low : (p : Params) (gone : ℕ) (g : Segment) → length (counted p gone g) ≤ p .S
 unfolding counted
@@ -71,7 +60,7 @@ put-pieces d z qs = go ∙ sym (map-map (putAt d z) pieceChunk qs)
     go : map (putPiece d z) qs ≡ map (λ (q : Piece). putAt d z (pieceChunk q)) qs
     go = unfold putPiece putAt pieceChunk in refl
 
-module _ (p : Params) (r : Range p) (v : View) (sh : Shaped p v) where
+module _ (p : Params) (r : Ranged p) (v : View) (sh : Shaped p v) where
   -- a stored chunk's block
   pub stored-long : (gone g s d : ℕ) → g < p .Z → d < p .N → isIn gone d ≡ false → hasChunk (segmentOf p v gone g) s d ≡ true
       → length (storedPiece (segmentOf p v gone g) s d .block) ≡ p .B
@@ -80,7 +69,7 @@ module _ (p : Params) (r : Range p) (v : View) (sh : Shaped p v) where
       let o = offsetOn (segmentOf p v gone g) d s in
       let l = data-low p (zoneAt v d g) o (chunk-at p v gone g d s hd q c .stored-there) in
       ap (λ (x : Zone). length (getD (x .blocks) (1 + o) noChunk .block)) (zone-by p v gone g d hd)
-      ∙ sh .zone-ok d g hd hg .sound (1 + o) (omega (arith, capacity-low p r)) .block-long
+      ∙ sh .zone-ok d g hd hg .sound (1 + o) (omega (arith, capacity-over p r)) .block-long
 
   module _ (gone g d : ℕ) (hg : g < p .Z) (hd : d < p .N) (lost : isIn gone d ≡ true) where
     abbrev x : Segment
@@ -88,7 +77,7 @@ module _ (p : Params) (r : Range p) (v : View) (sh : Shaped p v) where
 
     decoded-long : (s : ℕ) → counts p gone x s ≡ true → length (pieceOf p gone x s d .block) ≡ p .B
     unfolding pieceOf parityPiece
-    decoded-long s c = rw lost (length-parity (p .B) (map (λ (q : Piece). q .block) (map (storedPiece x s) (present p gone)))
+    decoded-long s c = rw lost (parity-length (p .B) (map (λ (q : Piece). q .block) (map (storedPiece x s) (present p gone)))
         (λ b m.
         let (q, i, e) = map-in (λ (q : Piece). q .block) (map (storedPiece x s) (present p gone)) b m in
         let (y, j, f) = map-in (storedPiece x s) (present p gone) q i in
@@ -111,7 +100,7 @@ module _ (p : Params) (r : Range p) (v : View) (sh : Shaped p v) where
     length-lost = length-map lostPieces pieceChunk ∙ length-map (counted p gone x) (λ s. pieceOf p gone x s d)
 
     header-room : Room p 0 (map (putAt d g) (mkChunk (headerBlock p d g (x .serial) (x .copied)) zeroSpare ∷ []))
-    header-room = room-puts p d g 0 (mkChunk (headerBlock p d g (x .serial) (x .copied)) zeroSpare ∷ []) (omega (arith, capacity-low p r)) one
+    header-room = room-puts p d g 0 (mkChunk (headerBlock p d g (x .serial) (x .copied)) zeroSpare ∷ []) (omega (arith, capacity-over p r)) one
       where
         one : (i : ℕ) → i < 1 → Sound p (0 + i) (getD (mkChunk (headerBlock p d g (x .serial) (x .copied)) zeroSpare ∷ []) i noChunk)
         one zero h = header-sound p r d g (x .serial) (x .copied)
@@ -119,10 +108,10 @@ module _ (p : Params) (r : Range p) (v : View) (sh : Shaped p v) where
 
     pieces-room : Room p 1 (map (putAt d g) (map pieceChunk lostPieces))
     unfolding pieceChunk
-    pieces-room = room-puts p d g 1 (map pieceChunk lostPieces) (omega (arith, length-lost, counted-low p gone x, capacity-low p r))
+    pieces-room = room-puts p d g 1 (map pieceChunk lostPieces) (omega (arith, length-lost, counted-low p gone x, capacity-over p r))
         (λ i h.
         let l : i < length lostPieces = subst (λ (y : ℕ). i < y) (length-map lostPieces pieceChunk) h in
-        let e : getD (map pieceChunk lostPieces) i noChunk ≡ pieceChunk (getD lostPieces i (mkPiece [] (mkRec 0 0 0))) = getD-map-at pieceChunk lostPieces i (mkPiece [] (mkRec 0 0 0)) noChunk l in
+        let e : getD (map pieceChunk lostPieces) i noChunk ≡ pieceChunk (getD lostPieces i (mkPiece [] (mkRec 0 0 0))) = getD-map pieceChunk lostPieces i noChunk (mkPiece [] (mkRec 0 0 0)) l in
         let q = getD lostPieces i (mkPiece [] (mkRec 0 0 0)) in
         let (s, m, f) = map-in (λ s. pieceOf p gone x s d) (counted p gone x) q (in-getD lostPieces i (mkPiece [] (mkRec 0 0 0)) l) in
         subst (λ (c : Chunk). Sound p (1 + i) c) (sym e)
@@ -215,11 +204,11 @@ module _ (p : Params) (r : Range p) (v : View) (sh : Shaped p v) where
     hits-off e z q =
         hits-append e z (map (λ y. reset d y) (below (p .Z))) (flat (rebuiltZone p d) (map (segmentOf p v (named d)) (remaining p v (named d))))
         ∙ nil-append (hits e z (map (λ y. reset d y) (below (p .Z)))) (hits e z (flat (rebuiltZone p d) (map (segmentOf p v (named d)) (remaining p v (named d)))))
-        (keep-none (hitsAt e z) (map (λ y. reset d y) (below (p .Z)))
+        (keep-nothing (hitsAt e z) (map (λ y. reset d y) (below (p .Z)))
         (λ s m. let (y, i, f) = map-in (λ y. reset d y) (below (p .Z)) s m in ap (hitsAt e z) f ∙ miss y))
         (hits-flat e z (rebuiltZone p d) (map (segmentOf p v (named d)) (remaining p v (named d)))
         ∙ flat-map (λ (x : Segment). hits e z (rebuiltZone p d x)) (segmentOf p v (named d)) (remaining p v (named d))
-        ∙ flat-none (λ g. hits e z (rebuiltZone p d (segmentOf p v (named d) g))) (remaining p v (named d))
+        ∙ flat-nothing (λ g. hits e z (rebuiltZone p d (segmentOf p v (named d) g))) (remaining p v (named d))
         (λ g m. zone-hits e z g (remaining-low p v (named d) g m) ∙ cond-false (eqb d e && eqb g z) (rebuiltZone p d (segmentOf p v (named d) g)) [] (and-false-left (eqb d e) (eqb g z) q)))
       where
         miss : (y : ℕ) → hitsAt e z (reset d y) ≡ false

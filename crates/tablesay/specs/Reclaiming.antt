@@ -27,11 +27,10 @@ use Rattle.defs.specs.Rank.{Cand, best, candsOf}
 use Rattle.defs.specs.Reclaim.{placesIn, tableFaults, segmentPlaces, liveIn, flying, Victim, victimOf, fewer, fewest, victim, isNone, victimSegment, victimLive, idle, reclaimChecks, cleared, resetPlan, copyPlan, reclaimVerdict}
 use Rattle.defs.specs.Segments.{Segment, segmentOf, segments, storedRec, recOf, candOf, candidates, addressTable}
 use Rattle.defs.specs.Write.{opens, noSerial, mustWait, scarce, sending}
-use Rattle.laws.specs.Geometry.{ranged}
-use Rattle.tablesay.specs.Range.{capacity-low, Range, between-is, in-range}
-use Rattle.tablesay.specs.Tests.{Test, test, not-both, or-left, or-right, cond-true, cond-false}
-use Rattle.tablesay.specs.Tests.Test.{yes!, no! }
-use Rattle.tablesay.specs.Members.{keep-none, In, in-map, map-in, in-flat, in-keep, keep-in, all-in, in-below, below-in, first-in, nil-is, is-member, member-is}
+use Rattle.laws.specs.Geometry.{between-of, Ranged, ranged}
+use Rattle.laws.specs.Mask.{isIn-empty}
+use Rattle.laws.specs.Ranges.{Test, test}
+use Rattle.laws.specs.Ranges.Test.{yes!, no! }
 use Rattle.views.specs.Views.{seen}
 use Rattle.tablesay.specs.Base.{cand-zone}
 use Rattle.tablesay.specs.Bounds.{record-low}
@@ -40,9 +39,10 @@ use Rattle.tablesay.specs.Going.{well-run, address-table, compact-table,
 use Rattle.tablesay.specs.Idle.{StateOk, state-of, whole-of}
 use Rattle.tablesay.specs.Live.{Pointed, places-pointed, holds-place, table-clear}
 use Rattle.tablesay.specs.Losing.{refused-kept, cut-kept}
-use Rattle.tablesay.specs.Masks.{in-empty}
+use Rattle.tablesay.specs.Members.{In, in-map, map-in, in-flat, in-keep, keep-in, all-in, keep-nothing, in-below, below-in, first-in, nil-is, is-member, member-is}
 use Rattle.tablesay.specs.Outcomes.{Ended, ended}
 use Rattle.tablesay.specs.Outcomes.Ended.{ended-refused, ended-done, ended-cut}
+use Rattle.tablesay.specs.Range.{capacity-over}
 use Rattle.tablesay.specs.Reading.{state-clear, nil-append}
 use Rattle.tablesay.specs.Reads.{spot-of, spot-block, spot-zone, spot-drive}
 use Rattle.tablesay.specs.Resetting.{reset-roomy, reset-within, reset-addresses, reset-rows, reset-healthy, cleared-is}
@@ -51,6 +51,7 @@ use Rattle.tablesay.specs.Segs.{remaining-low, CandAt}
 use Rattle.tablesay.specs.Sending.{sends}
 use Rattle.tablesay.specs.Settled.{present-all, its-drive, its-offset, chunk-of-it}
 use Rattle.tablesay.specs.Tables.{remains}
+use Rattle.tablesay.specs.Tests.{true-false, or-left, or-right, cond-true, cond-false}
 
 -- ---- the segment that it takes
 
@@ -97,7 +98,7 @@ taken p v tb q = go (victim p v tb) refl q
     of-victim g hg s = unfold victimSegment victimLive victimOf in record { taken-low = hg; taken-sealed = s; taken-live = refl }
 
     go : (w : Opt Victim) → victim p v tb ≡ w → isNone w ≡ false → Taken p v tb w
-    go none e x = not-both (none! x)
+    go none e x = true-false (none! x)
       where
         none! : isNone none ≡ false → true ≡ false
         none! x = unfold isNone in x
@@ -125,14 +126,14 @@ in-live p qs g d b hd hb m = as! (in-keep (λ q. isMember q qs) (segmentPlaces p
         in-flat (λ d. map (placeOf p d g) (below (capacity p))) (below (p .N)) d (placeOf p d g b) (in-below (p .N) d hd) (in-map (placeOf p d g) (below (capacity p)) b (in-below (capacity p) b hb))
 
 -- with none live, no record of the segment holds
-pub dead-segment : (p : Params) (r : Range p) (v : View) (tb : List ℕ) → tb ≡ addressTable p (candidates p 0 (segments p v 0)) → (g : ℕ) → liveIn p (placesIn p tb) g ≡ []
+pub dead-segment : (p : Params) (r : Ranged p) (v : View) (tb : List ℕ) → tb ≡ addressTable p (candidates p 0 (segments p v 0)) → (g : ℕ) → liveIn p (placesIn p tb) g ≡ []
     → (a : ℕ) (c : Cand) (k : CandAt p v 0 c) → a < p .L → best none (candsOf a (candidates p 0 (segments p v 0))) ≡ some c → k .of ≡ g → ⊥
 dead-segment p r v tb e g n a c k ha b eo =
     let t = spot-of p r v 0 c k in
     let ez : t .zone ≡ g = sym (spot-zone p r v 0 c t) ∙ cand-zone p r v 0 c k t ∙ eo in
     let ep : c .place ≡ placeOf p (c .drive) g (1 + c .offset) = t .place-is ∙ ap (λ (x : ℕ). placeOf p (c .drive) x (1 + c .offset)) ez in
     let m : In (c .place) (placesIn p tb) = holds-place p r v tb e a c ha b in
-    let l : 1 + c .offset < capacity p = (let x = t .offset-low in let y = capacity-low p r in omega arith) in
+    let l : 1 + c .offset < capacity p = (let x = t .offset-low in let y = capacity-over p r in omega arith) in
     subst (λ (x : List ℕ). In (placeOf p (c .drive) g (1 + c .offset)) x) n
     (in-live p (placesIn p tb) g (c .drive) (1 + c .offset) (t .drive-low) l (subst (λ (x : ℕ). In x (placesIn p tb)) ep m))
 
@@ -143,7 +144,7 @@ sealed-full p v g q d h = eqb-true (pointerAt v d g) (capacity p) (all-in (λ d.
     as! q = unfold sealedIn zoneOn in q
 
 -- the record of a candidate, as stored
-pub cand-record : (p : Params) (r : Range p) (v : View) (s : ℕ) (t : Tidy p v s) (c : Cand) (k : CandAt p v 0 c)
+pub cand-record : (p : Params) (r : Ranged p) (v : View) (s : ℕ) (t : Tidy p v s) (c : Cand) (k : CandAt p v 0 c)
     → (c .address ≡ recordIn p (sealedIn p v 0 (k .of)) (zoneAt v (c .drive) (k .of)) (c .offset) .address)
     × (c .stamp ≡ recordIn p (sealedIn p v 0 (k .of)) (zoneAt v (c .drive) (k .of)) (c .offset) .stamp)
 cand-record p r v s t c k =
@@ -158,7 +159,7 @@ cand-record p r v s t c k =
     )
   where
     rec-of : (x : Segment) (s d : ℕ) → recOf p 0 x s d ≡ storedRec x s d
-    rec-of x s d = unfold recOf in cond-false (isIn 0 d) (parityRec s (map (storedRec x s) (present p 0))) (storedRec x s d) (in-empty d)
+    rec-of x s d = unfold recOf in cond-false (isIn 0 d) (parityRec s (map (storedRec x s) (present p 0))) (storedRec x s d) (isIn-empty d)
 
     cand-address : (x : Segment) (s d : ℕ) → candOf p 0 x s d .address ≡ recOf p 0 x s d .address
     cand-address x s d = unfold candOf in refl
@@ -184,8 +185,8 @@ module _ (p : Params) (k : Disk) (m : Memory) (u : Run p k m) (we : Well p k m) 
   abbrev plan : Plan
   plan = cond (isNil (victimLive w)) (resetPlan p m (victimSegment w)) (copyPlan p v m (firstOr 0 (idle p v st w)))
 
-  rg : Range p
-  rg = in-range p (u .base .ranged)
+  rg : Ranged p
+  rg = ranged p (u .base .ranged)
 
   so : StateOk p st
   so = state-of p rg st (u .base .state-ok)
@@ -203,13 +204,13 @@ module _ (p : Params) (k : Disk) (m : Memory) (u : Run p k m) (we : Well p k m) 
   pointed-block q t = ap (placeBlock p) (t .place!) ∙ spot-block p rg v 0 (t .cand) (t .spot)
 
   between-live : (q : ℕ) → Pointed p v q → between 1 (p .S) (placeBlock p q) ≡ true
-  between-live q t = between-is 1 (p .S) (placeBlock p q) (let e = pointed-block q t in omega arith) (let e = pointed-block q t in let l = t .spot .offset-low in omega arith)
+  between-live q t = between-of 1 (p .S) (placeBlock p q) (let e = pointed-block q t in omega arith) (let e = pointed-block q t in let l = t .spot .offset-low in omega arith)
 
   reclaim-faults : isNone w ≡ false → stateFaults p st ++ tableFaults p (m .addresses) ++ map (λ q. victimSegment w) (keep (λ q. not (between 1 (p .S) (placeBlock p q))) (victimLive w)) ≡ []
   reclaim-faults nn =
       let e1 = state-clear p st (u .base .state-ok) in
       let e2 = table-clear p rg v (m .addresses) at! in
-      let e3 : keep (λ q. not (between 1 (p .S) (placeBlock p q))) (victimLive w) ≡ [] = keep-none (λ q. not (between 1 (p .S) (placeBlock p q))) (victimLive w) (λ q i. ap not (between-live q (live-pointed q nn i))) in
+      let e3 : keep (λ q. not (between 1 (p .S) (placeBlock p q))) (victimLive w) ≡ [] = keep-nothing (λ q. not (between 1 (p .S) (placeBlock p q))) (victimLive w) (λ q i. ap not (between-live q (live-pointed q nn i))) in
       nil-append (stateFaults p st ++ tableFaults p (m .addresses)) (map (λ q. victimSegment w) (keep (λ q. not (between 1 (p .S) (placeBlock p q))) (victimLive w)))
       (nil-append (stateFaults p st) (tableFaults p (m .addresses)) e1 e2) (ap (map (λ q. victimSegment w)) e3)
 
@@ -264,7 +265,7 @@ module _ (p : Params) (k : Disk) (m : Memory) (u : Run p k m) (we : Well p k m) 
       let hg : g < p .Z = subst (λ (y : ℕ). y < p .Z) (sym eg) (remaining-low p v 0 (kc .of) (kc .remains)) in
       let low = record-low p (zoneAt v d g) (u .base .shaped .zone-ok d g hd hg) (sealedIn p v 0 g) o in
       let er : recordAt p v 0 d g o ≡ recordIn p (sealedIn p v 0 g) (zoneAt v d g) o = record-is d g o in
-      let hb : placeBlock p q < capacity p = (let l = t .spot .offset-low in let y = capacity-low p rg in omega arith) in
+      let hb : placeBlock p q < capacity p = (let l = t .spot .offset-low in let y = capacity-over p rg in omega arith) in
       let ez : placeZone p q ≡ g = sym (segment-is q) in
       let lb : length (chunkAt v d (placeZone p q) (placeBlock p q) .block) ≡ p .B = ap (λ (y : ℕ). length (chunkAt v d y (placeBlock p q) .block)) ez ∙ chunk-long d g (placeBlock p q) hd hg hb in
       let s = sends p rg v (u .base .shaped) st (we .healthy) so (m .inflight) (buffer-long p k m u we) (rc .address) (rc .stamp) 0 (chunkAt v d (placeZone p q) (placeBlock p q) .block)

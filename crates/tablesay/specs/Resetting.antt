@@ -22,24 +22,24 @@ use Rattle.defs.specs.Params.{capacity, compactLen, drivesOf}
 use Rattle.defs.specs.Rank.{Cand, best, candsOf}
 use Rattle.defs.specs.Reclaim.{clearedRow, cleared}
 use Rattle.defs.specs.Segments.{headerAt, segmentOf, segments, recsOn, candidates, addressTable, compactRow, compactTable}
-use Rattle.laws.specs.Geometry.{item, compact-within}
-use Rattle.tablesay.specs.Tests.{Test, test, clash, cond-true, cond-false, eqb-self}
-use Rattle.tablesay.specs.Tests.Test.{yes!, no! }
+use Rattle.laws.specs.Geometry.{item, Ranged, compact-within}
+use Rattle.laws.specs.Ranges.{Test, test}
+use Rattle.laws.specs.Ranges.Test.{yes!, no! }
 use Rattle.laws.specs.Splice.{length-splice, getD-splice-below, getD-splice-in, getD-splice-past}
 use Rattle.views.specs.Pointers.{index-drive, index-zone}
 use Rattle.tablesay.specs.Bounds.{open-view, open-short}
 use Rattle.tablesay.specs.Idle.{StateOk}
 use Rattle.tablesay.specs.Members.{In, map-in, in-below, below-in}
 use Rattle.tablesay.specs.Puts.{hits-resets}
-use Rattle.tablesay.specs.Range.{Range}
 use Rattle.tablesay.specs.Ranks.{fewer-best, best-in}
 use Rattle.tablesay.specs.Run.{usedAt, flies, Tidy, Healthy}
 use Rattle.tablesay.specs.Segs.{CandAt, cand-at, at-cand}
 use Rattle.tablesay.specs.Settled.{remains-used, remains-is-used, cands-apart, SameZones, zones-header, zones-pointer, zones-used, cand-goes, row-goes}
 use Rattle.tablesay.specs.Tables.{addresses-cong, zero-at, row-past, grid-ext, remains, rowAt, compact-is, compact-row-long, length-compact, compact-at}
+use Rattle.tablesay.specs.Tests.{clash, cond-true, cond-false, eqb-self}
 use Rattle.tablesay.specs.Zones.{Shaped, zoneStore, hits, zone-after, Room, Within, reset-pointer, Roomy}
 
-module _ (p : Params) (r : Range p) (v : View) (sh : Shaped p v) (g : ℕ) (hg : g < p .Z) where
+module _ (p : Params) (r : Ranged p) (v : View) (sh : Shaped p v) (g : ℕ) (hg : g < p .Z) where
   abbrev rs : List Store
   rs = resetStores p g
 
@@ -85,7 +85,7 @@ module _ (p : Params) (r : Range p) (v : View) (sh : Shaped p v) (g : ℕ) (hg :
       go m = let (d, i, e) = map-in (λ d. reset d g) (below (p .N)) s m in subst (λ (x : Store). Within p x) (sym e) (below-in (p .N) d i, hg)
 
   unused-after : usedAt u g ≡ false
-  unused-after = ap not (eq-eqb (pointerAt u 0 g) 0 (reset-pointers 0 (omega (arith, r .n-low))))
+  unused-after = ap not (eq-eqb (pointerAt u 0 g) 0 (reset-pointers 0 (omega (arith, r .drives-low))))
 
   -- what is used after it was used, and isn't the segment
   pub reset-was : (y : ℕ) → y < p .Z → usedAt u y ≡ true → (g ≡ y → ⊥) × (usedAt v y ≡ true)
@@ -112,7 +112,7 @@ module _ (p : Params) (r : Range p) (v : View) (sh : Shaped p v) (g : ℕ) (hg :
   }
     where
       h0 : 0 < p .N
-      h0 = omega (arith, r .n-low)
+      h0 = omega (arith, r .drives-low)
 
       hdr : (y : ℕ) → y < p .Z → (g ≡ y → ⊥) → headerAt v 0 y ≡ headerAt u 0 y
       hdr y hy n = zones-header p r v u y (reset-same y hy n)
@@ -172,7 +172,7 @@ module _ (p : Params) (r : Range p) (v : View) (sh : Shaped p v) (g : ℕ) (hg :
         ⊎-elim (λ x. inl x) (λ x. inr (λ d hd. sym (zones-pointer p r v u z (reset-same z hz n) d hd) ∙ x d hd)) (h .sealed-but z hz w);
     opens-at = λ z q.
         let o = h .opens-at z q in
-        let n : g ≡ z → ⊥ = λ e. (let h0 : 0 < p .N = omega (arith, r .n-low) in let x = open-short p r v st z so o 0 h0 in let y = full 0 h0 ∙ refl in let w : pointerAt v 0 z ≡ capacity p = subst (λ (a : ℕ). pointerAt v 0 a ≡ capacity p) e y in let bad : ⊥ = omega arith in bad) in
+        let n : g ≡ z → ⊥ = λ e. (let h0 : 0 < p .N = omega (arith, r .drives-low) in let x = open-short p r v st z so o 0 h0 in let y = full 0 h0 ∙ refl in let w : pointerAt v 0 z ≡ capacity p = subst (λ (a : ℕ). pointerAt v 0 a ≡ capacity p) e y in let bad : ⊥ = omega arith in bad) in
         open-view p v u st z (reset-same z (o .opened-zone) n) (flies st) o;
     shut = h .shut;
     serial-fits = h .serial-fits;
@@ -182,12 +182,12 @@ module _ (p : Params) (r : Range p) (v : View) (sh : Shaped p v) (g : ℕ) (hg :
 
 -- ---- the compact table with a segment's rows cleared
 
-module _ (p : Params) (r : Range p) (g : ℕ) (hg : g < p .Z) where
+module _ (p : Params) (r : Ranged p) (g : ℕ) (hg : g < p .Z) where
   row-end : (e : ℕ) → e < p .N → compactAt p e g 0 + p .S ≤ compactLen p
   row-end e he =
-      let x = compact-within p e g (p .S - 1) he hg (let s = r .s-low in omega arith) in
+      let x = compact-within p e g (p .S - 1) he hg (let s = r .stripes-low in omega arith) in
       let y : compactAt p e g (p .S - 1) ≡ compactAt p e g 0 + (p .S - 1) = (unfold compactAt in omega arith) in
-      let s = r .s-low in
+      let s = r .stripes-low in
       omega arith
 
   row-length : (e : ℕ) (cs : List ℕ) → e < p .N → length cs ≡ compactLen p → compactAt p e g 0 + length (replicate {A = ℕ} (p .S) 0) ≤ length cs
@@ -264,7 +264,7 @@ module _ (p : Params) (r : Range p) (g : ℕ) (hg : g < p .Z) where
   pub cleared-is : (v u : View) → ((d y : ℕ) → d < p .N → y < p .Z → rowAt p u 0 d y ≡ cond (eqb y g) [] (rowAt p v 0 d y))
       → cleared p g (drivesOf p) (compactTable p (segments p v 0)) ≡ compactTable p (segments p u 0)
   cleared-is v u rows =
-      grid-ext p (λ d z. compactRow p (rowAt p u 0 d z)) (compact-row-long p u 0) (cleared p g (drivesOf p) cs) (all-long (drivesOf p) cs low (length-compact p v 0)) (r .s-low) (let z = r .z-low in omega arith) entry
+      grid-ext p (λ d z. compactRow p (rowAt p u 0 d z)) (compact-row-long p u 0) (cleared p g (drivesOf p) cs) (all-long (drivesOf p) cs low (length-compact p v 0)) (r .stripes-low) (let z = r .zones-low in omega arith) entry
       ∙ sym (compact-is p u 0)
     where
       cs : List ℕ

@@ -18,11 +18,11 @@ use Rattle.defs.specs.Params.{noDrive, named}
 use Rattle.defs.specs.Restart.{freeZones, isWhole, isRagged, missingFooters, rewriteStores, dropStores, mendStores, restartStores, restartMemory, namesDrive, rewrites, restartPlan}
 use Rattle.defs.specs.Segments.{headerAt, remaining, Segment, segmentOf, segments, candidates, addressTable, compactTable, greatestSerial, unsealed}
 use Rattle.laws.specs.Be.{room}
-use Rattle.tablesay.specs.Range.{capacity-low, Range, in-range}
-use Rattle.tablesay.specs.Masks.{only-none}
-use Rattle.tablesay.specs.Tests.{Test, test, or-cases}
-use Rattle.tablesay.specs.Tests.Test.{yes!, no! }
-use Rattle.tablesay.specs.Puts.{stores-append}
+use Rattle.laws.specs.Geometry.{Ranged, ranged}
+use Rattle.laws.specs.Mask.{only-none}
+use Rattle.laws.specs.Ranges.{Test, test}
+use Rattle.laws.specs.Ranges.Test.{yes!, no! }
+use Rattle.laws.specs.Stores.{storeAll-append}
 use Rattle.views.specs.Views.{Whole, seen}
 use Rattle.tablesay.specs.Accept.{Accepted}
 use Rattle.tablesay.specs.Counting.{greatest-low}
@@ -33,6 +33,7 @@ use Rattle.tablesay.specs.Joins.{roomy-append, within-append}
 use Rattle.tablesay.specs.Laid.{serial-low}
 use Rattle.tablesay.specs.Members.{In, map-in, keep-in, in-any, below-in, first-in}
 use Rattle.tablesay.specs.Mending.{Mended, mend-none, mend-tidy-one, mend-footers}
+use Rattle.tablesay.specs.Range.{capacity-over}
 use Rattle.tablesay.specs.Resting.{rest-healthy}
 use Rattle.tablesay.specs.Rewriting.{mend-rewrite}
 use Rattle.tablesay.specs.Run.{Healthy, Run}
@@ -40,12 +41,13 @@ use Rattle.tablesay.specs.Segs.{remaining-low, serial-is}
 use Rattle.tablesay.specs.Settled.{low-first}
 use Rattle.tablesay.specs.Starting.{memory-missing, memory-addresses, memory-compact, memory-inflight, startPlan, Begins, lost-start}
 use Rattle.tablesay.specs.Tables.{remains}
+use Rattle.tablesay.specs.Tests.{or-cases}
 use Rattle.tablesay.specs.Unsealed.{Loose, loose}
 use Rattle.tablesay.specs.Unsealed.Loose.{loose-none, loose-one}
 use Rattle.tablesay.specs.Zones.{Bytes, Shaped, shaped-after}
 
 -- what is stored behind the resets, in each case
-module _ (p : Params) (r : Range p) (v : View) (sh : Shaped p v) (acc : Accepted p v 0) where
+module _ (p : Params) (r : Ranged p) (v : View) (sh : Shaped p v) (acc : Accepted p v 0) where
   abbrev gs : List Segment
   gs = segments p v 0
 
@@ -100,13 +102,13 @@ module _ (p : Params) (r : Range p) (v : View) (sh : Shaped p v) (acc : Accepted
           one! x = unfold flat in refl
 
 -- the greatest serial of what a restart accepts is a number of 8 bytes
-serials-small : (p : Params) (r : Range p) (v : View) → Shaped p v → greatestSerial (segments p v 0) < 256 ^ 8
+serials-small : (p : Params) (r : Ranged p) (v : View) → Shaped p v → greatestSerial (segments p v 0) < 256 ^ 8
 serials-small p r v sh = as! (greatest-low (256 ^ 8) (map (λ (g : Segment). g .serial) (segments p v 0)) (lit< tt)
     (λ n m.
     let (x, i, e) = map-in (λ (g : Segment). g .serial) (segments p v 0) n m in
     let (z, j, f) = map-in (segmentOf p v 0) (remaining p v 0) x (bs! x i) in
     subst (λ (k : ℕ). k < 256 ^ 8) (sym (e ∙ ap (λ (y : Segment). y .serial) f ∙ serial-is p v 0 z ∙ ap (λ (k : ℕ). headerSerial (headerAt v k z)) (low-first p r)))
-    (serial-low (headerAt v 0 z) (cs! z (sh .zone-ok 0 z (omega (arith, r .n-low)) (remaining-low p v 0 z j) .sound 0 (let c = capacity-low p r in omega arith) .block-bytes (inl refl))))))
+    (serial-low (headerAt v 0 z) (cs! z (sh .zone-ok 0 z (omega (arith, r .drives-low)) (remaining-low p v 0 z j) .sound 0 (let c = capacity-over p r in omega arith) .block-bytes (inl refl))))))
   where
     as! : greatest (map (λ (g : Segment). g .serial) (segments p v 0)) < 256 ^ 8 → greatestSerial (segments p v 0) < 256 ^ 8
     as! x = unfold greatestSerial in x
@@ -122,7 +124,7 @@ serials-small p r v sh = as! (greatest-low (256 ^ 8) (map (λ (g : Segment). g .
 pub well-start : (p : Params) (k : Disk) (m : Memory) (d : ℕ) → (Whole p k → Shaped p (seen p k)) → Begins p k m d → named d ≡ 0
     → Run p (storeAll (storeDisk p) (startPlan p k m d .stores) k) (startPlan p k m d .memory)
 well-start p k m d shk b nd =
-    let r = in-range p (b .in-range!) in
+    let r = ranged p (b .in-range!) in
     let w = whole-of p k m (b .lent!) in
     let sh = shk w in
     let v = seen p k in
@@ -135,7 +137,7 @@ well-start p k m d shk b nd =
     (subst (λ (g : ℕ). rewrites p g (segments p v g) && isNil (freeZones p (segments p v g)) ≡ false) nd (b .eighth!)) (serials-small p r v sh) in
     let v2 = storeAll storeView ts va in
     let ss = ds ++ ts in
-    let ev : storeAll storeView ss v ≡ v2 = stores-append storeView ds ts v in
+    let ev : storeAll storeView ss v ≡ v2 = storeAll-append storeView ds ts v in
     let room = roomy-append p v ds ts (sh .sized) (drop-roomy p r v sh acc) (md .mend-roomy) in
     let sh2 : Shaped p v2 = subst (λ (x : View). Shaped p x) ev (shaped-after p v ss sh room) in
     let (hk, sk) = rest-healthy p r v2 sh2 (md .mend-bound) (md .mend-tidy) (md .mend-rest) (m .inflight) in
@@ -168,7 +170,7 @@ well-start p k m d shk b nd =
 
 -- ---- any restart
 
-names-none : (p : Params) → Range p → (d : ℕ) → namesDrive p d ≡ true → (d < p .N) ⊎ (named d ≡ 0)
+names-none : (p : Params) → Ranged p → (d : ℕ) → namesDrive p d ≡ true → (d < p .N) ⊎ (named d ≡ 0)
 names-none p r d q = ⊎-elim (λ x. inl (ltb-true d (p .N) x)) (λ x. inr (none! (eqb-true d noDrive x))) (parts q)
   where
     parts : namesDrive p d ≡ true → (ltb d (p .N) ≡ true) ⊎ (eqb d noDrive ≡ true)
@@ -181,4 +183,4 @@ names-none p r d q = ⊎-elim (λ x. inl (ltb-true d (p .N) x)) (λ x. inr (none
     none! e = unfold named in only-none d (subst (λ (n : ℕ). 8 ≤ n) (sym (e ∙ is-255)) (lit≤ tt))
 
 pub started : (p : Params) (k : Disk) (m : Memory) (d : ℕ) → (Whole p k → Shaped p (seen p k)) → Begins p k m d → Run p (storeAll (storeDisk p) (startPlan p k m d .stores) k) (startPlan p k m d .memory)
-started p k m d sh b = ⊎-elim (λ x. lost-start p k m d sh b x) (λ x. well-start p k m d sh b x) (names-none p (in-range p (b .in-range!)) d (b .names!))
+started p k m d sh b = ⊎-elim (λ x. lost-start p k m d sh b x) (λ x. well-start p k m d sh b x) (names-none p (ranged p (b .in-range!)) d (b .names!))

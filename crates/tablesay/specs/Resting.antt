@@ -21,15 +21,16 @@ use Rattle.defs.specs.Params.{capacity, present}
 use Rattle.defs.specs.Rank.{Cand}
 use Rattle.defs.specs.Restart.{openOf, nextOf, restartMemory}
 use Rattle.defs.specs.Segments.{headerAt, remaining, Segment, segmentOf, segments, counted, candidates, greatestStamp, greatestSerial, unsealed}
-use Rattle.tablesay.specs.Range.{capacity-low, Range}
-use Rattle.tablesay.specs.Tests.{Test, test, and-both, clash, and-false-left, and-false-right, not-so, cond-true, eqb-self}
-use Rattle.tablesay.specs.Tests.Test.{yes!, no! }
-use Rattle.tablesay.specs.Members.{keep-none, In, in-map, map-in, in-all, keep-cong, keep-keep, keep-map, below-in}
+use Rattle.laws.specs.Geometry.{Ranged}
+use Rattle.laws.specs.Ranges.{Test, test, and-both}
+use Rattle.laws.specs.Ranges.Test.{yes!, no! }
 use Rattle.tablesay.specs.Bounds.{record-low}
 use Rattle.tablesay.specs.Counting.{in-greatest, greatest-low}
 use Rattle.tablesay.specs.Idle.{idle-ok}
 use Rattle.tablesay.specs.Laid.{serial-low}
+use Rattle.tablesay.specs.Members.{In, in-map, map-in, in-all, keep-cong, keep-nothing, keep-keep, keep-map, below-in}
 use Rattle.tablesay.specs.Puts.{keep-one-below}
+use Rattle.tablesay.specs.Range.{capacity-over}
 use Rattle.tablesay.specs.Reclaiming.{sealed-full, cand-record}
 use Rattle.tablesay.specs.Run.{spareAt, usedAt, flies, awaits, Open, Lists, Tidy, Healthy}
 use Rattle.tablesay.specs.Segs.{present-in, remaining-low, seg-is, full-is, cand-at}
@@ -37,6 +38,7 @@ use Rattle.tablesay.specs.Settled.{remains-used, used-remains, remains-i
 use Rattle.tablesay.specs.Slots.{none-flies}
 use Rattle.tablesay.specs.Tables.{zero-at, remains, remaining-is}
 use Rattle.tablesay.specs.Tallies.{tally-none}
+use Rattle.tablesay.specs.Tests.{clash, and-false-left, and-false-right, not-so, cond-true, eqb-self}
 use Rattle.tablesay.specs.Zones.{Bytes, Shaped}
 
 -- an open segment with its stripes 0 to c - 1 on every drive, and nothing else
@@ -55,7 +57,7 @@ pub data Rest (p : Params) (v : View) : Type 0 where
   rest-sealed : ((z : ℕ) → z < p .Z → usedAt v z ≡ true → SealedAll p v z) → Rest p v
   rest-open : (g c : ℕ) → Steady p v g c → ((z : ℕ) → z < p .Z → usedAt v z ≡ true → (z ≡ g → ⊥) → SealedAll p v z) → Rest p v
 
-module _ (p : Params) (r : Range p) (v : View) (sh : Shaped p v) (b : ℕ) (t : Tidy p v b) where
+module _ (p : Params) (r : Ranged p) (v : View) (sh : Shaped p v) (b : ℕ) (t : Tidy p v b) where
   abbrev gs : List Segment
   gs = segments p v 0
 
@@ -63,7 +65,7 @@ module _ (p : Params) (r : Range p) (v : View) (sh : Shaped p v) (b : ℕ) (t : 
   serial = greatestSerial gs
 
   h0 : 0 < p .N
-  h0 = omega (arith, r .n-low)
+  h0 = omega (arith, r .drives-low)
 
   -- the greatest serial is one of those that are used
   serial-in : (z : ℕ) → z < p .Z → usedAt v z ≡ true → headerSerial (headerAt v 0 z) ≤ serial
@@ -89,7 +91,7 @@ module _ (p : Params) (r : Range p) (v : View) (sh : Shaped p v) (b : ℕ) (t : 
       cs! m = unfold segments in m
 
   header-bytes : (z : ℕ) → z < p .Z → Bytes (headerAt v 0 z)
-  header-bytes z hz = as! (sh .zone-ok 0 z h0 hz .sound 0 (let c = capacity-low p r in omega arith) .block-bytes (inl refl))
+  header-bytes z hz = as! (sh .zone-ok 0 z h0 hz .sound 0 (let c = capacity-over p r in omega arith) .block-bytes (inl refl))
     where
       as! : Bytes (getD (zoneAt v 0 z .blocks) 0 noChunk .block) → Bytes (headerAt v 0 z)
       as! x = unfold headerAt chunkAt zoneOn in x
@@ -146,14 +148,14 @@ module _ (p : Params) (r : Range p) (v : View) (sh : Shaped p v) (b : ℕ) (t : 
       as! e = unfold unsealed segments in e
 
   no-unsealed : ((z : ℕ) → z < p .Z → usedAt v z ≡ true → SealedAll p v z) → unsealed gs ≡ []
-  no-unsealed f = unsealed-are ∙ ap (map (segmentOf p v 0)) (keep-none (λ g. usedAt v g && not (sealedIn p v 0 g)) (below (p .Z)) (λ g m. go g (below-in (p .Z) g m) (test (usedAt v g))))
+  no-unsealed f = unsealed-are ∙ ap (map (segmentOf p v 0)) (keep-nothing (λ g. usedAt v g && not (sealedIn p v 0 g)) (below (p .Z)) (λ g m. go g (below-in (p .Z) g m) (test (usedAt v g))))
     where
       go : (g : ℕ) → g < p .Z → Test (usedAt v g) → usedAt v g && not (sealedIn p v 0 g) ≡ false
       go g hg (yes! q) = and-false-right (usedAt v g) (not (sealedIn p v 0 g)) (ap not (sealed-is g (f g hg q)))
       go g hg (no! q) = and-false-left (usedAt v g) (not (sealedIn p v 0 g)) q
 
   steady-unsealed : (g c : ℕ) → Steady p v g c → sealedIn p v 0 g ≡ false
-  steady-unsealed g c s = not-so (sealedIn p v 0 g) (λ q. let x = sealed-full p v g q 0 h0 in let y = s .steady-pointer 0 h0 in let w = s .steady-few in let l = capacity-low p r in let bad : ⊥ = omega arith in bad)
+  steady-unsealed g c s = not-so (sealedIn p v 0 g) (λ q. let x = sealed-full p v g q 0 h0 in let y = s .steady-pointer 0 h0 in let w = s .steady-few in let l = capacity-over p r in let bad : ⊥ = omega arith in bad)
 
   one-unsealed : (g c : ℕ) → Steady p v g c → ((z : ℕ) → z < p .Z → usedAt v z ≡ true → (z ≡ g → ⊥) → SealedAll p v z) → unsealed gs ≡ segmentOf p v 0 g ∷ []
   one-unsealed g c s f = unsealed-are ∙ ap (map (segmentOf p v 0))

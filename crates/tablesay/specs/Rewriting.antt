@@ -20,21 +20,21 @@ use Rattle.defs.specs.Params.{dataCount, capacity, drivesOf, present}
 use Rattle.defs.specs.Parity.{Piece, mkPiece, parityRec, parityPiece}
 use Rattle.defs.specs.Restart.{isWhole, renumbered, movedPieces, movedOn, movedStripe, movedStripes, rewriteStores, dropStores}
 use Rattle.defs.specs.Segments.{headerAt, Segment, segmentOf, segments, hasChunk, counts, counted, storedPiece, putPiece, greatestSerial}
-use Rattle.tablesay.specs.Range.{capacity-low, Range, data-drive-low}
-use Rattle.laws.specs.Geometry.{position-lt}
-use Rattle.tablesay.specs.Tests.{Test, test, clash, not-so, cond-true, cond-false, cond-same, eqb-self}
-use Rattle.tablesay.specs.Tests.Test.{yes!, no! }
-use Rattle.tablesay.specs.Members.{length-below, getD-map-below, keep-none, In, in-append, map-in, in-all, keep-cong, from-in, below-in, length-from, getD-map-at}
-use Rattle.tablesay.specs.Rebuilding.{length-parity, counted-low, counted-in, pieceChunk, stored-long}
+use Rattle.laws.specs.Geometry.{Ranged, data-drive-lt, position-lt}
+use Rattle.laws.specs.Mask.{isIn-empty}
+use Rattle.laws.specs.Ranges.{Test, test, length-upFrom, length-below, getD-map, getD-map-below}
+use Rattle.laws.specs.Ranges.Test.{yes!, no! }
 use Rattle.views.specs.Views.{blocks-long}
 use Rattle.tablesay.specs.Accept.{Accepted}
 use Rattle.tablesay.specs.Dropping.{drop-same, drop-empty, drop-used, kept-less, kept-once, kept-known, kept-no-copy, drop-tidy}
 use Rattle.tablesay.specs.Heading.{header-within}
 use Rattle.tablesay.specs.Laid.{header-serial, header-copied, record-stripe}
-use Rattle.tablesay.specs.Masks.{in-empty}
+use Rattle.tablesay.specs.Members.{In, in-append, map-in, in-all, keep-cong, keep-nothing, from-in, below-in}
 use Rattle.tablesay.specs.Mending.{Mended, shaped-a}
 use Rattle.tablesay.specs.Puts.{hits-append, putAt, hits-drives, hits-resets, hits-headers, putAll, puts-pointer, puts-new, room-puts, header-sound, data-sound}
+use Rattle.tablesay.specs.Range.{capacity-over}
 use Rattle.tablesay.specs.Reads.{counts-in}
+use Rattle.tablesay.specs.Rebuilding.{parity-length, counted-low, counted-in, pieceChunk, stored-long}
 use Rattle.tablesay.specs.Reclaiming.{sealed-full}
 use Rattle.tablesay.specs.Resetting.{reset-within}
 use Rattle.tablesay.specs.Resting.{Steady, SealedAll}
@@ -43,6 +43,7 @@ use Rattle.tablesay.specs.Run.{spareAt, usedAt, Tidy}
 use Rattle.tablesay.specs.Segs.{present-in, data-low, low-data, seg-is, serial-is, has-chunk, no-chunk}
 use Rattle.tablesay.specs.Settled.{low-first, SameZones, zones-header, zones-pointer, zones-used}
 use Rattle.tablesay.specs.Tables.{remains}
+use Rattle.tablesay.specs.Tests.{clash, not-so, cond-true, cond-false, cond-same, eqb-self}
 use Rattle.tablesay.specs.Zones.{Sound, Shaped, hitsAt, zoneStore, hits, zone-after, Room, Within, reset-pointer, Roomy}
 
 keep-firsts : (c i n : ℕ) → i ≤ c → c ≤ i + n → keep (λ s. ltb s c) (upFrom i n) ≡ upFrom i (c - i)
@@ -58,13 +59,13 @@ keep-firsts c i (suc n) a b = go (decLt i c) (keep-firsts c (suc i) n)
     go (no h) ih =
         let q : ltb i c ≡ false = le-ltb i c (omega arith) in
         let e : c - i ≡ 0 = omega arith in
-        rw (q, e) (keep-none (λ s. ltb s c) (upFrom (suc i) n) (λ s m. let (x, y) = from-in (suc i) n s m in le-ltb s c (omega arith)))
+        rw (q, e) (keep-nothing (λ s. ltb s c) (upFrom (suc i) n) (λ s m. let (x, y) = from-in (suc i) n s m in le-ltb s c (omega arith)))
 
 pub keep-below : (c n : ℕ) → c ≤ n → length (keep (λ s. ltb s c) (below n)) ≡ c
 unfolding below
-keep-below c n h = ap length (keep-firsts c 0 n (omega arith) (omega arith)) ∙ length-from 0 (c - 0) ∙ omega arith
+keep-below c n h = ap length (keep-firsts c 0 n (omega arith) (omega arith)) ∙ length-upFrom 0 (c - 0) ∙ omega arith
 
-module _ (p : Params) (r : Range p) (v : View) (sh : Shaped p v) (acc : Accepted p v 0)
+module _ (p : Params) (r : Ranged p) (v : View) (sh : Shaped p v) (acc : Accepted p v 0)
     (g : ℕ) (hg : g < p .Z) (kg : remains p v 0 g ≡ true) (ng : sealedIn p v 0 g ≡ false)
     (oth : (y : ℕ) → y < p .Z → remains p v 0 y ≡ true → (y ≡ g → ⊥) → sealedIn p v 0 y ≡ true)
     (z0 : ℕ) (hz0 : z0 < p .Z) (fz : remains p v 0 z0 ≡ false) (fit : suc (greatestSerial (segments p v 0)) < 256 ^ 8) where
@@ -90,7 +91,7 @@ module _ (p : Params) (r : Range p) (v : View) (sh : Shaped p v) (acc : Accepted
   va = storeAll storeView (dropStores p gs) v
 
   h0 : 0 < p .N
-  h0 = omega (arith, r .n-low)
+  h0 = omega (arith, r .drives-low)
 
   apart : z0 ≡ g → ⊥
   apart e = clash kg (subst (λ (y : ℕ). keeps! y ≡ false) e fz)
@@ -110,7 +111,7 @@ module _ (p : Params) (r : Range p) (v : View) (sh : Shaped p v) (acc : Accepted
     qs-at : (n : ℕ) → n < dataCount p → getD qs n (mkPiece [] (mkRec 0 0 0)) ≡ renumbered k (storedPiece x s (dataDrive p s n))
     qs-at n l =
         ap (λ (y : List Piece). getD y n (mkPiece [] (mkRec 0 0 0))) qs-is
-        ∙ getD-map-at (λ d. renumbered k (storedPiece x s d)) (map (dataDrive p s) (below (dataCount p))) n 0 (mkPiece [] (mkRec 0 0 0)) (subst (λ (y : ℕ). n < y) (sym (length-map (below (dataCount p)) (dataDrive p s) ∙ length-below (dataCount p))) l)
+        ∙ getD-map (λ d. renumbered k (storedPiece x s d)) (map (dataDrive p s) (below (dataCount p))) n (mkPiece [] (mkRec 0 0 0)) 0 (subst (λ (y : ℕ). n < y) (sym (length-map (below (dataCount p)) (dataDrive p s) ∙ length-below (dataCount p))) l)
         ∙ ap (λ (d : ℕ). renumbered k (storedPiece x s d)) (getD-map-below (dataDrive p s) (dataCount p) n 0 l)
 
     abbrev on : ℕ → Piece
@@ -134,10 +135,10 @@ module _ (p : Params) (r : Range p) (v : View) (sh : Shaped p v) (acc : Accepted
 
     module _ (cn : counts p 0 x s ≡ true) where
       stored-b : (d : ℕ) → d < p .N → length (storedPiece x s d .block) ≡ p .B
-      stored-b d hd = stored-long p r v sh 0 g s d hg hd (in-empty d) (counts-in p 0 x s d cn hd (in-empty d))
+      stored-b d hd = stored-long p r v sh 0 g s d hg hd (isIn-empty d) (counts-in p 0 x s d cn hd (isIn-empty d))
 
       drive! : (n : ℕ) → n < dataCount p → dataDrive p s n < p .N
-      drive! n l = data-drive-low p s n (omega (arith, r .n-low)) l
+      drive! n l = data-drive-lt p s n l
 
       moved-long : (e : ℕ) → e < p .N → length (on e .block) ≡ p .B
       moved-long e he = go (test (isData p k e))
@@ -147,7 +148,7 @@ module _ (p : Params) (r : Range p) (v : View) (sh : Shaped p v) (acc : Accepted
 
           go : Test (isData p k e) → length (on e .block) ≡ p .B
           go (yes! q) = ap (λ (y : Piece). length (y .block)) (moved-data e q he) ∙ ap length (block! (storedPiece x s (dataDrive p s (dataPosition p k e)))) ∙ stored-b (dataDrive p s (dataPosition p k e)) (drive! (dataPosition p k e) (position-lt p k e q he))
-          go (no! q) = ap (λ (y : Piece). length (y .block)) (moved-parity e q) ∙ as! (length-parity (p .B) (map (λ (y : Piece). y .block) qs)
+          go (no! q) = ap (λ (y : Piece). length (y .block)) (moved-parity e q) ∙ as! (parity-length (p .B) (map (λ (y : Piece). y .block) qs)
               (λ b m.
               let (y, i, f) = map-in (λ (y : Piece). y .block) qs b m in
               let (d, j, h) = map-in (λ d. renumbered k (storedPiece x s d)) (map (dataDrive p s) (below (dataCount p))) y (subst (λ (l : List Piece). In y l) qs-is i) in
@@ -255,7 +256,7 @@ module _ (p : Params) (r : Range p) (v : View) (sh : Shaped p v) (acc : Accepted
       piece! q = unfold pieceChunk in refl
 
   lay-room : (e : ℕ) → e < p .N → Room p 0 (map (putAt e z0) (lay e))
-  lay-room e he = room-puts p e z0 0 (lay e) (let a = lay-count e in let b = c-low in let k = capacity-low p r in omega arith) go
+  lay-room e he = room-puts p e z0 0 (lay e) (let a = lay-count e in let b = c-low in let k = capacity-over p r in omega arith) go
     where
       go : (i : ℕ) → i < length (lay e) → Sound p (0 + i) (getD (lay e) i noChunk)
       go zero h = first!
@@ -346,14 +347,14 @@ module _ (p : Params) (r : Range p) (v : View) (sh : Shaped p v) (acc : Accepted
   new-block e i he h =
       ap (λ (q : Zone). getD (q .blocks) i noChunk) (new-zone e he)
       ∙ ap (λ (n : ℕ). getD (putAll e z0 (lay e) (zoneAt va e z0) .blocks) n noChunk) (let a = zero! e he in let w : i ≡ zoneAt va e z0 .pointer + i = omega arith in w)
-      ∙ puts-new e z0 (lay e) (zoneAt va e z0) i h (let a = zero! e he in let b = lay-count e in let d = c-low in let k = capacity-low p r in let l = sha .zone-ok e z0 he hz0 .blocks-long in omega arith)
+      ∙ puts-new e z0 (lay e) (zoneAt va e z0) i h (let a = zero! e he in let b = lay-count e in let d = c-low in let k = capacity-over p r in let l = sha .zone-ok e z0 he hz0 .blocks-long in omega arith)
 
   -- stripe o lies at offset o
   new-stripe : (e o : ℕ) → e < p .N → o < c → spareAt p vc e z0 o .stripe ≡ o
   new-stripe e o he h =
       let (b, q, f, lb, st) = lay-at e o he h in
       let w : getD (zoneAt vc e z0 .blocks) (1 + o) noChunk ≡ mkChunk b (recordBytes q) = ap (λ (n : ℕ). getD (zoneAt vc e z0 .blocks) n noChunk) (let z : 1 + o ≡ suc o = omega arith in z) ∙ new-block e (suc o) he (let a = lay-count e in omega arith) ∙ f in
-      as! b q w (record-stripe q (subst (λ (n : ℕ). n < 256 ^ 4) (sym st) (let a = c-low in let k = r .s-high in omega arith)) ∙ st)
+      as! b q w (record-stripe q (subst (λ (n : ℕ). n < 256 ^ 4) (sym st) (let a = c-low in let k = r .stripes-high in omega arith)) ∙ st)
     where
       as! : (b : List ℕ) (q : Rec) → getD (zoneAt vc e z0 .blocks) (1 + o) noChunk ≡ mkChunk b (recordBytes q) → recordOf (recordBytes q) .stripe ≡ o → spareAt p vc e z0 o .stripe ≡ o
       as! b q w u = unfold recordIn in (ap (λ (y : Chunk). recordOf (y .spare) .stripe) w ∙ u)
@@ -380,7 +381,7 @@ module _ (p : Params) (r : Range p) (v : View) (sh : Shaped p v) (acc : Accepted
     y0 = segmentOf p vc 0 z0
 
     open-now : sealedIn p vc 0 z0 ≡ false
-    open-now = not-so (sealedIn p vc 0 z0) (λ q. let a = sealed-full p vc z0 q 0 h0 in let b = new-pointer 0 h0 in let d = few! in let k = capacity-low p r in let bad : ⊥ = omega arith in bad)
+    open-now = not-so (sealedIn p vc 0 z0) (λ q. let a = sealed-full p vc z0 q 0 h0 in let b = new-pointer 0 h0 in let d = few! in let k = capacity-over p r in let bad : ⊥ = omega arith in bad)
 
     stored! : (e o : ℕ) → e < p .N → o < c → o < dataStored p (zoneAt vc e z0)
     stored! e o he h = low-data p (zoneAt vc e z0) o (let a = few! in omega arith) (as! (new-pointer e he))
@@ -404,9 +405,9 @@ module _ (p : Params) (r : Range p) (v : View) (sh : Shaped p v) (acc : Accepted
         in! q = unfold counts in q
 
         go : Dec (s < c) → counts p 0 y0 s ≡ ltb s c
-        go (yes l) = in! (in-all (hasChunk y0 s) (present p 0) (λ e m. let he = present-in p 0 e m .0 in has-chunk p vc 0 z0 e s s he (in-empty e) (stored! e s he l) (ap (λ (a : Rec). a .stripe) (by-spare e s) ∙ new-stripe e s he l))) ∙ sym (lt-ltb s c l)
-        go (no l) = not-so (counts p 0 y0 s) (λ q. clash (counts-in p 0 y0 s 0 q h0 (in-empty 0))
-            (no-chunk p vc 0 z0 0 s h0 (in-empty 0) (λ o b w. let a = under! 0 o h0 b in let f = sym (ap (λ (a : Rec). a .stripe) (by-spare 0 o) ∙ new-stripe 0 o h0 a) ∙ w in let bad : ⊥ = omega arith in bad))) ∙ sym (le-ltb s c (omega arith))
+        go (yes l) = in! (in-all (hasChunk y0 s) (present p 0) (λ e m. let he = present-in p 0 e m .0 in has-chunk p vc 0 z0 e s s he (isIn-empty e) (stored! e s he l) (ap (λ (a : Rec). a .stripe) (by-spare e s) ∙ new-stripe e s he l))) ∙ sym (lt-ltb s c l)
+        go (no l) = not-so (counts p 0 y0 s) (λ q. clash (counts-in p 0 y0 s 0 q h0 (isIn-empty 0))
+            (no-chunk p vc 0 z0 0 s h0 (isIn-empty 0) (λ o b w. let a = under! 0 o h0 b in let f = sym (ap (λ (a : Rec). a .stripe) (by-spare 0 o) ∙ new-stripe 0 o h0 a) ∙ w in let bad : ⊥ = omega arith in bad))) ∙ sym (le-ltb s c (omega arith))
 
     new-count : length (counted p 0 y0) ≡ c
     new-count = as! (ap length (keep-cong (counts p 0 y0) (λ s. ltb s c) (below (p .S)) (λ s m. counts-are s (below-in (p .S) s m))) ∙ keep-below c (p .S) c-low)
@@ -463,7 +464,7 @@ module _ (p : Params) (r : Range p) (v : View) (sh : Shaped p v) (acc : Accepted
     }
       where
         low : (d z : ℕ) → d < p .N → z < p .Z → Dec (z0 ≡ z) → Dec (g ≡ z) → pointerAt vc d z ≤ capacity p
-        low d z hd hz (yes a) b = subst (λ (n : ℕ). pointerAt vc d n ≤ capacity p) a (let e = new-pointer d hd in let k = c-low in let l = capacity-low p r in omega arith)
+        low d z hd hz (yes a) b = subst (λ (n : ℕ). pointerAt vc d n ≤ capacity p) a (let e = new-pointer d hd in let k = c-low in let l = capacity-over p r in omega arith)
         low d z hd hz (no a) (yes b) = subst (λ (n : ℕ). pointerAt vc d n ≤ capacity p) b (let e = old-pointer d hd in omega arith)
         low d z hd hz (no a) (no b) = subst (λ (n : ℕ). n ≤ capacity p) (zones-pointer p r va vc z (same-else z hz a b) d hd) (drop-tidy p r v sh acc .pointer-low d z hd hz)
 

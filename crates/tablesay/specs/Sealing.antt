@@ -19,18 +19,20 @@ use Rattle.defs.specs.Layout.{recordOf, footerBlock, footerRecord}
 use Rattle.defs.specs.Lists.{upFrom, below, all, flat}
 use Rattle.defs.specs.Params.{spareLen, perFooter, footers, capacity, drivesOf, present}
 use Rattle.defs.specs.Segments.{headerAt, recordsIn}
-use Rattle.tablesay.specs.Range.{capacity-low, Range, per-low, footers-enough, capacity-is}
-use Rattle.tablesay.specs.Tests.{Test, test, and-false-right, not-so, cond-true, cond-false, eqb-self}
-use Rattle.tablesay.specs.Tests.Test.{yes!, no! }
-use Rattle.tablesay.specs.Members.{map-map, flat-none, In, map-in, flat-in, in-all, map-cong, flat-cong, keep-all, below-in, length-from, getD-from, getD-map-at, getD-in}
+use Rattle.laws.specs.Geometry.{Ranged, per-footer-low, footers-cover}
+use Rattle.laws.specs.Ranges.{Test, test, length-upFrom, getD-upFrom, map-map, getD-map}
+use Rattle.laws.specs.Ranges.Test.{yes!, no! }
 use Rattle.views.specs.Views.{blocks-long}
 use Rattle.tablesay.specs.Bounds.{blocks-at, spares-at}
 use Rattle.tablesay.specs.Growing.{Grows}
 use Rattle.tablesay.specs.Laid.{Long, in-take, in-drop, getD-footer}
+use Rattle.tablesay.specs.Members.{In, map-in, flat-in, in-all, map-cong, flat-cong, keep-all, flat-nothing, below-in, getD-in}
 use Rattle.tablesay.specs.Puts.{hits-flat, putAt, hits-puts, flat-one, putAll, puts-pointer, puts-old, puts-new, room-puts, footer-sound}
+use Rattle.tablesay.specs.Range.{capacity-is, capacity-over}
 use Rattle.tablesay.specs.Reclaiming.{sealed-full}
 use Rattle.tablesay.specs.Segs.{present-in}
 use Rattle.tablesay.specs.Settled.{SameZones}
+use Rattle.tablesay.specs.Tests.{and-false-right, not-so, cond-true, cond-false, eqb-self}
 use Rattle.tablesay.specs.Zones.{Bytes, Sound, ZoneOk, Shaped, zoneStore, hits, zone-after, Room, Within, Roomy}
 
 -- a list of chunks for each drive, in the zone of one segment
@@ -45,7 +47,7 @@ hits-each p e y z f he = hits-flat e y (λ d. map (putAt d z) (f d)) (drivesOf p
     and-true! false = refl
 
     go : Test (eqb z y) → flat (λ d. cond (eqb d e && eqb z y) (map (putAt d z) (f d)) []) (below (p .N)) ≡ cond (eqb z y) (map (putAt e z) (f e)) []
-    go (no! q) = flat-none (λ d. cond (eqb d e && eqb z y) (map (putAt d z) (f d)) []) (below (p .N)) (λ d m. cond-false (eqb d e && eqb z y) (map (putAt d z) (f d)) [] (and-false-right (eqb d e) (eqb z y) q))
+    go (no! q) = flat-nothing (λ d. cond (eqb d e && eqb z y) (map (putAt d z) (f d)) []) (below (p .N)) (λ d m. cond-false (eqb d e && eqb z y) (map (putAt d z) (f d)) [] (and-false-right (eqb d e) (eqb z y) q))
         ∙ sym (cond-false (eqb z y) (map (putAt e z) (f e)) [] q)
     go (yes! q) =
         flat-cong (λ d. cond (eqb d e && eqb z y) (map (putAt d z) (f d)) []) (λ d. cond (eqb d e) (map (putAt d z) (f d)) []) (below (p .N)) (λ d m. ap (λ (b : Bool). cond b (map (putAt d z) (f d)) []) (ap (λ (b : Bool). eqb d e && b) q ∙ and-true! (eqb d e)))
@@ -86,7 +88,7 @@ footer-puts p d z q i n = as! ∙ map-map (λ (b : List ℕ). put d z b zeroSpar
     bs! : map (putAt d z) (map (λ j. mkChunk (footerBlock p (sparesIn p q) j) zeroSpare) (upFrom i n)) ≡ map (putAt d z) (footerChunks p q i n)
     bs! = unfold footerChunks in refl
 
-module _ (p : Params) (r : Range p) (q : Zone) (k : ZoneOk p q) where
+module _ (p : Params) (r : Ranged p) (q : Zone) (k : ZoneOk p q) where
   spare-in : (s : List ℕ) → In s (sparesIn p q) → (b : ℕ) × (b < capacity p) × (s ≡ getD (q .blocks) b noChunk .spare)
   spare-in s m =
       let (c, i, e) = map-in (λ (c : Chunk). c .spare) (take (p .S) (drop 1 (q .blocks))) s (as! m) in
@@ -104,7 +106,7 @@ module _ (p : Params) (r : Range p) (q : Zone) (k : ZoneOk p q) where
 
   pub spares-count : length (sparesIn p q) ≡ p .S
   spares-count = as! (length-map (take (p .S) (drop 1 (q .blocks))) (λ (c : Chunk). c .spare) ∙ length-take (p .S) (drop 1 (q .blocks))
-      ∙ (let e = length-drop 1 (q .blocks) in let f = k .blocks-long in let c = capacity-low p r in let x : min (p .S) (length (drop 1 (q .blocks))) ≡ p .S = omega arith in x))
+      ∙ (let e = length-drop 1 (q .blocks) in let f = k .blocks-long in let c = capacity-over p r in let x : min (p .S) (length (drop 1 (q .blocks))) ≡ p .S = omega arith in x))
     where
       as! : length (map (λ (c : Chunk). c .spare) (take (p .S) (drop 1 (q .blocks)))) ≡ p .S → length (sparesIn p q) ≡ p .S
       as! e = unfold sparesIn sparesOf in e
@@ -116,13 +118,13 @@ module _ (p : Params) (r : Range p) (q : Zone) (k : ZoneOk p q) where
       as! e = unfold sparesIn in e
 
   pub footers-count : (i n : ℕ) → length (footerChunks p q i n) ≡ n
-  footers-count i n = as! (length-map (upFrom i n) (λ j. mkChunk (footerBlock p (sparesIn p q) j) zeroSpare) ∙ length-from i n)
+  footers-count i n = as! (length-map (upFrom i n) (λ j. mkChunk (footerBlock p (sparesIn p q) j) zeroSpare) ∙ length-upFrom i n)
     where
       as! : length (map (λ j. mkChunk (footerBlock p (sparesIn p q) j) zeroSpare) (upFrom i n)) ≡ n → length (footerChunks p q i n) ≡ n
       as! e = unfold footerChunks in e
 
   pub footer-chunk : (i n j : ℕ) → j < n → getD (footerChunks p q i n) j noChunk ≡ mkChunk (footerBlock p (sparesIn p q) (i + j)) zeroSpare
-  footer-chunk i n j h = as! (getD-map-at (λ j. mkChunk (footerBlock p (sparesIn p q) j) zeroSpare) (upFrom i n) j 0 noChunk (subst (λ (x : ℕ). j < x) (sym (length-from i n)) h) ∙ ap (λ (x : ℕ). mkChunk (footerBlock p (sparesIn p q) x) zeroSpare) (getD-from i n j 0 h))
+  footer-chunk i n j h = as! (getD-map (λ j. mkChunk (footerBlock p (sparesIn p q) j) zeroSpare) (upFrom i n) j noChunk 0 (subst (λ (x : ℕ). j < x) (sym (length-upFrom i n)) h) ∙ ap (λ (x : ℕ). mkChunk (footerBlock p (sparesIn p q) x) zeroSpare) (getD-upFrom i n j 0 h))
     where
       as! : getD (map (λ j. mkChunk (footerBlock p (sparesIn p q) j) zeroSpare) (upFrom i n)) j noChunk ≡ mkChunk (footerBlock p (sparesIn p q) (i + j)) zeroSpare → getD (footerChunks p q i n) j noChunk ≡ mkChunk (footerBlock p (sparesIn p q) (i + j)) zeroSpare
       as! e = unfold footerChunks in e
@@ -136,7 +138,7 @@ module _ (p : Params) (r : Range p) (q : Zone) (k : ZoneOk p q) where
   footer-records d z e x h =
       let pf = perFooter p in
       let j = x / pf in
-      let hj : j < footers p = div-lt-iff-lt-mul (let z = per-low p r in let y : 0 < pf = omega arith in y) .1 (let f = footers-enough p r in omega arith) in
+      let hj : j < footers p = div-lt-iff-lt-mul (let z = per-footer-low p r in let y : 0 < pf = omega arith in y) .1 (let f = footers-cover p r in omega arith) in
       let q2 = putAll d z (footerChunks p q 0 (footers p)) q in
       let c = footers-count 0 (footers p) in
       let fit : q .pointer + length (footerChunks p q 0 (footers p)) ≤ length (q .blocks) = (let l = k .blocks-long in let y = capacity-is p r in omega arith) in
@@ -153,7 +155,7 @@ module _ (p : Params) (r : Range p) (q : Zone) (k : ZoneOk p q) where
 
 -- ---- a segment sealed on every drive
 
-module _ (p : Params) (r : Range p) (v : View) (sh : Shaped p v) (z : ℕ) (hz : z < p .Z) (behind : (e : ℕ) → e < p .N → pointerAt v e z ≡ 1 + p .S) where
+module _ (p : Params) (r : Ranged p) (v : View) (sh : Shaped p v) (z : ℕ) (hz : z < p .Z) (behind : (e : ℕ) → e < p .N → pointerAt v e z ≡ 1 + p .S) where
   abbrev ss : List Store
   ss = sealStores p v z
 
@@ -221,13 +223,13 @@ module _ (p : Params) (r : Range p) (v : View) (sh : Shaped p v) (z : ℕ) (hz :
     zone-is = hz;
     others = seal-other;
     used-before = λ e he. let a = behind e he in omega arith;
-    used-now = λ e he. let a = seal-pointer e he in let c = capacity-low p r in omega arith;
+    used-now = λ e he. let a = seal-pointer e he in let c = capacity-over p r in omega arith;
     low-now = λ e he. le-of-eq (seal-pointer e he);
     same-head = head;
   }
     where
       h0 : 0 < p .N
-      h0 = omega (arith, r .n-low)
+      h0 = omega (arith, r .drives-low)
 
       head : headerAt v 0 z ≡ headerAt u 0 z
       head = as! (sym (ap (λ (q : Zone). getD (q .blocks) 0 noChunk .block) (seal-zone 0 h0) ∙ ap (λ (c : Chunk). c .block) (puts-old 0 z (footerChunks p (zoneAt v 0 z) 0 (footers p)) (zoneAt v 0 z) 0 (let a = zone-pointer 0 h0 in omega arith))))
@@ -243,10 +245,10 @@ module _ (p : Params) (r : Range p) (v : View) (sh : Shaped p v) (z : ℕ) (hz :
 
   open-yet : sealedIn p v 0 z ≡ false
   open-yet = not-so (sealedIn p v 0 z) (λ q.
-      let h0 : 0 < p .N = omega (arith, r .n-low) in
+      let h0 : 0 < p .N = omega (arith, r .drives-low) in
       let a = sealed-full p v z q 0 h0 in
       let b = behind 0 h0 in
-      let c = capacity-low p r in
+      let c = capacity-over p r in
       let bad : ⊥ = omega arith in bad)
 
   -- it says the same
@@ -263,5 +265,5 @@ module _ (p : Params) (r : Range p) (v : View) (sh : Shaped p v) (z : ℕ) (hz :
       go : (q q2 : Zone) → q .pointer ≡ 1 + p .S → q2 .pointer ≡ capacity p → ((x : ℕ) → x < p .S → recordIn p false q x ≡ recordIn p true q2 x) → recordsIn p false q ≡ recordsIn p true q2
       go q q2 a b f = unfold recordsIn in
           let n1 : dataStored p q ≡ p .S = (unfold dataStored in (let z : min (q .pointer - 1) (p .S) ≡ p .S = omega arith in z)) in
-          let n2 : dataStored p q2 ≡ p .S = (unfold dataStored in (let c = capacity-low p r in let z : min (q2 .pointer - 1) (p .S) ≡ p .S = omega arith in z)) in
+          let n2 : dataStored p q2 ≡ p .S = (unfold dataStored in (let c = capacity-over p r in let z : min (q2 .pointer - 1) (p .S) ≡ p .S = omega arith in z)) in
           ap (λ (n : ℕ). map (recordIn p false q) (below n)) n1 ∙ map-cong (recordIn p false q) (recordIn p true q2) (below (p .S)) (λ x m. f x (below-in (p .S) x m)) ∙ ap (λ (n : ℕ). map (recordIn p true q2) (below n)) (sym n2)

@@ -20,18 +20,20 @@ use Rattle.defs.specs.Params.{dataCount, inflightLen}
 use Rattle.defs.specs.Segments.{segments, candidates, addressTable, compactTable}
 use Rattle.defs.specs.Write.{mustOpen, opens, noSerial, otherGroup, mustWait, placed, Sending, openedBy, slotFor, begunBy, sending}
 use Rattle.laws.specs.Be.{room}
-use Rattle.tablesay.specs.Tests.{Test, test, and-left, and-right, clash, or-left, or-right, or-cases, not-so}
-use Rattle.tablesay.specs.Tests.Test.{yes!, no! }
-use Rattle.tablesay.specs.Members.{length-below, getD-below, In, in-keep, keep-in, none-in, in-any, below-in, index-below, index-passes, first-in, in-some}
+use Rattle.laws.specs.Geometry.{Ranged}
+use Rattle.laws.specs.Ranges.{Test, test, and-left, and-right, length-below, getD-below}
+use Rattle.laws.specs.Ranges.Test.{yes!, no! }
 use Rattle.tablesay.specs.Carried.{begin-healthy}
 use Rattle.tablesay.specs.Filling.{placed-long, add-ok, begin-ok, fill-healthy}
 use Rattle.tablesay.specs.Heading.{header-roomy, header-within, empty-all, head-addresses, head-compact, head-healthy}
 use Rattle.tablesay.specs.Idle.{StateOk, in-slots, slots-in}
-use Rattle.tablesay.specs.Range.{Range, data-count}
+use Rattle.tablesay.specs.Members.{In, in-keep, keep-in, none-in, in-any, below-in, index-below, index-passes, first-in, in-some}
+use Rattle.tablesay.specs.Range.{data-count}
 use Rattle.tablesay.specs.Reading.{found}
 use Rattle.tablesay.specs.Run.{flies, Healthy}
 use Rattle.tablesay.specs.Slots.{begin-filled, begin-lists}
 use Rattle.tablesay.specs.Tallies.{tally-none, some-out}
+use Rattle.tablesay.specs.Tests.{clash, or-left, or-right, or-cases, not-so}
 use Rattle.tablesay.specs.Zones.{Shaped, hits, Room, Within, Roomy}
 
 -- ---- eighths found by a search
@@ -103,13 +105,13 @@ no-stores p v st su fl h so l e = record {
     none-room : (d z : ℕ) → Room p (pointerAt v d z) (hits d z [])
     none-room d z = unfold keep in tt
 
-module _ (p : Params) (r : Range p) (v : View) (sh : Shaped p v) (st : State) (h : Healthy p v st) (so : StateOk p st) (fl : List ℕ) (l : length fl ≡ inflightLen p)
+module _ (p : Params) (r : Ranged p) (v : View) (sh : Shaped p v) (st : State) (h : Healthy p v st) (so : StateOk p st) (fl : List ℕ) (l : length fl ≡ inflightLen p)
     (a t w : ℕ) (b : List ℕ) (ha : a < 256 ^ 8) (ht : t < 256 ^ 8) (hw : w ≤ 1) (lb : length b ≡ p .B) where
   abbrev sent : Sending
   sent = sending p v st fl a t w b
 
   two-up : 0 < dataCount p
-  two-up = let c = data-count p r in omega (arith, r .n-low)
+  two-up = let c = data-count p r in omega (arith, r .drives-low)
 
   -- the next position of the filling stripe
   fills : hasFilling p st ≡ true → SentOk p v st (sent .state) (sent .stores) (sent .inflight)
@@ -226,7 +228,7 @@ module _ (p : Params) (r : Range p) (v : View) (sh : Shaped p v) (st : State) (h
         let u = storeAll storeView (headerStores p g (suc s) 0) v in
         let ku = head-healthy p r v sh s g (h .tidy) hg em fit st h refl shut! none in
         let ko = open-ok g (suc s) hg in
-        let (k1, k2, k3) = begins-in su u g ku ko (opened-is g (suc s)) (subst (λ (x : ℕ). x < p .S) (sym (next-is g (suc s))) (r .s-low)) (freeSlot st) (free! .0) (free-same g (suc s) (freeSlot st) ∙ free! .1)
+        let (k1, k2, k3) = begins-in su u g ku ko (opened-is g (suc s)) (subst (λ (x : ℕ). x < p .S) (sym (next-is g (suc s))) (r .stripes-low)) (freeSlot st) (free! .0) (free-same g (suc s) (freeSlot st) ∙ free! .1)
         (λ j hj fj. clash fj (free-same g (suc s) j ∙ none j hj)) in
         let sw = addEntry (beginStripe su (freeSlot st)) (freeSlot st) a t w in
         subst (λ (x : State). SentOk p v st x (sent .stores) (sent .inflight)) (sym (state-is mo))

@@ -14,30 +14,31 @@ use Rattle.defs.specs.Lists.{upFrom, below, all, any, firstOr, isIn}
 use Rattle.defs.specs.Params.{capacity, drivesOf, present}
 use Rattle.defs.specs.Rank.{Cand}
 use Rattle.defs.specs.Segments.{lowDrive, headerAt, leftBy1, isCopy, remaining, Segment, recordsIn, segmentOf, segments, recsOn, offsetOn, counts, offsetOf, candOf, candidates}
-use Rattle.tablesay.specs.Range.{position-drive, Range, data-drive-low}
-use Rattle.tablesay.specs.Tests.{and-left, and-both, and-false-right, same-test, cond-false}
+use Rattle.laws.specs.Geometry.{Ranged, position-drive, data-drive-lt}
+use Rattle.laws.specs.Mask.{isIn-empty}
+use Rattle.laws.specs.Ranges.{and-left, and-both}
 use Rattle.tablesay.specs.Ranks.{Apart}
-use Rattle.tablesay.specs.Masks.{in-empty}
 use Rattle.tablesay.specs.Members.{In, keep-in, all-in, in-all, in-none, all-cong, map-cong, keep-all, below-in}
 use Rattle.tablesay.specs.Reads.{counts-in}
 use Rattle.tablesay.specs.Run.{usedAt, Tidy}
 use Rattle.tablesay.specs.Segs.{present-in, in-present, remaining-low, serial-is, ChunkAt, chunk-at, CandAt, cand-at}
 use Rattle.tablesay.specs.Tables.{remains, in-remaining, remaining-in, rowAt}
+use Rattle.tablesay.specs.Tests.{and-false-right, same-test, cond-false}
 
 pub present-all : (p : Params) (d : ℕ) → d < p .N → In d (present p 0)
-present-all p d h = in-present p 0 d h (in-empty d)
+present-all p d h = in-present p 0 d h (isIn-empty d)
 
-pub low-first : (p : Params) → Range p → lowDrive p 0 ≡ 0
+pub low-first : (p : Params) → Ranged p → lowDrive p 0 ≡ 0
 unfolding lowDrive present drivesOf firstOr
-low-first p r = ap (firstOr 0) (keep-all (λ d. not (isIn 0 d)) (below (p .N)) (λ d m. ap not (in-empty d))) ∙ go (p .N) (r .n-low)
+low-first p r = ap (firstOr 0) (keep-all (λ d. not (isIn 0 d)) (below (p .N)) (λ d m. ap not (isIn-empty d))) ∙ go (p .N) (r .drives-low)
   where
     go : (n : ℕ) → 3 ≤ n → firstOr 0 (below n) ≡ 0
     go zero h = absurd (let z : ⊥ = omega arith in z)
     go (suc n) h = unfold below upFrom firstOr in refl
 
-module _ (p : Params) (r : Range p) (v : View) (serial : ℕ) (t : Tidy p v serial) where
+module _ (p : Params) (r : Ranged p) (v : View) (serial : ℕ) (t : Tidy p v serial) where
   zero-low : 0 < p .N
-  zero-low = omega (arith, r .n-low)
+  zero-low = omega (arith, r .drives-low)
 
   -- no zone of a used segment is empty
   pub used-all : (d z : ℕ) → d < p .N → z < p .Z → usedAt v z ≡ true → not (eqb (pointerAt v d z) 0) ≡ true
@@ -85,7 +86,7 @@ module _ (p : Params) (r : Range p) (v : View) (serial : ℕ) (t : Tidy p v seri
     its-drive = ap (λ (x : Cand). x .drive) (k .it-is)
 
     pub its-drive-low : c .drive < p .N
-    its-drive-low = subst (λ (x : ℕ). x < p .N) (sym its-drive) (data-drive-low p (k .stripe) (k .position) (omega (arith, r .n-low)) (k .position-low))
+    its-drive-low = subst (λ (x : ℕ). x < p .N) (sym its-drive) (data-drive-lt p (k .stripe) (k .position) (k .position-low))
 
     pub its-serial : c .serial ≡ headerSerial (headerAt v 0 (k .of))
     unfolding candOf
@@ -96,11 +97,11 @@ module _ (p : Params) (r : Range p) (v : View) (serial : ℕ) (t : Tidy p v seri
     its-offset =
         let d = dataDrive p (k .stripe) (k .position) in
         ap (λ (x : Cand). x .offset) (k .it-is)
-        ∙ cond-false (isIn 0 d) (k .stripe) (offsetOn (segmentOf p v 0 (k .of)) d (k .stripe)) (in-empty d)
+        ∙ cond-false (isIn 0 d) (k .stripe) (offsetOn (segmentOf p v 0 (k .of)) d (k .stripe)) (isIn-empty d)
         ∙ ap (λ (x : ℕ). offsetOn (segmentOf p v 0 (k .of)) x (k .stripe)) (sym its-drive)
 
     pub chunk-of-it : ChunkAt p v 0 (k .of) (c .drive) (k .stripe)
-    chunk-of-it = chunk-at p v 0 (k .of) (c .drive) (k .stripe) its-drive-low (in-empty (c .drive)) (counts-in p 0 (segmentOf p v 0 (k .of)) (k .stripe) (c .drive) (k .it-counts) its-drive-low (in-empty (c .drive)))
+    chunk-of-it = chunk-at p v 0 (k .of) (c .drive) (k .stripe) its-drive-low (isIn-empty (c .drive)) (counts-in p 0 (segmentOf p v 0 (k .of)) (k .stripe) (c .drive) (k .it-counts) its-drive-low (isIn-empty (c .drive)))
 
     pub stripe-at-offset : recordIn p (sealedIn p v 0 (k .of)) (zoneAt v (c .drive) (k .of)) (c .offset) .stripe ≡ k .stripe
     stripe-at-offset = ap (λ (x : ℕ). recordIn p (sealedIn p v 0 (k .of)) (zoneAt v (c .drive) (k .of)) x .stripe) its-offset ∙ chunk-of-it .its-stripe
@@ -126,7 +127,7 @@ module _ (p : Params) (r : Range p) (v : View) (serial : ℕ) (t : Tidy p v seri
 abbrev pub SameZones : Params → View → View → ℕ → Type 0
 SameZones p v u g = (d : ℕ) → d < p .N → zoneAt v d g ≡ zoneAt u d g
 
-module _ (p : Params) (r : Range p) (v u : View) (g : ℕ) (sm : SameZones p v u g) where
+module _ (p : Params) (r : Ranged p) (v u : View) (g : ℕ) (sm : SameZones p v u g) where
   pub zones-sealed : sealedIn p v 0 g ≡ sealedIn p u 0 g
   unfolding sealedIn zoneOn pointerAt
   zones-sealed = all-cong (λ d. eqb (zoneAt v d g .pointer) (capacity p)) (λ d. eqb (zoneAt u d g .pointer) (capacity p)) (present p 0)
@@ -134,14 +135,14 @@ module _ (p : Params) (r : Range p) (v u : View) (g : ℕ) (sm : SameZones p v u
 
   pub zones-header : headerAt v 0 g ≡ headerAt u 0 g
   unfolding headerAt chunkAt zoneOn
-  zones-header = ap (λ (x : Zone). getD (x .blocks) 0 noChunk .block) (sm 0 (omega (arith, r .n-low)))
+  zones-header = ap (λ (x : Zone). getD (x .blocks) 0 noChunk .block) (sm 0 (omega (arith, r .drives-low)))
 
   pub zones-pointer : (d : ℕ) → d < p .N → pointerAt v d g ≡ pointerAt u d g
   unfolding pointerAt
   zones-pointer d h = ap (λ (x : Zone). x .pointer) (sm d h)
 
   pub zones-used : usedAt v g ≡ usedAt u g
-  zones-used = ap (λ (x : ℕ). not (eqb x 0)) (zones-pointer 0 (omega (arith, r .n-low)))
+  zones-used = ap (λ (x : ℕ). not (eqb x 0)) (zones-pointer 0 (omega (arith, r .drives-low)))
 
   pub zones-segment : segmentOf p v 0 g ≡ segmentOf p u 0 g
   unfolding segmentOf drivesOf zoneOn
@@ -158,7 +159,7 @@ module _ (p : Params) (r : Range p) (v u : View) (g : ℕ) (sm : SameZones p v u
       }
 
 -- a candidate of a segment that is the same in both views
-pub cand-goes : (p : Params) (r : Range p) (v u : View) (s : ℕ) → Tidy p u s → (c : Cand) (k : CandAt p v 0 c) → SameZones p v u (k .of) → usedAt u (k .of) ≡ true → CandAt p u 0 c
+pub cand-goes : (p : Params) (r : Ranged p) (v u : View) (s : ℕ) → Tidy p u s → (c : Cand) (k : CandAt p v 0 c) → SameZones p v u (k .of) → usedAt u (k .of) ≡ true → CandAt p u 0 c
 cand-goes p r v u s t c k sm q =
     let e = zones-segment p r v u (k .of) sm in
     record {
@@ -173,7 +174,7 @@ cand-goes p r v u s t c k sm q =
     }
 
 -- the row of a zone that is the same in both
-pub row-goes : (p : Params) (r : Range p) (v u : View) (s s′ : ℕ) → Tidy p v s → Tidy p u s′ → (d g : ℕ) → g < p .Z → SameZones p v u g → rowAt p v 0 d g ≡ rowAt p u 0 d g
+pub row-goes : (p : Params) (r : Ranged p) (v u : View) (s s′ : ℕ) → Tidy p v s → Tidy p u s′ → (d g : ℕ) → g < p .Z → SameZones p v u g → rowAt p v 0 d g ≡ rowAt p u 0 d g
 unfolding rowAt
 row-goes p r v u s s′ t t′ d g hg sm =
     ap₂ (λ (x : Bool) (y : Segment). cond x (recsOn y d) []) (remains-used p r v s t g hg ∙ zones-used p r v u g sm ∙ sym (remains-used p r u s′ t′ g hg)) (zones-segment p r v u g sm)

@@ -13,7 +13,6 @@ use Rattle.defs.specs.Layout.{mkRec}
 use Rattle.defs.specs.Lists.{only}
 use Rattle.defs.specs.Memory.{cell, stripeIn, filledIn, landedIn, entryIn, offsetIn, isFree, beginStripe, addEntry, landedMask, markLanded, freeStripe}
 use Rattle.tablesay.specs.Run.{flies, Lists}
-use Rattle.tablesay.specs.Tests.{clash}
 
 pub cell-low : (i k : ℕ) → i < 8 → k < 8 → cell i k < 64
 unfolding cell
@@ -187,10 +186,6 @@ module _ (st : State) (ls : Lists st) (i : ℕ) (hi : i < 8) where
 pub free-is : (st : State) (i : ℕ) → isFree st i ≡ eqb (filledIn st i) 0
 unfolding isFree
 free-is st i = refl
-
-pub flies-some : (st : State) (i : ℕ) → flies st i ≡ true → (filledIn st i ≡ 0 → ⊥)
-unfolding isFree
-flies-some st i q e = clash q (ap not (eq-eqb (filledIn st i) 0 e))
 
 pub some-flies : (st : State) (i : ℕ) → (filledIn st i ≡ 0 → ⊥) → flies st i ≡ true
 unfolding isFree

@@ -26,7 +26,6 @@ use Rattle.tablesay.specs.Base.{Decodes, Base}
 use Rattle.tablesay.specs.Checks.{Passes}
 use Rattle.tablesay.specs.Idle.{idle-ok, lengths-of, of-lengths, whole-of}
 use Rattle.tablesay.specs.Losing.{named-low, named-ones, named-some}
-use Rattle.tablesay.specs.Range.{in-range}
 use Rattle.tablesay.specs.Run.{Run}
 use Rattle.tablesay.specs.Tables.{length-addresses, length-compact}
 use Rattle.tablesay.specs.Tests.{or-left, or-right, cond-false}
@@ -121,7 +120,7 @@ lost-start p k m d sh b hd =
     let v = seen p k in
     let gone = named d in
     let gs = segments p v gone in
-    let rg = in-range p (b .in-range!) in
+    let rg = ranged p (b .in-range!) in
     let w = whole-of p k m (b .lent!) in
     let ns : eqb gone 0 ≡ false = named-some p rg d hd in
     let s0 : startPlan p k m d .stores ≡ [] = no-stores gs ns in

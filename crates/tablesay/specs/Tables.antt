@@ -23,19 +23,20 @@ use Rattle.defs.specs.Params.{addressesLen, compactLen, drivesOf, present}
 use Rattle.defs.specs.Rank.{Cand, best, placeOr, candsOf}
 use Rattle.defs.specs.Segments.{lowDrive, leftBy1, isCopy, remaining, Segment, segmentOf, segments, recsOn, addressTable, compactRow, rowOf, compactTable}
 use Rattle.laws.specs.Be.{length-toBe, beOf-toBe}
-use Rattle.tablesay.specs.Tests.{Test, test, cond-true, cond-false}
-use Rattle.tablesay.specs.Tests.Test.{yes!, no! }
-use Rattle.tablesay.specs.Members.{length-below, flat-none, In, in-keep, keep-in, flat-cong, keep-keep, flat-map, from-in, in-below, below-in, getD-map-at}
+use Rattle.laws.specs.Ranges.{Test, test, length-below, getD-map}
+use Rattle.laws.specs.Ranges.Test.{yes!, no! }
 use Rattle.laws.specs.Splice.{length-part, getD-part}
+use Rattle.tablesay.specs.Members.{In, in-keep, keep-in, flat-cong, flat-nothing, keep-keep, flat-map, from-in, in-below, below-in}
 use Rattle.tablesay.specs.Segs.{length-records, recs-here, recs-gone, seg-is}
+use Rattle.tablesay.specs.Tests.{cond-true, cond-false}
 
 -- ---- rows of equal length
 
-pub length-flat : {A : Type 0} (f : A → List ℕ) (k : ℕ) (l : List A) → ((a : A) → In a l → length (f a) ≡ k) → length (flat f l) ≡ length l * k
+pub length-flat-in : {A : Type 0} (f : A → List ℕ) (k : ℕ) (l : List A) → ((a : A) → In a l → length (f a) ≡ k) → length (flat f l) ≡ length l * k
 unfolding flat
-length-flat f k [] h = sym (zero-mul k)
-length-flat f k (a ∷ l) h =
-    length-append (f a) (flat f l) ∙ ap₂ _+_ (h a (inl refl)) (length-flat f k l (λ b m. h b (inr m)))
+length-flat-in f k [] h = sym (zero-mul k)
+length-flat-in f k (a ∷ l) h =
+    length-append (f a) (flat f l) ∙ ap₂ _+_ (h a (inl refl)) (length-flat-in f k l (λ b m. h b (inr m)))
     ∙ (let e : suc (length l) * k ≡ length l * k + k = suc-mul (length l) k in omega arith)
 
 getD-rows : (f : ℕ → List ℕ) (k b n : ℕ) → ((i : ℕ) → b ≤ i → i < b + n → length (f i) ≡ k) → (i j : ℕ) → i < n → j < k
@@ -62,7 +63,7 @@ module _ (f : ℕ → List ℕ) (k n : ℕ) (h : (i : ℕ) → i < n → length 
   getD-flat i j x y = getD-rows f k 0 n (λ a u w. h a (omega arith)) i j x y ∙ ap (λ (a : ℕ). getD (f a) j 0) (zero-add i)
 
   pub long-flat : length (flat f (below n)) ≡ n * k
-  long-flat = length-flat f k (below n) (λ a m. h a (below-in n a m)) ∙ ap (λ (x : ℕ). x * k) (length-below n)
+  long-flat = length-flat-in f k (below n) (λ a m. h a (below-in n a m)) ∙ ap (λ (x : ℕ). x * k) (length-below n)
 
   -- a list of rows, by its elements
   pub flat-ext : (t : List ℕ) → length t ≡ n * k → 0 < k → ((i j : ℕ) → i < n → j < k → getD t (i * k + j) 0 ≡ getD (f i) j 0) → t ≡ flat f (below n)
@@ -124,7 +125,7 @@ unfolding compactRow padTo
 row-at p rs o h =
     let f : Rec → ℕ = λ (r : Rec). compactEntry p (r .stripe) in
     List·getD-append (map f rs) (replicate (p .S - length (map f rs)) 0) 0 o (subst (λ (x : ℕ). o < x) (sym (length-map rs f)) h)
-    ∙ getD-map-at f rs o (mkRec 0 0 0) 0 h
+    ∙ getD-map f rs o 0 (mkRec 0 0 0) h
 
 pub zero-at : (n i : ℕ) → _≡_ {A = ℕ} (getD (replicate n 0) i 0) 0
 zero-at zero i = refl
@@ -209,7 +210,7 @@ remaining-in p v gone g m =
 -- ---- the row of a zone
 
 one-row : {B : Type 0} (h : ℕ → Bool) (f : ℕ → List B) (z i n : ℕ) → z < i → flat (λ g. cond (eqb g z) (f g) []) (keep h (upFrom i n)) ≡ []
-one-row h f z i n l = flat-none (λ g. cond (eqb g z) (f g) []) (keep h (upFrom i n))
+one-row h f z i n l = flat-nothing (λ g. cond (eqb g z) (f g) []) (keep h (upFrom i n))
     (λ g m.
     let (k, q) = keep-in h (upFrom i n) g m in
     let (a, b) = from-in i n g k in

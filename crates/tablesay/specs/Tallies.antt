@@ -1,5 +1,5 @@
 -- Counting what passes a test. Assumes nothing.
-use mathlib.Core.Path.{_≡_, refl, sym, ap, _∙_, subst}
+use mathlib.Core.Path.{_≡_, refl, ap, _∙_}
 use mathlib.Core.List.{List, [], _∷_}
 use mathlib.Core.Bool.{Bool, true, false}
 use mathlib.Core.Logic.{inl, inr}
@@ -9,9 +9,10 @@ use native.Mathlib.Omega.{arith}
 use lib.ListN.{length}
 use Rattle.defs.specs.Lists.{upFrom, below, consIf, keep, tally}
 use Rattle.defs.specs.Memory.{slotCount, slots}
-use Rattle.tablesay.specs.Tests.{Test, test, clash, not-so}
-use Rattle.tablesay.specs.Tests.Test.{yes!, no! }
-use Rattle.tablesay.specs.Members.{keep-none, In, in-keep, keep-in, keep-cong, from-in}
+use Rattle.laws.specs.Ranges.{Test, test}
+use Rattle.laws.specs.Ranges.Test.{yes!, no! }
+use Rattle.tablesay.specs.Members.{In, in-keep, keep-cong, keep-nothing, from-in}
+use Rattle.tablesay.specs.Tests.{clash, not-so}
 
 pub tally-cong : {A : Type 0} (f g : A → Bool) (l : List A) → ((a : A) → In a l → f a ≡ g a) → tally f l ≡ tally g l
 unfolding tally
@@ -19,7 +20,7 @@ tally-cong f g l h = ap length (keep-cong f g l h)
 
 pub tally-none : {A : Type 0} (f : A → Bool) (l : List A) → ((a : A) → In a l → f a ≡ false) → tally f l ≡ 0
 unfolding tally
-tally-none f l h = ap length (keep-none f l h)
+tally-none f l h = ap length (keep-nothing f l h)
 
 pub tally-some : {A : Type 0} (f : A → Bool) (l : List A) (a : A) → In a l → f a ≡ true → 0 < tally f l
 unfolding tally
@@ -31,14 +32,6 @@ tally-some {A} f l a m q = go (keep f l) (in-keep f l a m q)
 
 pub none-tally : {A : Type 0} (f : A → Bool) (l : List A) → tally f l ≡ 0 → (a : A) → In a l → f a ≡ false
 none-tally f l h a m = not-so (f a) (λ q. let z = tally-some f l a m q in let y : ⊥ = omega arith in y)
-
-pub some-tally : {A : Type 0} (f : A → Bool) (l : List A) → 0 < tally f l → (a : A) × In a l × (f a ≡ true)
-unfolding tally
-some-tally {A} f l h = go (keep f l) refl h
-  where
-    go : (k : List A) → keep f l ≡ k → 0 < length k → (a : A) × In a l × (f a ≡ true)
-    go [] e h = absurd (let y : ⊥ = omega arith in y)
-    go (b ∷ k) e h = let (i, q) = keep-in f l b (subst (λ (x : List A). In b x) (sym e) (inl refl)) in (b, i, q)
 
 -- one more
 from-more : (f g : ℕ → Bool) (i b n : ℕ) → b ≤ i → i < b + n → ((j : ℕ) → (j ≡ i → ⊥) → f j ≡ g j) → f i ≡ true → g i ≡ false
@@ -65,10 +58,10 @@ unfolding tally slots slotCount below
 tally-more f g i h e p q = from-more f g i 0 8 (omega arith) h e p q
 
 -- a mapped or kept list is no longer
-pub tally-le : {A : Type 0} (f g : A → Bool) (l : List A) → ((a : A) → In a l → f a ≡ true → g a ≡ true) → tally f l ≤ tally g l
+pub tally-mono : {A : Type 0} (f g : A → Bool) (l : List A) → ((a : A) → In a l → f a ≡ true → g a ≡ true) → tally f l ≤ tally g l
 unfolding tally keep consIf
-tally-le f g [] h = omega arith
-tally-le f g (a ∷ l) h = go (test (f a)) (test (g a)) (tally-le f g l (λ b m. h b (inr m)))
+tally-mono f g [] h = omega arith
+tally-mono f g (a ∷ l) h = go (test (f a)) (test (g a)) (tally-mono f g l (λ b m. h b (inr m)))
   where
     go : Test (f a) → Test (g a) → length (keep f l) ≤ length (keep g l) → length (consIf (f a) a (keep f l)) ≤ length (consIf (g a) a (keep g l))
     go (yes! p) (yes! q) k = rw (p, q) (omega arith)

@@ -23,22 +23,28 @@ use Rattle.defs.specs.Rebuild.{namesMissing, rebuildChecks, rebuildStores, rebu
 use Rattle.defs.specs.Restart.{restartVerdict}
 use Rattle.defs.specs.Segments.{segments}
 use Rattle.laws.specs.Geometry.{ranged}
-use Rattle.tablesay.specs.Tests.{and-left, and-right, clash, or-right}
+use Rattle.laws.specs.Ranges.{and-left, and-right}
 use Rattle.views.specs.Views.{Whole, seen}
 use Rattle.tablesay.specs.Checks.{clear}
 use Rattle.tablesay.specs.Going.{well-write, well-close}
 use Rattle.tablesay.specs.Image.{bytes-of, shaped-of}
-use Rattle.tablesay.specs.Landing2.{well-land}
+use Rattle.tablesay.specs.Landings.{well-land}
 use Rattle.tablesay.specs.Losing.{named-some, idle-kept, refused-kept, lost-write, lost-land, lost-close, lost-reclaim, lost-rebuild}
 use Rattle.tablesay.specs.Outcomes.{Ended, ended, refusal-kind, refused-unfinished, cut-unfinished, cut-cut}
 use Rattle.tablesay.specs.Outcomes.Ended.{ended-refused, ended-done, ended-cut}
-use Rattle.tablesay.specs.Range.{in-range}
 use Rattle.tablesay.specs.Reading.{says, read-idle, fill-idle}
 use Rattle.tablesay.specs.Reclaiming.{well-reclaim}
 use Rattle.tablesay.specs.Restarting.{started}
 use Rattle.tablesay.specs.Run.{Well, Run, Kept}
 use Rattle.tablesay.specs.Starting.{startChecks, startPlan, begins}
+use Rattle.tablesay.specs.Tests.{clash, or-right}
 use Rattle.tablesay.specs.Zones.{Shaped}
+
+-- Reading order: Run (what holds between calls); lists and numbers: Tests, Members, Range, Masks, Tallies, Counting; what the drives say: Segs,
+-- Ranks, Tables, Accept, Frame, Settled, Growing; reads: Reads, Base, Reading; stores: Zones, Image, Laid, Puts, Sealing, Joins; checks and how a call
+-- ends: Checks, Outcomes, Idle; a drive missing: Rebuilding, Losing, Starting; none missing: Slots, Opened, Filling, Carried, Heading, Sending, Live,
+-- Going (write, closing), Bounds, Resetting, Reclaiming, Chunks, Pointing, Landings; a healthy restart: Resting, Dropping, Unsealed, Mending, Rewriting,
+-- Restarting. A helper named as!, bs! .. is the same fact with a definition opened.
 
 -- ---- a restart, on any bytes
 
@@ -88,7 +94,7 @@ well-rebuild p k m u we d n = go (ended p k m checks plan n [])
         parts t = unfold namesMissing in (ltb-true d (p .N) (and-left (ltb d (p .N)) (eqb (m .state .missing) (named d)) t), eqb-true (m .state .missing) (named d) (and-right (ltb d (p .N)) (eqb (m .state .missing) (named d)) t))
 
         bad : (d < p .N) × (m .state .missing ≡ named d) → X
-        bad (hd, e) = clash (eq-eqb (named d) 0 (sym e ∙ we .none-missing)) (named-some p (in-range p (u .base .ranged)) d hd)
+        bad (hd, e) = clash (eq-eqb (named d) 0 (sym e ∙ we .none-missing)) (named-some p (ranged p (u .base .ranged)) d hd)
 
     go : Ended p k m checks plan (outcome p (storeDisk p) n k m [] (decided (firstRefusal checks) plan)) → Kept p (outcome p (storeDisk p) n k m [] (decided (firstRefusal checks) plan))
     go (ended-refused a e f g h) = refused-kept p k m _ a u (clear checks (refl, λ q. never! q) a e) f g h

@@ -1,5 +1,5 @@
 -- The unsealed segment that a healthy restart finds: at most one; its zones where all its stripes count, or 0 to c - 1 and nothing else. Assumes nothing.
-use mathlib.Core.Path.{_≡_, refl, sym, ap, ap₂, _∙_, subst}
+use mathlib.Core.Path.{_≡_, refl, sym, ap, _∙_, subst}
 use mathlib.Core.List.{List, [], _∷_, map}
 use mathlib.Core.Bool.{Bool, true, false, not, _&&_, _||_}
 use mathlib.Core.Logic.{_⊎_, inl, inr}
@@ -16,28 +16,22 @@ use Rattle.defs.specs.Lists.{below, any, consIf, keep, isNil, sameList}
 use Rattle.defs.specs.Params.{present}
 use Rattle.defs.specs.Restart.{isWhole, isRagged}
 use Rattle.defs.specs.Segments.{remaining, Segment, recordsIn, segmentOf, segments, offsetOn, hasChunk, counts, counted, uncounted, unsealed}
-use Rattle.tablesay.specs.Tests.{Test, test, and-left, and-right, and-both, clash, not-both′, or-left, or-right}
-use Rattle.tablesay.specs.Tests.Test.{yes!, no! }
-use Rattle.tablesay.specs.Members.{length-below, In, in-map, map-in, in-keep, keep-in, in-any, in-below, below-in, in-getD, getD-in, nil-is}
-use Rattle.tablesay.specs.Rebuilding.{length-keep, counted-low, counted-in}
+use Rattle.laws.specs.Geometry.{Ranged}
+use Rattle.laws.specs.Mask.{isIn-empty}
+use Rattle.laws.specs.Ranges.{Test, test, and-left, and-both, length-below, length-keep, sameList-true}
+use Rattle.laws.specs.Ranges.Test.{yes!, no! }
 use Rattle.tablesay.specs.Accept.{Accepted, faults-apart, zone-stripes, in-groups}
 use Rattle.tablesay.specs.Counting.{Different, different-few, holds-many, stripes-different}
-use Rattle.tablesay.specs.Masks.{in-empty}
-use Rattle.tablesay.specs.Range.{Range}
+use Rattle.tablesay.specs.Members.{In, in-map, map-in, in-keep, keep-in, in-any, in-below, below-in, in-getD, getD-in, nil-is}
 use Rattle.tablesay.specs.Reads.{counts-in}
+use Rattle.tablesay.specs.Rebuilding.{counted-low, counted-in}
 use Rattle.tablesay.specs.Resting.{Steady}
 use Rattle.tablesay.specs.Run.{spareAt, usedAt}
 use Rattle.tablesay.specs.Segs.{length-records, record-at, seg-is, full-is, chunk-at, has-chunk}
 use Rattle.tablesay.specs.Settled.{present-all}
 use Rattle.tablesay.specs.Tables.{remains, in-remaining, remaining-in}
+use Rattle.tablesay.specs.Tests.{clash, or-left, or-right}
 use Rattle.tablesay.specs.Zones.{Shaped}
-
-same-list : (a b : List ℕ) → sameList a b ≡ true → a ≡ b
-unfolding sameList
-same-list [] [] q = refl
-same-list [] (y ∷ b) q = not-both′ q
-same-list (x ∷ a) [] q = not-both′ q
-same-list (x ∷ a) (y ∷ b) q = ap₂ _∷_ (eqb-true x y (and-left (eqb x y) (sameList a b) q)) (same-list a b (and-right (eqb x y) (sameList a b) q))
 
 -- all are kept
 keep-full : {A : Type 0} (f : A → Bool) (l : List A) → length (keep f l) ≡ length l → (a : A) → In a l → f a ≡ true
@@ -67,7 +61,7 @@ pub data Loose (p : Params) (v : View) : Type 0 where
   loose-none : unsealed (segments p v 0) ≡ [] → ((y : ℕ) → y < p .Z → remains p v 0 y ≡ true → sealedIn p v 0 y ≡ true) → Loose p v
   loose-one : (g : ℕ) → g < p .Z → remains p v 0 g ≡ true → sealedIn p v 0 g ≡ false → unsealed (segments p v 0) ≡ segmentOf p v 0 g ∷ [] → ((y : ℕ) → y < p .Z → remains p v 0 y ≡ true → (y ≡ g → ⊥) → sealedIn p v 0 y ≡ true) → Loose p v
 
-module _ (p : Params) (r : Range p) (v : View) (sh : Shaped p v) (acc : Accepted p v 0) where
+module _ (p : Params) (r : Ranged p) (v : View) (sh : Shaped p v) (acc : Accepted p v 0) where
   abbrev gs : List Segment
   gs = segments p v 0
 
@@ -151,7 +145,7 @@ module _ (p : Params) (r : Range p) (v : View) (sh : Shaped p v) (acc : Accepted
     has-number : (d s : ℕ) → d < p .N → hasChunk x s d ≡ true → In s (numbers d)
     unfolding numbers
     has-number d s hd q =
-        let k = chunk-at p v 0 g d s hd (in-empty d) q in
+        let k = chunk-at p v 0 g d s hd (isIn-empty d) q in
         let o = offsetOn x d s in
         let l : o < length (rs d) = subst (λ (n : ℕ). o < n) (sym (length-records p false (zoneAt v d g))) (k .stored-there) in
         subst (λ (n : ℕ). In n (map (λ (y : Rec). y .stripe) (rs d))) (ap (λ (y : Rec). y .stripe) (record-at p false (zoneAt v d g) o (mkRec 0 0 0) (k .stored-there) ∙ sym (by-spare d o)) ∙ k .its-stripe)
@@ -164,14 +158,14 @@ module _ (p : Params) (r : Range p) (v : View) (sh : Shaped p v) (acc : Accepted
         let (o, l, f) = getD-in (rs d) (mkRec 0 0 0) y i in
         let l2 : o < dataStored p (zoneAt v d g) = subst (λ (n : ℕ). o < n) (length-records p false (zoneAt v d g)) l in
         let w : recordIn p (sealedIn p v 0 g) (zoneAt v d g) o .stripe ≡ s = ap (λ (a : Rec). a .stripe) (by-spare d o ∙ sym (record-at p false (zoneAt v d g) o (mkRec 0 0 0) l2) ∙ sym f) ∙ sym e in
-        (has-chunk p v 0 g d s o hd (in-empty d) l2 w, low o s (subst (λ (n : ℕ). inGroupOf p o n ≡ true) w (in-groups p v 0 acc g d o ing hd (in-empty d) l2)))
+        (has-chunk p v 0 g d s o hd (isIn-empty d) l2 w, low o s (subst (λ (n : ℕ). inGroupOf p o n ≡ true) w (in-groups p v 0 acc g d o ing hd (isIn-empty d) l2)))
       where
         low : (o s : ℕ) → inGroupOf p o s ≡ true → s < p .S
         low o s q = unfold inGroupOf in ltb-true s (p .S) (and-left (ltb s (p .S)) (eqb (group p s) (group p o)) q)
 
     numbers-differ : (d : ℕ) → d < p .N → Different (numbers d)
     unfolding numbers
-    numbers-differ d hd = stripes-different (rs d) (ap twice (ap (λ (w : Bool). recordsIn p w (zoneAt v d g)) (sym ng)) ∙ zone-stripes p v 0 acc g d ing hd (in-empty d) .1)
+    numbers-differ d hd = stripes-different (rs d) (ap twice (ap (λ (w : Bool). recordsIn p w (zoneAt v d g)) (sym ng)) ∙ zone-stripes p v 0 acc g d ing hd (isIn-empty d) .1)
 
     in-counted : (s : ℕ) → s < p .S → counts p 0 x s ≡ true → In s (counted p 0 x)
     in-counted s h q = as! (in-keep (counts p 0 x) (below (p .S)) s (in-below (p .S) s h) q)
@@ -181,7 +175,7 @@ module _ (p : Params) (r : Range p) (v : View) (sh : Shaped p v) (acc : Accepted
 
     -- all stripes count: every zone has its S chunks
     pub whole-pointer : isWhole p x ≡ true → (d : ℕ) → d < p .N → 1 + p .S ≤ pointerAt v d g
-    whole-pointer q d hd = as! (holds-many (p .S) (numbers d) (λ s h. has-number d s hd (counts-in p 0 x s d (all! s h) hd (in-empty d))))
+    whole-pointer q d hd = as! (holds-many (p .S) (numbers d) (λ s h. has-number d s hd (counts-in p 0 x s d (all! s h) hd (isIn-empty d))))
       where
         all! : (s : ℕ) → s < p .S → counts p 0 x s ≡ true
         all! s h = keep-full (counts p 0 x) (below (p .S)) (full! q ∙ sym (length-below (p .S))) s (in-below (p .S) s h)
@@ -193,7 +187,7 @@ module _ (p : Params) (r : Range p) (v : View) (sh : Shaped p v) (acc : Accepted
         as! l = bs! (subst (λ (n : ℕ). p .S ≤ n) (numbers-long d) l)
           where
             bs! : p .S ≤ dataStored p (zoneAt v d g) → 1 + p .S ≤ pointerAt v d g
-            bs! l = unfold dataStored pointerAt in (let s = r .s-low in omega arith)
+            bs! l = unfold dataStored pointerAt in (let s = r .stripes-low in omega arith)
 
     -- its stripes are 0 to c - 1, and nothing else is there
     module _ (nw : isWhole p x ≡ false) (nr : isRagged p x ≡ false) where
@@ -217,7 +211,7 @@ module _ (p : Params) (r : Range p) (v : View) (sh : Shaped p v) (acc : Accepted
               as! q = unfold isRagged in q
 
       first-ones : counted p 0 x ≡ below c
-      first-ones = same-list (counted p 0 x) (below c) (parts! .0)
+      first-ones = sameList-true (counted p 0 x) (below c) (parts! .0)
 
       -- a chunk's stripe counts
       chunk-counts : (d s : ℕ) → d < p .N → hasChunk x s d ≡ true → s < p .S → s < c
@@ -237,7 +231,7 @@ module _ (p : Params) (r : Range p) (v : View) (sh : Shaped p v) (acc : Accepted
       stored-are : (d : ℕ) → d < p .N → dataStored p (zoneAt v d g) ≡ c
       stored-are d hd =
           let a : length (numbers d) ≤ c = different-few c (numbers d) (numbers-differ d hd) (λ s m. let (q, h) = number-has d s hd m in chunk-counts d s hd q h) in
-          let b : c ≤ length (numbers d) = holds-many c (numbers d) (λ s h. has-number d s hd (counts-in p 0 x s d (counted-in p 0 x s (subst (λ (l : List ℕ). In s l) (sym first-ones) (in-below c s h)) .1) hd (in-empty d))) in
+          let b : c ≤ length (numbers d) = holds-many c (numbers d) (λ s h. has-number d s hd (counts-in p 0 x s d (counted-in p 0 x s (subst (λ (l : List ℕ). In s l) (sym first-ones) (in-below c s h)) .1) hd (isIn-empty d))) in
           let e = numbers-long d in
           omega arith
 
@@ -256,8 +250,8 @@ module _ (p : Params) (r : Range p) (v : View) (sh : Shaped p v) (acc : Accepted
         steady-stripes = λ d o hd h.
             let l : o < dataStored p (zoneAt v d g) = subst (λ (k : ℕ). o < k) (sym (stored-are d hd)) h in
             let s = spareAt p v d g o .stripe in
-            let q = has-chunk p v 0 g d s o hd (in-empty d) l (ap (λ (a : Rec). a .stripe) (by-spare d o)) in
-            chunk-counts d s hd q (low o s (subst (λ (a : Rec). inGroupOf p o (a .stripe) ≡ true) (by-spare d o) (in-groups p v 0 acc g d o ing hd (in-empty d) l)));
+            let q = has-chunk p v 0 g d s o hd (isIn-empty d) l (ap (λ (a : Rec). a .stripe) (by-spare d o)) in
+            chunk-counts d s hd q (low o s (subst (λ (a : Rec). inGroupOf p o (a .stripe) ≡ true) (by-spare d o) (in-groups p v 0 acc g d o ing hd (isIn-empty d) l)));
         steady-count = refl;
       }
         where

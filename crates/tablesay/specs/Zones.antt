@@ -14,10 +14,11 @@ use Rattle.defs.specs.Drives.{Chunk, mkChunk, noChunk, Zone, noZone, View, zone
 use Rattle.defs.specs.Drives.Store.{put, reset}
 use Rattle.defs.specs.Lists.{consIf, keep}
 use Rattle.defs.specs.Params.{spareLen, capacity}
-use Rattle.tablesay.specs.Tests.{Test, test, and-left, and-right, and-both, cond-true, cond-false, eqb-self}
-use Rattle.tablesay.specs.Tests.Test.{yes!, no! }
+use Rattle.laws.specs.Ranges.{Test, test, and-left, and-right, and-both}
+use Rattle.laws.specs.Ranges.Test.{yes!, no! }
 use Rattle.views.specs.Views.{Fits, AllFit}
 use Rattle.tablesay.specs.Members.{In}
+use Rattle.tablesay.specs.Tests.{cond-true, cond-false, eqb-self}
 
 -- the view has N drives of Z zones
 pub record Sized (p : Params) (v : View) : Type 0 where

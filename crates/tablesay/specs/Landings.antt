@@ -26,31 +26,32 @@ use Rattle.defs.specs.Memory.{Memory, mkMemory, slotCount, slots, stripeIn, fil
 use Rattle.defs.specs.Params.{between, inRange, footers, capacity, drivesOf}
 use Rattle.defs.specs.Read.{placeFaults}
 use Rattle.defs.specs.Segments.{segments, candidates, addressTable, compactTable}
-use Rattle.laws.specs.Geometry.{ranged}
-use Rattle.tablesay.specs.Tests.{Test, test, and-left, and-right, and-both, clash, and-false-right, cond-true, cond-false, cond-same}
-use Rattle.tablesay.specs.Tests.Test.{yes!, no! }
-use Rattle.tablesay.specs.Members.{length-below, getD-below, flat-none, In, in-none, below-in, index-passes, index-none}
-use Rattle.tablesay.specs.Puts.{stores-append}
+use Rattle.laws.specs.Geometry.{between-of, Ranged, ranged}
+use Rattle.laws.specs.Ranges.{Test, test, and-left, and-right, and-both, length-below, getD-below}
+use Rattle.laws.specs.Ranges.Test.{yes!, no! }
+use Rattle.laws.specs.Stores.{storeAll-append}
 use Rattle.views.specs.Views.{seen}
 use Rattle.tablesay.specs.Checks.{clear}
+use Rattle.tablesay.specs.Chunks.{pointer-some, pointer-data, offset-group, chunk-roomy, chunk-tidy, addresses-stay, addresses-land, compact-lands, sealed1, chunk-healthy, chunk-state, chunk-missing, freed-state, freed-healthy, all-behind, none-left}
 use Rattle.tablesay.specs.Filling.{block-long! }
 use Rattle.tablesay.specs.Going.{well-run, address-table, compact-table, buffer-long}
 use Rattle.tablesay.specs.Growing.{Grows, grows-used, grows-tidy, grows-candidates, grows-compact}
 use Rattle.tablesay.specs.Idle.{StateOk, state-of, whole-of}
 use Rattle.tablesay.specs.Joins.{roomy-append, within-append}
-use Rattle.tablesay.specs.Landing1.{pointer-some, pointer-data, offset-group, chunk-roomy, chunk-tidy, addresses-stay, addresses-land, compact-lands, sealed1, chunk-healthy, chunk-state, chunk-missing, freed-state, freed-healthy, all-behind, none-left}
 use Rattle.tablesay.specs.Live.{Holds, table-holds}
 use Rattle.tablesay.specs.Live.Holds.{holds-none, holds-some}
 use Rattle.tablesay.specs.Losing.{refused-kept, cut-kept}
+use Rattle.tablesay.specs.Members.{In, in-none, flat-nothing, below-in, index-passes, index-none}
 use Rattle.tablesay.specs.Outcomes.{Ended, ended}
 use Rattle.tablesay.specs.Outcomes.Ended.{ended-refused, ended-done, ended-cut}
-use Rattle.tablesay.specs.Range.{Range, between-is, in-range, capacity-is}
+use Rattle.tablesay.specs.Range.{capacity-is}
 use Rattle.tablesay.specs.Reading.{state-clear, nil-append}
 use Rattle.tablesay.specs.Reads.{spot-faults}
 use Rattle.tablesay.specs.Run.{usedAt, flies, Lists, Tidy, Healthy, Well, Run, Kept}
 use Rattle.tablesay.specs.Sealing.{seal-pointer, seal-roomy, seal-within, seal-grows, seal-records}
 use Rattle.tablesay.specs.Settled.{zones-pointer}
 use Rattle.tablesay.specs.Slots.{free-lists}
+use Rattle.tablesay.specs.Tests.{clash, and-false-right, cond-true, cond-false, cond-same}
 use Rattle.tablesay.specs.Zones.{Shaped, Within, Roomy, shaped-after}
 
 -- ---- the eighth of a stripe
@@ -122,8 +123,8 @@ module _ (p : Params) (k : Disk) (m : Memory) (u : Run p k m) (we : Well p k m) 
   abbrev z : ℕ
   z = openSegment st
 
-  rg : Range p
-  rg = in-range p (u .base .ranged)
+  rg : Ranged p
+  rg = ranged p (u .base .ranged)
 
   so : StateOk p st
   so = state-of p rg st (u .base .state-ok)
@@ -178,7 +179,7 @@ module _ (p : Params) (k : Disk) (m : Memory) (u : Run p k m) (we : Well p k m) 
         let a = pointer-some p rg v sh st he so z oz d i hd hi fi rd b lb in
         let c = pointer-data p rg v sh st he so z oz d i hd hi fi rd b lb in
         let e = offset-group p rg v sh st he so z oz d i hd hi fi rd b lb in
-        and-both (between 1 (p .S) (pointerAt v d z)) (eqb (group p (pointerAt v d z - 1)) (group p s)) (between-is 1 (p .S) (pointerAt v d z) a c)
+        and-both (between 1 (p .S) (pointerAt v d z)) (eqb (group p (pointerAt v d z - 1)) (group p s)) (between-of 1 (p .S) (pointerAt v d z) a c)
         (eq-eqb (group p (pointerAt v d z - 1)) (group p s) (e ∙ ap (group p) (w .slot-stripe))))
       where
         as! : between 1 (p .S) (pointerAt v d z) && eqb (group p (pointerAt v d z - 1)) (group p s) ≡ true → misplaced p v d z s ≡ false
@@ -229,7 +230,7 @@ module _ (p : Params) (k : Disk) (m : Memory) (u : Run p k m) (we : Well p k m) 
         zs = flat (entryFaults p v (m .addresses)) (entriesIn st i)
 
         zs-none : flat (entryFaults p v (m .addresses)) (entriesIn st i) ≡ []
-        zs-none = flat-none (entryFaults p v (m .addresses)) (entriesIn st i) (λ e n. entry-ok e)
+        zs-none = flat-nothing (entryFaults p v (m .addresses)) (entriesIn st i) (λ e n. entry-ok e)
 
         as! : landFaults p v m d s ≡ []
         as! = unfold landFaults zoneOn consIf in
@@ -326,7 +327,7 @@ module _ (p : Params) (k : Disk) (m : Memory) (u : Run p k m) (we : Well p k m) 
         let gr = seal-grows p rg v1 sh1 z hz behind in
         let recs = seal-records p rg v1 sh1 z hz behind in
         let s0 = st .serial .0 in
-        let ev : storeAll storeView ((store ∷ []) ++ ss) v ≡ v2 = stores-append storeView (store ∷ []) ss v ∙ ap (storeAll storeView ss) one-store in
+        let ev : storeAll storeView ((store ∷ []) ++ ss) v ≡ v2 = storeAll-append storeView (store ∷ []) ss v ∙ ap (storeAll storeView ss) one-store in
         let su = setClosed st2 in
         let none! : (j : ℕ) → j < 8 → flies su j ≡ false = λ j hj. closed-flies j ∙ none-left p rg v sh st he so z oz d i hd hi fi rd b lb one j hj in
         let hk : Healthy p v2 su = record {

@@ -1,4 +1,4 @@
--- A chunk lands: the view and the open segment after it. Assumes nothing.
+-- A chunk lands: the view, the open segment, the tables and the state after it. Assumes nothing.
 use mathlib.Core.Path.{_≡_, refl, sym, ap, ap₂, _∙_, subst}
 use mathlib.Core.List.{List, [], _∷_, _++_, map}
 use mathlib.Core.Bool.{Bool, true, false, cond, not, _&&_, _||_}
@@ -30,10 +30,10 @@ use Rattle.defs.specs.Rank.{Cand, best, candsOf}
 use Rattle.defs.specs.Read.Found.{away}
 use Rattle.defs.specs.Segments.{headerAt, remaining, Segment, recordsIn, segmentOf, segments, recsOn, offsetOn, hasChunk, counts, storedRec, recOf, offsetOf, candOf, candidates, addressTable, compactRow, compactTable}
 use Rattle.laws.specs.Be.{room}
-use Rattle.tablesay.specs.Range.{capacity-low, position-drive, Range, data-count, data-drive, data-drive-low}
-use Rattle.laws.specs.Geometry.{compact-within}
-use Rattle.tablesay.specs.Tests.{Test, test, and-left, and-right, and-both, clash, and-false-left, and-false-right, or-true-right, not-so, cond-true, cond-false, eqb-self}
-use Rattle.tablesay.specs.Tests.Test.{yes!, no! }
+use Rattle.laws.specs.Geometry.{Ranged, compact-within, position-drive, drive-is-data, data-drive-lt}
+use Rattle.laws.specs.Mask.{isIn-empty, isIn-with}
+use Rattle.laws.specs.Ranges.{Test, test, and-left, and-right, and-both}
+use Rattle.laws.specs.Ranges.Test.{yes!, no! }
 use Rattle.views.specs.Pointers.{index-drive, index-zone}
 use Rattle.views.specs.Views.{blocks-long}
 use Rattle.tablesay.specs.Base.{cand-zone}
@@ -43,11 +43,12 @@ use Rattle.tablesay.specs.Idle.{StateOk, in-slots}
 use Rattle.tablesay.specs.Laid.{record-stripe, record-back}
 use Rattle.tablesay.specs.Live.{Holds, table-holds}
 use Rattle.tablesay.specs.Live.Holds.{holds-none, holds-some}
-use Rattle.tablesay.specs.Masks.{in-empty, only-low, in-more, full-mask, not-full}
+use Rattle.tablesay.specs.Masks.{only-low, full-mask, not-full}
 use Rattle.tablesay.specs.Members.{In, in-left, in-right, in-append, in-map, map-in, in-all, in-below, below-in}
 use Rattle.tablesay.specs.Opened.{busy-same}
 use Rattle.tablesay.specs.Pointing.{pointed-is}
 use Rattle.tablesay.specs.Puts.{data-sound}
+use Rattle.tablesay.specs.Range.{data-count, capacity-over}
 use Rattle.tablesay.specs.Ranks.{same-best}
 use Rattle.tablesay.specs.Reads.{counts-in, spot-block, spot-zone, spot-drive, spot-low}
 use Rattle.tablesay.specs.Reclaiming.{sealed-full, cand-record}
@@ -57,6 +58,7 @@ use Rattle.tablesay.specs.Settled.{remains-used, used-remains, remains-i
 use Rattle.tablesay.specs.Slots.{cell-low, cell-same, mark-landed, mark-landed-other, mark-offset, mark-offset-other, mark-lists, free-filled, free-filled-other, free-lists, free-is, none-flies}
 use Rattle.tablesay.specs.Tables.{addresses-cong, row-at, row-past, grid-ext, remains, rowAt, compact-is, compact-row-long, length-compact, compact-at}
 use Rattle.tablesay.specs.Tallies.{tally-cong, tally-none, tally-some, none-tally, tally-more}
+use Rattle.tablesay.specs.Tests.{clash, and-false-left, and-false-right, or-true-left, not-so, cond-true, cond-false, eqb-self}
 use Rattle.tablesay.specs.Zones.{Shaped, hitsAt, zoneStore, hits, zone-stored, Room, put-pointer, Roomy}
 
 -- two eighths apart
@@ -64,7 +66,7 @@ pub cells-differ : (i j d e : ℕ) → d < 8 → e < 8 → (j ≡ i → ⊥) ⊎
 cells-differ i j d e hd he (inl n) q = n (cell-same j i e d he hd q .0)
 cells-differ i j d e hd he (inr n) q = n (cell-same j i e d he hd q .1)
 
-module _ (p : Params) (r : Range p) (v : View) (sh : Shaped p v) (st : State) (h : Healthy p v st) (so : StateOk p st) (z : ℕ) (oz : st .opened ≡ suc z)
+module _ (p : Params) (r : Ranged p) (v : View) (sh : Shaped p v) (st : State) (h : Healthy p v st) (so : StateOk p st) (z : ℕ) (oz : st .opened ≡ suc z)
     (d i : ℕ) (hd : d < p .N) (hi : i < 8) (fi : flies st i ≡ true) (rd : ready p st i d ≡ true) (b : List ℕ) (lb : length b ≡ p .B) where
   abbrev s : ℕ
   s = stripeIn st i
@@ -113,7 +115,7 @@ module _ (p : Params) (r : Range p) (v : View) (sh : Shaped p v) (st : State) (h
       let e = pointer-next in
       let f : suc (group p s) * p .G ≡ group p s * p .G + p .G = suc-mul (group p s) (p .G) in
       let q : pointerAt v d z - 1 ≡ group p s * p .G + (pointerAt v d z - 1 - group p s * p .G) = omega arith in
-      let l : pointerAt v d z - 1 - group p s * p .G < p .G = (let y = pointer-some in let g = r .g-low in omega arith) in
+      let l : pointerAt v d z - 1 - group p s * p .G < p .G = (let y = pointer-some in let g = r .group-low in omega arith) in
       ap (λ (x : ℕ). x / p .G) q ∙ digits-div (group p s) l)
     where
       as! : (pointerAt v d z - 1) / p .G ≡ group p s → group p (pointerAt v d z - 1) ≡ group p s
@@ -135,7 +137,7 @@ module _ (p : Params) (r : Range p) (v : View) (sh : Shaped p v) (st : State) (h
       go (no! q) = unfold flightRec parityRec in ap (λ (x : Rec). x .stripe) (cond-false (isData p s d) (entryIn st i (dataPosition p s d)) (parityRec s (entriesIn st i)) q)
 
   stripe-low : s < 256 ^ 4
-  stripe-low = let a = so .slots-ok i hi .stripe-ok in let c = r .s-high in omega arith
+  stripe-low = let a = so .slots-ok i hi .stripe-ok in let c = r .stripes-high in omega arith
 
   read-stripe : recordOf (recordBytes rc) .stripe ≡ s
   read-stripe = record-stripe rc (subst (λ (x : ℕ). x < 256 ^ 4) (sym stripe-of) stripe-low) ∙ stripe-of
@@ -199,7 +201,7 @@ module _ (p : Params) (r : Range p) (v : View) (sh : Shaped p v) (st : State) (h
 
   block-new : (x : ℕ) → x ≡ pointerAt v d z → getD (zoneAt v1 d z .blocks) x noChunk ≡ mkChunk b (recordBytes rc)
   block-new x l = ap (λ (q : Zone). getD (q .blocks) x noChunk) chunk-zone ∙ go (zoneAt v d z) (as! l)
-      (let e = sh .zone-ok d z hd hz .blocks-long in let c = pointer-data in let y = capacity-low p r in subst (λ (n : ℕ). x < n) (sym e) (omega arith))
+      (let e = sh .zone-ok d z hd hz .blocks-long in let c = pointer-data in let y = capacity-over p r in subst (λ (n : ℕ). x < n) (sym e) (omega arith))
     where
       as! : x ≡ pointerAt v d z → x ≡ zoneAt v d z .pointer
       as! l = unfold pointerAt in l
@@ -247,7 +249,7 @@ module _ (p : Params) (r : Range p) (v : View) (sh : Shaped p v) (st : State) (h
           let (a, c) = same q in
           subst (λ (l : List Store). Room p (pointerAt v e y) l) (sym (one q))
           (subst (λ (x : ℕ). Room p x (store ∷ [])) (ap₂ (pointerAt v) a c)
-          (record { room = let x = pointer-data in let k = capacity-low p r in omega arith; fine = data-sound p (pointerAt v d z) b rc pointer-some pointer-data lb }, tt))
+          (record { room = let x = pointer-data in let k = capacity-over p r in omega arith; fine = data-sound p (pointerAt v d z) b rc pointer-some pointer-data lb }, tt))
 
   -- ---- what grows
 
@@ -266,7 +268,7 @@ module _ (p : Params) (r : Range p) (v : View) (sh : Shaped p v) (st : State) (h
       now e he (no n) = subst (λ (x : ℕ). 1 ≤ x) (sym (pointer-else e he n)) (op .has-header e he)
 
       low : (e : ℕ) → e < p .N → Dec (d ≡ e) → pointerAt v1 e z ≤ capacity p
-      low e he (yes q) = subst (λ (x : ℕ). pointerAt v1 x z ≤ capacity p) q (let a = chunk-pointer in let c = pointer-data in let k = capacity-low p r in omega arith)
+      low e he (yes q) = subst (λ (x : ℕ). pointerAt v1 x z ≤ capacity p) q (let a = chunk-pointer in let c = pointer-data in let k = capacity-over p r in omega arith)
       low e he (no n) = subst (λ (x : ℕ). x ≤ capacity p) (sym (pointer-else e he n)) (h .tidy .pointer-low e z he hz)
 
       head : headerAt v 0 z ≡ headerAt v1 0 z
@@ -277,7 +279,7 @@ module _ (p : Params) (r : Range p) (v : View) (sh : Shaped p v) (st : State) (h
 
           go : Dec (d ≡ 0) → headerAt v 0 z ≡ headerAt v1 0 z
           go (yes e) = as! (subst (λ (x : ℕ). getD (zoneAt v x z .blocks) 0 noChunk .block ≡ getD (zoneAt v1 x z .blocks) 0 noChunk .block) e (ap (λ (c : Chunk). c .block) (sym (block-old 0 pointer-some))))
-          go (no n) = as! (ap (λ (q : Zone). getD (q .blocks) 0 noChunk .block) (sym (chunk-other 0 z (omega (arith, r .n-low)) hz (inl n))))
+          go (no n) = as! (ap (λ (q : Zone). getD (q .blocks) 0 noChunk .block) (sym (chunk-other 0 z (omega (arith, r .drives-low)) hz (inl n))))
 
   -- ---- the open segment
 
@@ -288,7 +290,7 @@ module _ (p : Params) (r : Range p) (v : View) (sh : Shaped p v) (st : State) (h
   st1 = markLanded st i d o
 
   d8 : d < 8
-  d8 = omega (arith, r .n-high)
+  d8 = omega (arith, r .drives-high)
 
   ls : Lists st
   ls = h .lists
@@ -297,21 +299,17 @@ module _ (p : Params) (r : Range p) (v : View) (sh : Shaped p v) (st : State) (h
   one-more = let a = pointer-some in omega arith
 
   -- which drives have the stripe now
-  pub mask-now : (e : ℕ) → e < p .N → isIn (landedIn st1 i) e ≡ (isIn (landedIn st i) e || eqb e d)
+  pub mask-now : (e : ℕ) → e < p .N → isIn (landedIn st1 i) e ≡ (eqb e d || isIn (landedIn st i) e)
   mask-now e he = ap (λ (x : ℕ). isIn x e) (mark-landed st ls i hi d o d8) ∙ go
     where
-      go : isIn (landedMask st i d) e ≡ (isIn (landedIn st i) e || eqb e d)
-      go = unfold landedMask in in-more (landedIn st i) d e d8 (omega (arith, r .n-high))
+      go : isIn (landedMask st i d) e ≡ (eqb e d || isIn (landedIn st i) e)
+      go = unfold landedMask in isIn-with (landedIn st i) d e d8 (omega (arith, r .drives-high))
 
   mask-else : (e : ℕ) → e < p .N → (d ≡ e → ⊥) → isIn (landedIn st1 i) e ≡ isIn (landedIn st i) e
-  mask-else e he n = mask-now e he ∙ ap (λ (x : Bool). isIn (landedIn st i) e || x) (ne-eqb e d (λ q. n (sym q))) ∙ orf (isIn (landedIn st i) e)
-    where
-      orf : (b : Bool) → b || false ≡ b
-      orf true = refl
-      orf false = refl
+  mask-else e he n = mask-now e he ∙ ap (λ (x : Bool). x || isIn (landedIn st i) e) (ne-eqb e d (λ q. n (sym q)))
 
   mask-here : isIn (landedIn st1 i) d ≡ true
-  mask-here = mask-now d hd ∙ or-true-right (isIn (landedIn st i) d) (eqb d d) (eqb-self d)
+  mask-here = mask-now d hd ∙ or-true-left (eqb d d) (isIn (landedIn st i) d) (eqb-self d)
 
   stripe1 : (j : ℕ) → stripeIn st1 j ≡ stripeIn st j
   stripe1 j = unfold stripeIn markLanded in refl
@@ -335,7 +333,7 @@ module _ (p : Params) (r : Range p) (v : View) (sh : Shaped p v) (st : State) (h
   -- a landed chunk of before is where it was
   was-landed : (j e : ℕ) → e < p .N → (j ≡ i → ⊥) ⊎ (e ≡ d → ⊥) → LandedAt p v st z j e → LandedAt p v1 st1 z j e
   was-landed j e he n l =
-      let e8 : e < 8 = omega (arith, r .n-high) in
+      let e8 : e < 8 = omega (arith, r .drives-high) in
       let eo : offsetIn st1 j e ≡ offsetIn st j e = mark-offset-other st ls i hi d o d8 j e (cells-differ i j d e d8 e8 n) in
       let same : (x : ℕ) → 1 + x < pointerAt v e z → spareAt p v1 e z x ≡ spareAt p v e z x = λ x y. go x y (ℕ-discrete d e) in
       record {
@@ -481,10 +479,10 @@ module _ (p : Params) (r : Range p) (v : View) (sh : Shaped p v) (st : State) (h
 
   unsealed! : (u : View) → ((e : ℕ) → e < p .N → pointerAt u e z ≤ 1 + p .S) → sealedIn p u 0 z ≡ false
   unsealed! u f = not-so (sealedIn p u 0 z) (λ q.
-      let h0 : 0 < p .N = omega (arith, r .n-low) in
+      let h0 : 0 < p .N = omega (arith, r .drives-low) in
       let x = sealed-full p u z q 0 h0 in
       let y = f 0 h0 in
-      let c = capacity-low p r in
+      let c = capacity-over p r in
       let bad : ⊥ = omega arith in bad)
 
   pub open-before : sealedIn p v 0 z ≡ false
@@ -530,30 +528,30 @@ module _ (p : Params) (r : Range p) (v : View) (sh : Shaped p v) (st : State) (h
   -- a chunk that was there
   keeps : (t e : ℕ) → e < p .N → hasChunk seg0 t e ≡ true → Keeps t e
   keeps t e he c =
-      let k = chunk-at p v 0 z e t he (in-empty e) c in
+      let k = chunk-at p v 0 z e t he (isIn-empty e) c in
       let x = offsetOn seg0 e t in
       let l : 1 + x < pointerAt v e z = below! v e x (k .stored-there) in
       let l1 : x < dataStored p (zoneAt v1 e z) = stored! v1 e x (short-after e he) (let a = pointer-grows e he in omega arith) in
       let same : (y : ℕ) → 1 + y < pointerAt v e z → recordIn p (sealedIn p v1 0 z) (zoneAt v1 e z) y ≡ recordIn p (sealedIn p v 0 z) (zoneAt v e z) y =
       λ y m. by-spare v1 e y open-after ∙ kept-spare e y he m ∙ sym (by-spare v e y open-before) in
       let st! : recordIn p (sealedIn p v1 0 z) (zoneAt v1 e z) x .stripe ≡ t = ap (λ (m : Rec). m .stripe) (same x l) ∙ k .its-stripe in
-      let eo : offsetOn seg1 e t ≡ x = offset-is p v1 0 z e t x he (in-empty e) l1 st! (λ y m q. k .first y m (ap (λ (a : Rec). a .stripe) (sym (same y (omega arith))) ∙ q)) in
-      let h1 : hasChunk seg1 t e ≡ true = has-chunk p v1 0 z e t x he (in-empty e) l1 st! in
+      let eo : offsetOn seg1 e t ≡ x = offset-is p v1 0 z e t x he (isIn-empty e) l1 st! (λ y m q. k .first y m (ap (λ (a : Rec). a .stripe) (sym (same y (omega arith))) ∙ q)) in
+      let h1 : hasChunk seg1 t e ≡ true = has-chunk p v1 0 z e t x he (isIn-empty e) l1 st! in
       record {
         has-it = h1;
         same-offset! = sym eo;
-        same-record! = k .its-record ∙ sym (same x l) ∙ ap (recordIn p (sealedIn p v1 0 z) (zoneAt v1 e z)) (sym eo) ∙ sym (chunk-at p v1 0 z e t he (in-empty e) h1 .its-record);
+        same-record! = k .its-record ∙ sym (same x l) ∙ ap (recordIn p (sealedIn p v1 0 z) (zoneAt v1 e z)) (sym eo) ∙ sym (chunk-at p v1 0 z e t he (isIn-empty e) h1 .its-record);
       }
 
   -- a chunk that is there was there, unless it is the new one
   had : (t e : ℕ) → e < p .N → (t ≡ s → ⊥) → hasChunk seg1 t e ≡ true → hasChunk seg0 t e ≡ true
   had t e he n c =
-      let k = chunk-at p v1 0 z e t he (in-empty e) c in
+      let k = chunk-at p v1 0 z e t he (isIn-empty e) c in
       let x = offsetOn seg1 e t in
       let l : 1 + x < pointerAt v1 e z = below! v1 e x (k .stored-there) in
       let q : spareAt p v1 e z x .stripe ≡ t = ap (λ (m : Rec). m .stripe) (sym (by-spare v1 e x open-after)) ∙ k .its-stripe in
       let m : 1 + x < pointerAt v e z = go x l q (ℕ-discrete d e) in
-      has-chunk p v 0 z e t x he (in-empty e) (stored! v e x (short-before e he) m) (ap (λ (a : Rec). a .stripe) (by-spare v e x open-before ∙ sym (kept-spare e x he m)) ∙ q)
+      has-chunk p v 0 z e t x he (isIn-empty e) (stored! v e x (short-before e he) m) (ap (λ (a : Rec). a .stripe) (by-spare v e x open-before ∙ sym (kept-spare e x he m)) ∙ q)
     where
       go : (x : ℕ) → 1 + x < pointerAt v1 e z → spareAt p v1 e z x .stripe ≡ t → Dec (d ≡ e) → 1 + x < pointerAt v e z
       go x l q (no a) = subst (λ (m : ℕ). 1 + x < m) (pointer-else e he a) l
@@ -564,13 +562,13 @@ module _ (p : Params) (r : Range p) (v : View) (sh : Shaped p v) (st : State) (h
           two (inr m) = absurd (n (sym q ∙ subst (λ (y : ℕ). spareAt p v1 y z x .stripe ≡ s) a (ap (λ (y : Rec). y .stripe) (spare-new x m) ∙ read-stripe)))
 
   counts-up : (t : ℕ) → counts p 0 seg0 t ≡ true → counts p 0 seg1 t ≡ true
-  counts-up t q = as! (in-all (hasChunk seg1 t) (present p 0) (λ e m. let he = present-in p 0 e m .0 in keeps t e he (counts-in p 0 seg0 t e q he (in-empty e)) .has-it))
+  counts-up t q = as! (in-all (hasChunk seg1 t) (present p 0) (λ e m. let he = present-in p 0 e m .0 in keeps t e he (counts-in p 0 seg0 t e q he (isIn-empty e)) .has-it))
     where
       as! : all (hasChunk seg1 t) (present p 0) ≡ true → counts p 0 seg1 t ≡ true
       as! e = unfold counts in e
 
   counts-down : (t : ℕ) → (t ≡ s → ⊥) → counts p 0 seg1 t ≡ true → counts p 0 seg0 t ≡ true
-  counts-down t n q = as! (in-all (hasChunk seg0 t) (present p 0) (λ e m. let he = present-in p 0 e m .0 in had t e he n (counts-in p 0 seg1 t e q he (in-empty e))))
+  counts-down t n q = as! (in-all (hasChunk seg0 t) (present p 0) (λ e m. let he = present-in p 0 e m .0 in had t e he n (counts-in p 0 seg1 t e q he (isIn-empty e))))
     where
       as! : all (hasChunk seg0 t) (present p 0) ≡ true → counts p 0 seg0 t ≡ true
       as! e = unfold counts in e
@@ -582,10 +580,10 @@ module _ (p : Params) (r : Range p) (v : View) (sh : Shaped p v) (st : State) (h
   cand-eq t e k = as! (rec-is seg0 ∙ k .same-record! ∙ sym (rec-is seg1)) (off-is seg0 ∙ k .same-offset! ∙ sym (off-is seg1))
     where
       rec-is : (x : Segment) → recOf p 0 x t e ≡ storedRec x t e
-      rec-is x = unfold recOf in cond-false (isIn 0 e) (parityRec t (map (storedRec x t) (present p 0))) (storedRec x t e) (in-empty e)
+      rec-is x = unfold recOf in cond-false (isIn 0 e) (parityRec t (map (storedRec x t) (present p 0))) (storedRec x t e) (isIn-empty e)
 
       off-is : (x : Segment) → offsetOf 0 x t e ≡ offsetOn x e t
-      off-is x = unfold offsetOf in cond-false (isIn 0 e) t (offsetOn x e t) (in-empty e)
+      off-is x = unfold offsetOf in cond-false (isIn 0 e) t (offsetOn x e t) (isIn-empty e)
 
       as! : recOf p 0 seg0 t e ≡ recOf p 0 seg1 t e → offsetOf 0 seg0 t e ≡ offsetOf 0 seg1 t e → candOf p 0 seg0 t e ≡ candOf p 0 seg1 t e
       as! a c = unfold candOf zoneOn in λ j. record {
@@ -607,7 +605,7 @@ module _ (p : Params) (r : Range p) (v : View) (sh : Shaped p v) (st : State) (h
       go (yes e) =
           let q : counts p 0 seg0 (k .stripe) ≡ true = subst (λ (x : ℕ). counts p 0 (segmentOf p v 0 x) (k .stripe) ≡ true) (sym e) (k .it-counts) in
           let dd = dataDrive p (k .stripe) (k .position) in
-          let hdd = data-drive-low p (k .stripe) (k .position) (omega (arith, r .n-low)) (k .position-low) in
+          let hdd = data-drive-lt p (k .stripe) (k .position) (k .position-low) in
           record {
             of = z;
             stripe = k .stripe;
@@ -616,7 +614,7 @@ module _ (p : Params) (r : Range p) (v : View) (sh : Shaped p v) (st : State) (h
             stripe-low = k .stripe-low;
             it-counts = counts-up (k .stripe) q;
             position-low = k .position-low;
-            it-is = k .it-is ∙ ap (λ (x : ℕ). candOf p 0 (segmentOf p v 0 x) (k .stripe) dd) (sym e) ∙ cand-eq (k .stripe) dd (keeps (k .stripe) dd hdd (counts-in p 0 seg0 (k .stripe) dd q hdd (in-empty dd)));
+            it-is = k .it-is ∙ ap (λ (x : ℕ). candOf p 0 (segmentOf p v 0 x) (k .stripe) dd) (sym e) ∙ cand-eq (k .stripe) dd (keeps (k .stripe) dd hdd (counts-in p 0 seg0 (k .stripe) dd q hdd (isIn-empty dd)));
           }
 
   pub cand-down : (c : Cand) (k : CandAt p v1 0 c) → ((k .of ≡ z) × (k .stripe ≡ s)) ⊎ CandAt p v 0 c
@@ -637,7 +635,7 @@ module _ (p : Params) (r : Range p) (v : View) (sh : Shaped p v) (st : State) (h
               let q1 : counts p 0 seg1 (k .stripe) ≡ true = subst (λ (y : ℕ). counts p 0 (segmentOf p v1 0 y) (k .stripe) ≡ true) (sym e) (k .it-counts) in
               let q : counts p 0 seg0 (k .stripe) ≡ true = counts-down (k .stripe) x q1 in
               let dd = dataDrive p (k .stripe) (k .position) in
-              let hdd = data-drive-low p (k .stripe) (k .position) (omega (arith, r .n-low)) (k .position-low) in
+              let hdd = data-drive-lt p (k .stripe) (k .position) (k .position-low) in
               inr (record {
                 of = z;
                 stripe = k .stripe;
@@ -646,7 +644,7 @@ module _ (p : Params) (r : Range p) (v : View) (sh : Shaped p v) (st : State) (h
                 stripe-low = k .stripe-low;
                 it-counts = q;
                 position-low = k .position-low;
-                it-is = k .it-is ∙ ap (λ (y : ℕ). candOf p 0 (segmentOf p v1 0 y) (k .stripe) dd) (sym e) ∙ sym (cand-eq (k .stripe) dd (keeps (k .stripe) dd hdd (counts-in p 0 seg0 (k .stripe) dd q hdd (in-empty dd))));
+                it-is = k .it-is ∙ ap (λ (y : ℕ). candOf p 0 (segmentOf p v1 0 y) (k .stripe) dd) (sym e) ∙ sym (cand-eq (k .stripe) dd (keeps (k .stripe) dd hdd (counts-in p 0 seg0 (k .stripe) dd q hdd (isIn-empty dd))));
               })
 
   -- ---- complete or not
@@ -655,7 +653,7 @@ module _ (p : Params) (r : Range p) (v : View) (sh : Shaped p v) (st : State) (h
   mask-low = go
     where
       go : landedMask st i d < 2 ^ p .N
-      go = unfold landedMask in or-lt (p .N) (landedIn st i) (only d) (so .slots-ok i hi .landed-ok) (only-low d (p .N) hd (r .n-high))
+      go = unfold landedMask in or-lt (p .N) (landedIn st i) (only d) (so .slots-ok i hi .landed-ok) (only-low d (p .N) hd (r .drives-high))
 
   pub all-landed : completes p st i d ≡ true → (e : ℕ) → e < p .N → isIn (landedIn st1 i) e ≡ true
   all-landed q e he = ap (λ (x : ℕ). isIn x e) (mark-landed st ls i hi d o d8) ∙ full-in! e he
@@ -664,11 +662,11 @@ module _ (p : Params) (r : Range p) (v : View) (sh : Shaped p v) (st : State) (h
       ones-are q = unfold completes in eqb-true (ones (landedMask st i d)) (p .N) q
 
       full-in! : (e : ℕ) → e < p .N → isIn (landedMask st i d) e ≡ true
-      full-in! e he = full-mask (p .N) (landedMask st i d) (r .n-high) mask-low (ones-are q) e he
+      full-in! e he = full-mask (p .N) (landedMask st i d) (r .drives-high) mask-low (ones-are q) e he
 
   some-unlanded : completes p st i d ≡ false → (e : ℕ) × (e < p .N) × (isIn (landedIn st1 i) e ≡ false)
   some-unlanded q =
-      let (e, he, x) = not-full (p .N) (landedMask st i d) (r .n-high) mask-low (ones-not q) in
+      let (e, he, x) = not-full (p .N) (landedMask st i d) (r .drives-high) mask-low (ones-not q) in
       (e, he, ap (λ (y : ℕ). isIn y e) (mark-landed st ls i hi d o d8) ∙ x)
     where
       ones-not : completes p st i d ≡ false → eqb (ones (landedMask st i d)) (p .N) ≡ false
@@ -678,8 +676,8 @@ module _ (p : Params) (r : Range p) (v : View) (sh : Shaped p v) (st : State) (h
   pub uncounted-yet : completes p st i d ≡ false → counts p 0 seg1 s ≡ true → ⊥
   uncounted-yet q c =
       let (e, he, x) = some-unlanded q in
-      clash (counts-in p 0 seg1 s e c he (in-empty e))
-      (no-chunk p v1 0 z e s he (in-empty e) (λ y l w. flight-here .not-there e y he x (below! v1 e y l) (ap (λ (m : Rec). m .stripe) (sym (by-spare v1 e y open-after)) ∙ w ∙ sym (stripe1 i))))
+      clash (counts-in p 0 seg1 s e c he (isIn-empty e))
+      (no-chunk p v1 0 z e s he (isIn-empty e) (λ y l w. flight-here .not-there e y he x (below! v1 e y l) (ap (λ (m : Rec). m .stripe) (sym (by-spare v1 e y open-after)) ∙ w ∙ sym (stripe1 i))))
 
   -- where the stripe lies on a drive that has it
   pub landed-chunk : (e : ℕ) → e < p .N → isIn (landedIn st1 i) e ≡ true
@@ -689,9 +687,9 @@ module _ (p : Params) (r : Range p) (v : View) (sh : Shaped p v) (st : State) (h
       let x = offsetIn st1 i e in
       let l1 : x < dataStored p (zoneAt v1 e z) = stored! v1 e x (short-after e he) (l .lies) in
       let w : recordIn p (sealedIn p v1 0 z) (zoneAt v1 e z) x .stripe ≡ s = ap (λ (m : Rec). m .stripe) (by-spare v1 e x open-after) ∙ l .of-stripe ∙ stripe1 i in
-      let c = has-chunk p v1 0 z e s x he (in-empty e) l1 w in
-      let eo : offsetOn seg1 e s ≡ x = offset-is p v1 0 z e s x he (in-empty e) l1 w (λ y m a. l .not-before y m (ap (λ (n : Rec). n .stripe) (sym (by-spare v1 e y open-after)) ∙ a ∙ sym (stripe1 i))) in
-      (c, (eo, chunk-at p v1 0 z e s he (in-empty e) c .its-record ∙ ap (recordIn p (sealedIn p v1 0 z) (zoneAt v1 e z)) eo ∙ by-spare v1 e x open-after))
+      let c = has-chunk p v1 0 z e s x he (isIn-empty e) l1 w in
+      let eo : offsetOn seg1 e s ≡ x = offset-is p v1 0 z e s x he (isIn-empty e) l1 w (λ y m a. l .not-before y m (ap (λ (n : Rec). n .stripe) (sym (by-spare v1 e y open-after)) ∙ a ∙ sym (stripe1 i))) in
+      (c, (eo, chunk-at p v1 0 z e s he (isIn-empty e) c .its-record ∙ ap (recordIn p (sealedIn p v1 0 z) (zoneAt v1 e z)) eo ∙ by-spare v1 e x open-after))
 
   pub counts-now : completes p st i d ≡ true → counts p 0 seg1 s ≡ true
   counts-now q = as! (in-all (hasChunk seg1 s) (present p 0) (λ e m. let he = present-in p 0 e m .0 in landed-chunk e he (all-landed q e he) .0))
@@ -704,10 +702,10 @@ module _ (p : Params) (r : Range p) (v : View) (sh : Shaped p v) (st : State) (h
   all-filled q =
       let n = dataCount p - 1 in
       let c = data-count p r in
-      let l : n < dataCount p = (let x = r .n-low in omega arith) in
+      let l : n < dataCount p = (let x = r .drives-low in omega arith) in
       let dd = dataDrive p s n in
-      let hdd = data-drive-low p s n (omega (arith, r .n-low)) l in
-      let f = flight-here .lands dd hdd (all-landed q dd hdd) .is-entry (ap (λ (x : ℕ). isData p x dd) (stripe1 i) ∙ data-drive p s n) .0 in
+      let hdd = data-drive-lt p s n l in
+      let f = flight-here .lands dd hdd (all-landed q dd hdd) .is-entry (ap (λ (x : ℕ). isData p x dd) (stripe1 i) ∙ drive-is-data p s n) .0 in
       let g : dataPosition p (stripeIn st1 i) dd ≡ n = ap (λ (x : ℕ). dataPosition p x dd) (stripe1 i) ∙ position-drive p s n in
       let k : filledIn st1 i ≤ dataCount p = subst (λ (x : ℕ). x ≤ dataCount p) (sym (filled1 i)) (so .slots-ok i hi .filled-ok) in
       omega arith
@@ -716,19 +714,19 @@ module _ (p : Params) (r : Range p) (v : View) (sh : Shaped p v) (st : State) (h
   pub landed-cand : completes p st i d ≡ true → (n : ℕ) → n < dataCount p → landedCand p v1 z st1 i n ≡ candOf p 0 seg1 s (dataDrive p s n)
   landed-cand q n l =
       let dd = dataDrive p s n in
-      let hdd = data-drive-low p s n (omega (arith, r .n-low)) l in
+      let hdd = data-drive-lt p s n l in
       let (c, (eo, er)) = landed-chunk dd hdd (all-landed q dd hdd) in
-      let x = flight-here .lands dd hdd (all-landed q dd hdd) .is-entry (ap (λ (m : ℕ). isData p m dd) (stripe1 i) ∙ data-drive p s n) .1 in
+      let x = flight-here .lands dd hdd (all-landed q dd hdd) .is-entry (ap (λ (m : ℕ). isData p m dd) (stripe1 i) ∙ drive-is-data p s n) .1 in
       let g : dataPosition p (stripeIn st1 i) dd ≡ n = ap (λ (m : ℕ). dataPosition p m dd) (stripe1 i) ∙ position-drive p s n in
       let e : entryIn st1 i n ≡ recOf p 0 seg1 s dd = ap (entryIn st1 i) (sym g) ∙ sym x ∙ sym er ∙ sym (rec-is dd) in
       let w : offsetIn st1 i dd ≡ offsetOf 0 seg1 s dd = sym eo ∙ sym (off-is dd) in
       as! n dd (ap (λ (m : ℕ). dataDrive p m n) (stripe1 i)) e w
     where
       rec-is : (e : ℕ) → recOf p 0 seg1 s e ≡ storedRec seg1 s e
-      rec-is e = unfold recOf in cond-false (isIn 0 e) (parityRec s (map (storedRec seg1 s) (present p 0))) (storedRec seg1 s e) (in-empty e)
+      rec-is e = unfold recOf in cond-false (isIn 0 e) (parityRec s (map (storedRec seg1 s) (present p 0))) (storedRec seg1 s e) (isIn-empty e)
 
       off-is : (e : ℕ) → offsetOf 0 seg1 s e ≡ offsetOn seg1 e s
-      off-is e = unfold offsetOf in cond-false (isIn 0 e) s (offsetOn seg1 e s) (in-empty e)
+      off-is e = unfold offsetOf in cond-false (isIn 0 e) s (offsetOn seg1 e s) (isIn-empty e)
 
       serial-now : serialAt v1 z ≡ seg1 .serial
       serial-now = as! ∙ sym (serial-of p r v1 s0 chunk-tidy z)
@@ -783,7 +781,7 @@ module _ (p : Params) (r : Range p) (v : View) (sh : Shaped p v) (st : State) (h
         of = z;
         stripe = s;
         position = n;
-        remains = used-remains p r v1 s0 chunk-tidy z hz (sym (grows-used p r v v1 z chunk-grows z hz) ∙ ap not (ne-eqb (pointerAt v 0 z) 0 (λ x. let y = op .has-header 0 (omega (arith, r .n-low)) in let bad : ⊥ = omega arith in bad)));
+        remains = used-remains p r v1 s0 chunk-tidy z hz (sym (grows-used p r v v1 z chunk-grows z hz) ∙ ap not (ne-eqb (pointerAt v 0 z) 0 (λ x. let y = op .has-header 0 (omega (arith, r .drives-low)) in let bad : ⊥ = omega arith in bad)));
         stripe-low = so .slots-ok i hi .stripe-ok;
         it-counts = counts-now q;
         position-low = l;
@@ -826,7 +824,7 @@ module _ (p : Params) (r : Range p) (v : View) (sh : Shaped p v) (st : State) (h
               two (no n) = ap₂ (λ (x : Bool) (y : Zone). recordIn p x y (c .offset) .stamp) (sym (zones-sealed p r v v1 (k .of) (chunk-grows .others (k .of) hk n))) (sym (chunk-grows .others (k .of) hk n (c .drive) (t .drive-low)))
               two (yes x) = subst (λ (y : ℕ). recordIn p (sealedIn p v1 0 y) (zoneAt v1 (c .drive) y) (c .offset) .stamp ≡ recordIn p (sealedIn p v 0 y) (zoneAt v (c .drive) y) (c .offset) .stamp) x
                   (ap (λ (m : Rec). m .stamp) (by-spare v1 (c .drive) (c .offset) open-after ∙ kept-spare (c .drive) (c .offset) (t .drive-low)
-                  (subst (λ (y : ℕ). 1 + c .offset < pointerAt v (c .drive) y) (sym (spot-zone p r v 0 c t) ∙ ez ∙ sym x) (t .visible (in-empty (c .drive)))) ∙ sym (by-spare v (c .drive) (c .offset) open-before)))
+                  (subst (λ (y : ℕ). 1 + c .offset < pointerAt v (c .drive) y) (sym (spot-zone p r v 0 c t) ∙ ez ∙ sym x) (t .visible (isIn-empty (c .drive)))) ∙ sym (by-spare v (c .drive) (c .offset) open-before)))
 
           serial! : headerSerial (headerAt v1 0 (k .of)) ≡ c .serial
           serial! = ap headerSerial (sym (grows-header p r v v1 z chunk-grows (k .of) hk)) ∙ sym (its-serial p r v s0 t0 c k)
@@ -863,13 +861,13 @@ module _ (p : Params) (r : Range p) (v : View) (sh : Shaped p v) (st : State) (h
   -- ---- the compact table
 
   used! : (u : View) → usedAt u z ≡ true → (s1 : ℕ) → Tidy p u s1 → (e : ℕ) → e < p .N → sealedIn p u 0 z ≡ false → rowAt p u 0 e z ≡ recordsIn p false (zoneAt u e z)
-  used! u q s1 ty e he ns = as! (cond-true (remains p u 0 z) (recsOn (segmentOf p u 0 z) e) [] (remains-used p r u s1 ty z hz ∙ q) ∙ recs-here p u 0 z e he (in-empty e) ∙ ap (λ (w : Bool). recordsIn p w (zoneAt u e z)) ns)
+  used! u q s1 ty e he ns = as! (cond-true (remains p u 0 z) (recsOn (segmentOf p u 0 z) e) [] (remains-used p r u s1 ty z hz ∙ q) ∙ recs-here p u 0 z e he (isIn-empty e) ∙ ap (λ (w : Bool). recordsIn p w (zoneAt u e z)) ns)
     where
       as! : cond (remains p u 0 z) (recsOn (segmentOf p u 0 z) e) [] ≡ recordsIn p false (zoneAt u e z) → rowAt p u 0 e z ≡ recordsIn p false (zoneAt u e z)
       as! x = unfold rowAt in x
 
   used-zone : usedAt v z ≡ true
-  used-zone = ap not (ne-eqb (pointerAt v 0 z) 0 (λ x. let y = op .has-header 0 (omega (arith, r .n-low)) in let bad : ⊥ = omega arith in bad))
+  used-zone = ap not (ne-eqb (pointerAt v 0 z) 0 (λ x. let y = op .has-header 0 (omega (arith, r .drives-low)) in let bad : ⊥ = omega arith in bad))
 
   row-before : (e : ℕ) → e < p .N → rowAt p v 0 e z ≡ recordsIn p false (zoneAt v e z)
   row-before e he = used! v used-zone s0 t0 e he open-before
@@ -891,7 +889,7 @@ module _ (p : Params) (r : Range p) (v : View) (sh : Shaped p v) (st : State) (h
   pub compact-lands : set (compactTable p (segments p v 0)) (compactAt p d z o) (compactEntry p s) ≡ compactTable p (segments p v1 0)
   compact-lands =
       grid-ext p (λ e y. compactRow p (rowAt p v1 0 e y)) (compact-row-long p v1 0) (set cs (compactAt p d z o) (compactEntry p s)) (length-set cs (compactAt p d z o) (compactEntry p s) ∙ length-compact p v 0)
-      (r .s-low) (let a = r .z-low in omega arith) entry
+      (r .stripes-low) (let a = r .zones-low in omega arith) entry
       ∙ sym (compact-is p v1 0)
     where
       cs : List ℕ
