@@ -38,7 +38,7 @@ is-full-requires : tie.Need-is-full-requires
 is-full-requires c κs = search needs
 
 slot-parity-requires : tie.Need-slot-parity-requires
-slot-parity-requires c κs = (c .before .before .before .before .before .before .before .before .before .before .before .before .before .before .pre .0, (c .before .before .before .before .before .before .before .before .before .before .before .before .before .before .pre .1 .0, c .before .before .before .before .before .copy-part .kept .0 ∙ c .before .before .before .before .before .before .before .before .before .before .before .before .before .before .pre .1 .2))
+slot-parity-requires c κs = (c .before .before .before .before .before .before .before .before .before .before .before .before .before .before .pre .0, (omega (arith, c .before .before .before .before .before .before .before .before .before .before .before .before .before .before .pre .1 .0), c .before .before .before .before .before .copy-part .kept .0 ∙ c .before .before .before .before .before .before .before .before .before .before .before .before .before .before .pre .1 .2))
 
 same-length : tie.Need-same-length
 same-length c = c .before .before .slot-parity .kept .1 .0 ∙ c .before .before .before .before .before .before .before .before .copy-part .kept .0

@@ -10,6 +10,7 @@ use borrow.Author.Needs.{needs}
 use borrow.Author.Tests.{not-true, not-false}
 use mathlib.Core.Bool.{true, false, cond}
 use mathlib.Core.Path.{_≡_, sym, ap, _∙_}
+use native.Mathlib.Omega.{arith}
 use Rattle.write.proofs.checks.Statement.{statement}
 use Rattle.write.proofs.checks.Tie as tie
 
@@ -70,7 +71,7 @@ returns-5 c =
     let m : Memory = mkMemory st (a .addresses .now) (a .compact .now) (a .inflight .now) in
     let er : inRange (a .p) ≡ true = sym (c .before .before .before .before .before .before .before .before .before .in-range .ensures) ∙ not-false (c .before .before .before .before .before .before .before .before .before .in-range .result) (c .before .before .before .before .before .before .before .before .if1 .left) in
     let el : lentOk (a .p) k m ≡ true = sym (c .before .before .before .before .before .before .before .lent-ok .ensures st) ∙ not-false (c .before .before .before .before .before .before .before .lent-ok .result) (c .before .before .before .before .before .before .if2 .left) in
-    address-fails (a .p) k m (a .address .0) (a .block .now) (c .if5 .taken)
+    address-fails (a .p) k m (a .address .0) (a .block .now) (omega (arith, c .if5 .taken))
     ∙ missing-passes (a .p) k m (a .address .0) (a .block .now) (c .before .before .if4 .left)
     ∙ lengths-pass (a .p) k m (a .address .0) (a .block .now) el (c .before .before .before .before .if3 .left)
     ∙ range-passes (a .p) k m (a .address .0) (a .block .now) er
@@ -88,7 +89,7 @@ returns-6 c =
     let el : lentOk (a .p) k m ≡ true = sym (c .before .before .before .before .before .before .before .before .before .lent-ok .ensures st) ∙ not-false (c .before .before .before .before .before .before .before .before .before .lent-ok .result) (c .before .before .before .before .before .before .before .before .if2 .left) in
     let es : noStamp st ≡ true = sym (c .before .no-stamp .ensures) ∙ c .if6 .taken in
     stamp-fails (a .p) k m (a .address .0) (a .block .now) es
-    ∙ address-passes (a .p) k m (a .address .0) (a .block .now) (c .before .before .if5 .left)
+    ∙ address-passes (a .p) k m (a .address .0) (a .block .now) (omega (arith, c .before .before .if5 .left))
     ∙ missing-passes (a .p) k m (a .address .0) (a .block .now) (c .before .before .before .before .if4 .left)
     ∙ lengths-pass (a .p) k m (a .address .0) (a .block .now) el (c .before .before .before .before .before .before .if3 .left)
     ∙ range-passes (a .p) k m (a .address .0) (a .block .now) er
@@ -107,7 +108,7 @@ returns-7 c =
     let es : noStamp st ≡ false = sym (c .before .before .before .no-stamp .ensures) ∙ c .before .before .if6 .left in
     let en : noSerial (a .p) st ≡ true = sym (c .before .no-serial .ensures) ∙ c .if7 .taken in
     serial-fails (a .p) k m (a .address .0) (a .block .now) es en
-    ∙ address-passes (a .p) k m (a .address .0) (a .block .now) (c .before .before .before .before .if5 .left)
+    ∙ address-passes (a .p) k m (a .address .0) (a .block .now) (omega (arith, c .before .before .before .before .if5 .left))
     ∙ missing-passes (a .p) k m (a .address .0) (a .block .now) (c .before .before .before .before .before .before .if4 .left)
     ∙ lengths-pass (a .p) k m (a .address .0) (a .block .now) el (c .before .before .before .before .before .before .before .before .if3 .left)
     ∙ range-passes (a .p) k m (a .address .0) (a .block .now) er
@@ -128,7 +129,7 @@ returns-8 c =
     let ew : mustWait (a .p) st ≡ true = sym (c .before .must-wait .ensures) ∙ c .if8 .taken in
     wait-fails (a .p) k m (a .address .0) (a .block .now) ew
     ∙ counts-pass (a .p) k m (a .address .0) (a .block .now) es en
-    ∙ address-passes (a .p) k m (a .address .0) (a .block .now) (c .before .before .before .before .before .before .if5 .left)
+    ∙ address-passes (a .p) k m (a .address .0) (a .block .now) (omega (arith, c .before .before .before .before .before .before .if5 .left))
     ∙ missing-passes (a .p) k m (a .address .0) (a .block .now) (c .before .before .before .before .before .before .before .before .if4 .left)
     ∙ lengths-pass (a .p) k m (a .address .0) (a .block .now) el (c .before .before .before .before .before .before .before .before .before .before .if3 .left)
     ∙ range-passes (a .p) k m (a .address .0) (a .block .now) er
@@ -163,7 +164,7 @@ returns-9 c =
     zones-fail (a .p) k m (a .address .0) (a .block .now) ez
     ∙ wait-passes (a .p) k m (a .address .0) (a .block .now) ew
     ∙ counts-pass (a .p) k m (a .address .0) (a .block .now) es en
-    ∙ address-passes (a .p) k m (a .address .0) (a .block .now) (c .before .before .before .before .before .before .before .before .before .if5 .left)
+    ∙ address-passes (a .p) k m (a .address .0) (a .block .now) (omega (arith, c .before .before .before .before .before .before .before .before .before .if5 .left))
     ∙ missing-passes (a .p) k m (a .address .0) (a .block .now) (c .before .before .before .before .before .before .before .before .before .before .before .if4 .left)
     ∙ lengths-pass (a .p) k m (a .address .0) (a .block .now) el (c .before .before .before .before .before .before .before .before .before .before .before .before .before .if3 .left)
     ∙ range-passes (a .p) k m (a .address .0) (a .block .now) er
@@ -190,7 +191,7 @@ returns-10 c =
     ∙ zones-suffice (a .p) k m (a .address .0) (a .block .now) ez
     ∙ wait-passes (a .p) k m (a .address .0) (a .block .now) ew
     ∙ counts-pass (a .p) k m (a .address .0) (a .block .now) es en
-    ∙ address-passes (a .p) k m (a .address .0) (a .block .now) (c .before .before .before .before .before .before .before .before .before .before .before .if5 .left)
+    ∙ address-passes (a .p) k m (a .address .0) (a .block .now) (omega (arith, c .before .before .before .before .before .before .before .before .before .before .before .if5 .left))
     ∙ missing-passes (a .p) k m (a .address .0) (a .block .now) (c .before .before .before .before .before .before .before .before .before .before .before .before .before .if4 .left)
     ∙ lengths-pass (a .p) k m (a .address .0) (a .block .now) el (c .before .before .before .before .before .before .before .before .before .before .before .before .before .before .before .if3 .left)
     ∙ range-passes (a .p) k m (a .address .0) (a .block .now) er
@@ -214,7 +215,7 @@ returns-11 c =
     ∙ zones-suffice (a .p) k m (a .address .0) (a .block .now) ez
     ∙ wait-passes (a .p) k m (a .address .0) (a .block .now) ew
     ∙ counts-pass (a .p) k m (a .address .0) (a .block .now) es en
-    ∙ address-passes (a .p) k m (a .address .0) (a .block .now) (c .before .before .before .before .before .before .before .before .before .before .before .if5 .left)
+    ∙ address-passes (a .p) k m (a .address .0) (a .block .now) (omega (arith, c .before .before .before .before .before .before .before .before .before .before .before .if5 .left))
     ∙ missing-passes (a .p) k m (a .address .0) (a .block .now) (c .before .before .before .before .before .before .before .before .before .before .before .before .before .if4 .left)
     ∙ lengths-pass (a .p) k m (a .address .0) (a .block .now) el (c .before .before .before .before .before .before .before .before .before .before .before .before .before .before .before .if3 .left)
     ∙ range-passes (a .p) k m (a .address .0) (a .block .now) er

@@ -1,0 +1,29 @@
+use Prim.Native.Nat.{_+_}
+use native.Mathlib.Omega.{arith}
+use lib.ListN.{length}
+use borrow.Author.Tests.{le-leb, lt-leb}
+use borrow.Author.Needs.{needs}
+use Rattle.leafbench.proofs.leaf_xor_part.Statement.{statement}
+use Rattle.leafbench.proofs.leaf_xor_part.Tie as tie
+
+returns : tie.Need-returns
+returns c = simp (lt-leb (c .before .before .before .args .at + length (c .before .before .before .args .src .now)) (length (c .before .before .before .args .dst .now)) (omega arith))
+
+sub-if2 : tie.Need-sub-if2
+sub-if2 c = search needs
+
+returns-2 : tie.Need-returns-2
+returns-2 c = simp (lt-leb (c .before .before .before .before .args .at + length (c .before .before .before .before .args .src .now)) (length (c .before .before .before .before .args .dst .now)) (omega arith))
+
+xor-part-requires : tie.Need-xor-part-requires
+xor-part-requires c κs = search needs
+
+same-length : tie.Need-same-length
+same-length c = search needs
+
+returns-3 : tie.Need-returns-3
+returns-3 c = simp (le-leb (c .before .before .before .before .before .before .before .before .args .at + length (c .before .before .before .before .before .before .before .before .args .src .now)) (length (c .before .before .before .before .before .before .before .before .args .dst .now)) (omega arith)) (c .before .before .xor-part .ensures)
+
+pub leaf-xor-part-spec : {M : Type 1} → statement M
+leaf-xor-part-spec =
+    tie.close (tie.spec returns sub-if2 returns-2 xor-part-requires same-length returns-3)

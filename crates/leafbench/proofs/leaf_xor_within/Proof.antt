@@ -1,0 +1,45 @@
+use mathlib.Core.Logic.{inl}
+use Prim.Native.Nat.{_+_}
+use native.Mathlib.Omega.{arith}
+use lib.ListN.{length}
+use borrow.Author.Tests.{le-leb, lt-leb}
+use borrow.Author.Needs.{needs}
+use Rattle.leafbench.proofs.leaf_xor_within.Statement.{statement}
+use Rattle.leafbench.proofs.leaf_xor_within.Tie as tie
+
+returns : tie.Need-returns
+returns c = simp (lt-leb (c .before .before .args .b + c .before .before .args .n) (length (c .before .before .args .buf .now)) (omega arith))
+
+sub-if2 : tie.Need-sub-if2
+sub-if2 c = search needs
+
+returns-2 : tie.Need-returns-2
+returns-2 c = simp (lt-leb (c .before .before .before .args .b + c .before .before .before .args .n) (length (c .before .before .before .args .buf .now)) (omega arith))
+
+returns-3 : tie.Need-returns-3
+returns-3 c = simp (le-leb (c .before .before .before .before .args .b + c .before .before .before .before .args .n) (length (c .before .before .before .before .args .buf .now)) (omega arith), lt-leb (c .before .before .before .before .args .a + c .before .before .before .before .args .n) (c .before .before .before .before .args .b) (omega arith))
+
+returns-4 : tie.Need-returns-4
+returns-4 c = simp (le-leb (c .before .before .before .before .before .args .b + c .before .before .before .before .before .args .n) (length (c .before .before .before .before .before .args .buf .now)) (omega arith), lt-leb (c .before .before .before .before .before .args .a + c .before .before .before .before .before .args .n) (c .before .before .before .before .before .args .b) (omega arith))
+
+xor-within-requires : tie.Need-xor-within-requires
+xor-within-requires c κs = (omega arith, omega arith, inl (omega arith))
+
+same-length : tie.Need-same-length
+same-length c = search needs
+
+returns-5 : tie.Need-returns-5
+returns-5 c = simp (le-leb (c .before .before .before .before .before .before .before .before .before .args .b + c .before .before .before .before .before .before .before .before .before .args .n) (length (c .before .before .before .before .before .before .before .before .before .args .buf .now)) (omega arith), le-leb (c .before .before .before .before .before .before .before .before .before .args .a + c .before .before .before .before .before .before .before .before .before .args .n) (c .before .before .before .before .before .before .before .before .before .args .b) (omega arith)) (c .before .before .xor-within .ensures)
+
+pub leaf-xor-within-spec : {M : Type 1} → statement M
+leaf-xor-within-spec =
+    tie.close
+    (tie.spec
+    returns
+    sub-if2
+    returns-2
+    returns-3
+    returns-4
+    xor-within-requires
+    same-length
+    returns-5)
