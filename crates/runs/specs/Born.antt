@@ -122,7 +122,8 @@ module _ (p : Params) (h : Ranged p) (k : Disk) (e : emptyDisk p k ≡ true) (fl
 
       fresh : Live p h v (idleState 1 0 0 0 0 0) (restartMemory p v 0 fl .inflight) (restartMemory p v 0 fl .addresses) [] 0
       fresh = rest-live p h v (restartMemory p v 0 fl .inflight) (restartMemory p v 0 fl .addresses) [] 0 (bornGhost P) [] false noTrack 1 0 0 0 0 false 0 0 (record {
-        reach = reach;
+        inv = I;
+        tracked = go-start P (mst (bornGhost P) (itemsIn p v) [] false (run (restMem false 0 0 0 0))) noTrack reach .1;
         shape = start-on p h k e .shape;
         bytes = bytes;
         logged = record { count = refl; same = λ j l. absurd (let z : ⊥ = omega arith in z); acks = λ j l q. absurd (let z : ⊥ = omega arith in z) };

@@ -32,3 +32,5 @@ pub mod Readings
 pub mod Born
 pub mod Refusals
 pub mod Others
+pub mod Resumed
+pub mod Restarted

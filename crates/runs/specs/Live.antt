@@ -1,4 +1,4 @@
--- Where a history stands: a machine state that was reached from empty drives, with the drives' items, byte facts, log and memory. Assumes nothing.
+-- Where a history stands: a machine state with its invariant and the order of its sends, with the drives' items, byte facts, log and memory. Assumes nothing.
 use mathlib.Core.Path.{_≡_, sym, _∙_}
 use mathlib.Core.List.{List, map}
 use mathlib.Core.Bool.{Bool, false}
@@ -19,29 +19,26 @@ use Rattle.bridge.specs.Segs.{OnDrives, zone-len}
 use Rattle.bridge.specs.Shape.{Shape, shape-stores}
 use Rattle.bridge.specs.Sound.{AllSound, BytesOk, all-fit, bytes-stores, sound-take}
 use Rattle.machine.specs.Facts.{Ghost, InV}
-use Rattle.machine.specs.History.{Mode, State as m-State, Inv, start}
+use Rattle.machine.specs.History.{Mode, State as m-State, Inv}
 use Rattle.machine.specs.History.Mode.{off, run}
 use Rattle.machine.specs.Memory.{Mem}
-use Rattle.machine.specs.Order.{Track, Tracked, noTrack}
+use Rattle.machine.specs.Order.{Track, Tracked}
 use Rattle.machine.specs.Val.{Val}
 use Rattle.runs.specs.Fill.{Within}
-use Rattle.runs.specs.Go.{mst, Later, later-same, Go, go-then, go-start}
+use Rattle.runs.specs.Go.{mst, Later, later-same, Go, go-inv, go-tracked}
 use Rattle.runs.specs.Held.{TableOk}
 use Rattle.runs.specs.Rel.{Rel, Waiting}
 use Rattle.runs.specs.Sends.{Logged, Waits, length-forget, forget-logged, forget-waits}
 
 -- drives v, blocks sent ss, of which n before the last finished restart ended; mode m of the machine
 pub record Reached (p : Params) (h : Ranged p) (v : View) (ss : List Send) (n : ℕ) (g : Ghost) (a : List Val) (c : Bool) (m : Mode) (T : Track) : Type 0 where
-  pub reach : Go (parOf p h) (start (parOf p h)) (mst g (itemsIn p v) a c m) noTrack T
+  pub inv : Inv (parOf p h) (mst g (itemsIn p v) a c m)
+  pub tracked : Tracked (mst g (itemsIn p v) a c m) T
   pub shape : Shape p v
   pub bytes : BytesOk p (g .un) v
   pub logged : Logged p a T ss
   pub marked : n ≤ length ss
   pub still : length ss ≡ n → c ≡ false
-
-pub reached-inv : (p : Params) (h : Ranged p) (v : View) (ss : List Send) (n : ℕ) (g : Ghost) (a : List Val) (c : Bool) (m : Mode) (T : Track)
-    → Reached p h v ss n g a c m T → Inv (parOf p h) (mst g (itemsIn p v) a c m) × Tracked (mst g (itemsIn p v) a c m) T
-reached-inv p h v ss n g a c m T r = go-start (parOf p h) (mst g (itemsIn p v) a c m) T (r .reach)
 
 -- a healthy run
 pub record Live (p : Params) (h : Ranged p) (v : View) (st : State) (fl tb : List ℕ) (ss : List Send) (n : ℕ) : Type 0 where
@@ -77,7 +74,7 @@ module _ (p : Params) (h : Ranged p) (v : View) (st : State) (fl tb : List ℕ) 
   σ = mst (l .g) (itemsIn p v) (l .a) (l .c) (run (l .M))
 
   pub live-inv : Inv (parOf p h) (mst (l .g) (itemsIn p v) (l .a) (l .c) (run (l .M)))
-  live-inv = reached-inv p h v ss n (l .g) (l .a) (l .c) (run (l .M)) (l .T) (l .reached) .0
+  live-inv = l .reached .inv
 
   pub live-none : p .N ≤ l .g .un
   live-none = live-inv .mode .none
@@ -105,7 +102,8 @@ module _ (p : Params) (h : Ranged p) (v : View) (st : State) (fl tb : List ℕ) 
       M = M′;
       T = T′;
       reached = record {
-        reach = go-then (parOf p h) (start (parOf p h)) σ (mst g′ (itemsIn p (storeAll storeView ws v)) a′ c′ (run M′)) noTrack (l .T) T′ (l .reached .reach) go;
+        inv = go-inv (parOf p h) σ (mst g′ (itemsIn p (storeAll storeView ws v)) a′ c′ (run M′)) (l .T) T′ go live-inv;
+        tracked = go-tracked (parOf p h) σ (mst g′ (itemsIn p (storeAll storeView ws v)) a′ c′ (run M′)) (l .T) T′ go live-inv (l .reached .tracked);
         shape = shape-stores p v ws (l .reached .shape) (all-fit p h v ws (l .reached .shape) sound);
         bytes = λ d b k. bytes-stores p h v ws (l .reached .shape) sound d (l .reached .bytes d b (λ e. k (e ∙ sym (lt .un))));
         logged = logged;
@@ -130,7 +128,8 @@ module _ (p : Params) (h : Ranged p) (v : View) (st : State) (fl tb : List ℕ) 
       c = l .c;
       T = l .T;
       reached = record {
-        reach = go-then (parOf p h) (start (parOf p h)) σ (mst g′ (itemsIn p (storeAll storeView (take k ws) v)) (l .a) (l .c) off) noTrack (l .T) (l .T) (l .reached .reach) go;
+        inv = go-inv (parOf p h) σ (mst g′ (itemsIn p (storeAll storeView (take k ws) v)) (l .a) (l .c) off) (l .T) (l .T) go live-inv;
+        tracked = go-tracked (parOf p h) σ (mst g′ (itemsIn p (storeAll storeView (take k ws) v)) (l .a) (l .c) off) (l .T) (l .T) go live-inv (l .reached .tracked);
         shape = shape-stores p v (take k ws) (l .reached .shape) (all-fit p h v (take k ws) (l .reached .shape) (sound-take p v ws k sound));
         bytes = λ d b e. bytes-stores p h v (take k ws) (l .reached .shape) (sound-take p v ws k sound) d (l .reached .bytes d b (λ q. e (q ∙ sym (lt .un))));
         logged = forget-logged p (l .a) (l .T) ss (l .reached .logged);
@@ -160,7 +159,8 @@ module _ (p : Params) (h : Ranged p) (v : View) (st : State) (fl tb : List ℕ) 
       M = w .M′;
       T = l .T;
       reached = record {
-        reach = go-then (parOf p h) (start (parOf p h)) σ (mst (l .g) (itemsIn p v) (l .a) (l .c) (run (w .M′))) noTrack (l .T) (l .T) (l .reached .reach) (w .go (l .T));
+        inv = go-inv (parOf p h) σ (mst (l .g) (itemsIn p v) (l .a) (l .c) (run (w .M′))) (l .T) (l .T) (w .go (l .T)) live-inv;
+        tracked = go-tracked (parOf p h) σ (mst (l .g) (itemsIn p v) (l .a) (l .c) (run (w .M′))) (l .T) (l .T) (w .go (l .T)) live-inv (l .reached .tracked);
         shape = l .reached .shape;
         bytes = l .reached .bytes;
         logged = l .reached .logged;

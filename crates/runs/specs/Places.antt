@@ -40,6 +40,7 @@ use Rattle.machine.specs.View.Item.{chunk}
 use Rattle.runs.specs.Go.{mst}
 use Rattle.runs.specs.Held.{Entry, TableOk}
 use Rattle.runs.specs.LandRel.{off-here}
+use Rattle.runs.specs.Sends.{value-stamp}
 
 -- counted with none missing, by any two numbers that name none
 abbrev pub counted-none : (P : Par) (hd : Heads) (v : m-View) (m n : ℕ) → P .N ≤ m → P .N ≤ n → (x : Val) → Counted P hd v m x → Counted P hd v n x
@@ -200,6 +201,11 @@ module _ (p : Params) (h : Ranged p) (g : Ghost) (v : View) (k : OnDrives p h g 
 
     pub value-stamped : valueAt .stamp ≡ x .stamp
     value-stamped = ap (λ (y : Val). y .stamp) value-is ∙ sym (cand-value p h g v k 255 c (from .z) (from .s) (from .d) .1) ∙ ap (λ (y : Cand). y .stamp) (sym (from .is))
+
+    -- its stamp takes 8 bytes
+    pub stamp-low : x .stamp < 256 ^ 8
+    stamp-low = subst (λ (n : ℕ). n < 256 ^ 8) (sym (value-stamp (blockIn (zoneAt v (from .d) (from .z)) (suc o) .block) (recordOf (blockIn (zoneAt v (from .d) (from .z)) (suc o) .spare))) ∙ sym (ap (λ (y : Val). y .stamp) value-here) ∙ value-stamped)
+        (zone-bytes p h g v k (from .d) (from .z) (from .drv) (trust (from .d) (from .drv)) zb .wide o (o-low .0) (o-low .1) .stamp)
 
     -- the item there
     pub item-at : (t : ℕ) × Off (itemsIn p v (placeDrive p (x .place)) (placeZone p (x .place))) (placeBlock p (x .place)) (chunk t valueAt)
