@@ -48,6 +48,7 @@ InOrder p v = (z : ℕ) → Has z (remaining p v (named noDrive)) → segmentOf 
 -- the memory that a restart makes of the unsealed segments: open or not, its zone, its next stripe
 pub record Opened (p : Params) (r : Ranged p) (g : Ghost) (v : View) (b : Bool) (z n : ℕ) : Type 0 where
   pub few : n ≤ p .S
+  pub less : b ≡ true → n < p .S
   pub lone : (y : ℕ) → Ragged (parOf p r) (g .un) (itemsIn p v) y → (b ≡ true) × (y ≡ z)
   pub whole : b ≡ true → m-Whole (parOf p r) (g .un) (itemsIn p v) z
   pub low : b ≡ true → (e s : ℕ) (x : Val) → e < p .N → In (chunk s x) (itemsIn p v e z) → s < n
@@ -154,6 +155,7 @@ module _ (p : Params) (r : Ranged p) (g : Ghost) (v : View) (k : Settled p r g v
           0,
           record {
             few = omega arith;
+            less = λ q. true≢false q;
             lone = λ y q. absurd (subst (λ (x : List Segment). Has (G y) x) e (has-us y (ragged-unsealed y q .0) (ragged-unsealed y q .1)));
             whole = λ q. true≢false q;
             low = λ q. true≢false q;
@@ -171,6 +173,7 @@ module _ (p : Params) (r : Ranged p) (g : Ghost) (v : View) (k : Settled p r g v
               length (counted p (named noDrive) (G (a .0))),
               record {
                 few = few-counted (a .0);
+                less = λ w. o .2;
                 lone = λ y w. (refl, one-of y (a .0) (ragged-unsealed y w .0) (a .1) (ragged-unsealed y w .1) (a .3));
                 whole = λ w. k .rest (a .0) (settled-used p r g v k (a .0) (a .1) .1) .left;
                 low = λ w d s x l m. below-has s (length (counted p (named noDrive) (G (a .0)))) (subst (λ (y : List ℕ). Has s y) (o .0) (chunk-counted (a .0) d s x (a .1) (a .3) l m));
