@@ -1,13 +1,10 @@
-use mathlib.Core.Path.{_≡_, refl, sym, ap₂, _∙_}
+use mathlib.Core.Path.{_≡_, refl, sym, ap, _∙_}
 use Prim.Native.Nat.{ℕ, _+_, _-_, _≤_}
 use native.Mathlib.Omega.{arith}
-use lib.ListN.{length, getD, set, length-set}
-use lib.Bits.{bitXor}
+use lib.ListN.{length}
 use Rattle.defs.specs.Bytes.{part, splice, xors}
-use Rattle.defs.specs.Engine.Call.{close}
 use Rattle.laws.specs.Splice.{splice-nil}
-use Rattle.laws.specs.Turns.{still-here, still-apart, turn, length-xors-part}
-use Rattle.laws.specs.Xor.{xors-part-suc}
+use Rattle.blocks.specs.Held.{still-ahead, piece-more, still-beside, apart-rest}
 use Rattle.blocks.proofs.xor_within.Statement.{statement}
 use Rattle.blocks.proofs.xor_within.Tie as tie
 
@@ -19,25 +16,19 @@ abbrev μ-loop : tie.MeasureT-loop
 
 loop-holds : tie.Need-loop-holds Inv-loop μ-loop
 unfolding xors part
-loop-holds c = (omega arith, refl, sym (splice-nil (c .args .buf .now) (c .args .a)))
+loop-holds c = (omega arith, refl, sym (splice-nil (c .before .args .buf .now) (c .before .args .a)))
 
-add-buf : tie.Need-add-buf Inv-loop μ-loop
-add-buf c = omega arith
+sub-loop : tie.Need-sub-loop Inv-loop μ-loop
+sub-loop c = omega arith
 
-slice-read-buf : tie.Need-slice-read-buf Inv-loop μ-loop
-slice-read-buf c = omega arith
+add-xor-piece-within : tie.Need-add-xor-piece-within Inv-loop μ-loop
+add-xor-piece-within c = omega arith
 
-add-buf-2 : tie.Need-add-buf-2 Inv-loop μ-loop
-add-buf-2 c = omega arith
+add-xor-piece-within-2 : tie.Need-add-xor-piece-within-2 Inv-loop μ-loop
+add-xor-piece-within-2 c = omega arith
 
-slice-read-buf-2 : tie.Need-slice-read-buf-2 Inv-loop μ-loop
-slice-read-buf-2 c = omega arith
-
-add-buf-3 : tie.Need-add-buf-3 Inv-loop μ-loop
-add-buf-3 c = omega arith
-
-slice-write-buf : tie.Need-slice-write-buf Inv-loop μ-loop
-slice-write-buf c = omega arith
+xor-piece-within-requires : tie.Need-xor-piece-within-requires Inv-loop μ-loop
+xor-piece-within-requires c κs = omega arith
 
 add-i : tie.Need-add-i Inv-loop μ-loop
 add-i c = omega arith
@@ -47,21 +38,48 @@ loop-less c = omega arith
 
 loop-again : tie.Need-loop-again Inv-loop μ-loop
 loop-again c =
-    let l = c .before .before .before .loop in
+    let l = c .before .before .before .before .before .loop in
+    let a = c .before .before .before .before .before .before .before .args in
+    let h = c .before .before .before .before .before .before .before .pre in
+    let q = c .before .before .xor-piece-within in
+    let d = a .buf .now in (
+      omega arith,
+      q .kept .0 ∙ l .inv .1,
+      q .ensures ∙ piece-more d (l .buf) d (a .a) (a .b) (l .i) 64 (l .inv .2) (omega arith) (part (a .a + l .i) 64 (l .buf)) (part (a .b + l .i) 64 (l .buf)) (omega arith)
+          (still-ahead d (l .buf) d (a .a) (a .b) (l .i) 64 (l .inv .2) (omega arith)) (still-beside d (l .buf) (a .a) (a .b) (l .i) 64 (a .n) (l .inv .2) (h .2) (omega arith) (h .0) (h .1)),
+    )
+
+add-xor-bytes-within : tie.Need-add-xor-bytes-within Inv-loop μ-loop
+add-xor-bytes-within c = omega arith
+
+add-xor-bytes-within-2 : tie.Need-add-xor-bytes-within-2 Inv-loop μ-loop
+add-xor-bytes-within-2 c = omega arith
+
+sub-xor-bytes-within : tie.Need-sub-xor-bytes-within Inv-loop μ-loop
+sub-xor-bytes-within c = omega arith
+
+xor-bytes-within-requires : tie.Need-xor-bytes-within-requires Inv-loop μ-loop
+xor-bytes-within-requires c κs =
+    let l = c .before .before .loop in
     let a = c .before .before .before .before .args in
     let h = c .before .before .before .before .pre in
-    let d = a .buf .now in
-    let s = xors (part (a .a) (l .i) d) (part (a .b) (l .i) d) in
-    let n : length s ≡ l .i = length-xors-part d (part (a .b) (l .i) d) (a .a) (l .i) (omega arith) in
-    let q : getD (l .buf) (a .a + l .i) 0 ≡ getD d (a .a + l .i) 0 = still-here d (l .buf) (a .a) (l .i) s (l .inv .2) n (omega arith) in
-    let r : getD (l .buf) (a .b + l .i) 0 ≡ getD d (a .b + l .i) 0 = still-apart d (l .buf) (a .a) (l .i) s (l .inv .2) n (a .b) (a .n) (h .2) (omega arith) (omega arith) in
-    (omega arith, simp length-set (l .inv .1), ap₂ (λ (x y : ℕ). set (l .buf) (a .a + l .i) (bitXor x y)) q r ∙ turn d (l .buf) (a .a) (l .i) s (l .inv .2) n (bitXor (getD d (a .a + l .i) 0) (getD d (a .b + l .i) 0)) (xors (part (a .a) (l .i + 1) d) (part (a .b) (l .i + 1) d)) (omega arith) (xors-part-suc d d (a .a) (a .b) (l .i) (omega arith) (omega arith)))
+    (omega arith, omega arith, apart-rest (a .a) (a .b) (a .n) (l .i) (h .2) (l .inv .0))
 
 same-length : tie.Need-same-length Inv-loop μ-loop
-same-length c = c .before .loop .inv .1
+same-length c = c .before .before .xor-bytes-within .kept .0 ∙ c .before .before .before .before .before .loop .inv .1
 
 returns : tie.Need-returns Inv-loop μ-loop
-returns c = let e : c .before .loop .i ≡ c .before .before .args .n = omega arith in rw e at (c .before .loop .inv .2)
+returns c =
+    let l = c .before .before .before .before .before .loop in
+    let a = c .before .before .before .before .before .before .before .args in
+    let h = c .before .before .before .before .before .before .before .pre in
+    let d = a .buf .now in
+    let n = a .n - l .i in
+    let e : l .i + n ≡ a .n = omega arith in
+    c .before .before .xor-bytes-within .ensures
+    ∙ piece-more d (l .buf) d (a .a) (a .b) (l .i) n (l .inv .2) (omega arith) (part (a .a + l .i) n (l .buf)) (part (a .b + l .i) n (l .buf)) (omega arith)
+    (still-ahead d (l .buf) d (a .a) (a .b) (l .i) n (l .inv .2) (omega arith)) (still-beside d (l .buf) (a .a) (a .b) (l .i) n (a .n) (l .inv .2) (h .2) (omega arith) (h .0) (h .1))
+    ∙ ap (λ (k : ℕ). splice d (a .a) (xors (part (a .a) k d) (part (a .b) k d))) e
 
 pub xor-within-spec : {M : Type 1} → statement M
 xor-within-spec =
@@ -70,14 +88,16 @@ xor-within-spec =
     Inv-loop
     μ-loop
     loop-holds
-    add-buf
-    slice-read-buf
-    add-buf-2
-    slice-read-buf-2
-    add-buf-3
-    slice-write-buf
+    sub-loop
+    add-xor-piece-within
+    add-xor-piece-within-2
+    xor-piece-within-requires
     add-i
     loop-less
     loop-again
+    add-xor-bytes-within
+    add-xor-bytes-within-2
+    sub-xor-bytes-within
+    xor-bytes-within-requires
     same-length
     returns)

@@ -6,8 +6,8 @@ use Rattle.defs.specs.Bytes.{part, splice}
 use Rattle.defs.specs.Engine.Call.{close}
 use Rattle.laws.specs.Splice.{length-part, splice-nil}
 use Rattle.laws.specs.Turns.{still-apart, turn, part-more}
-use Rattle.blocks.proofs.copy_within.Statement.{statement}
-use Rattle.blocks.proofs.copy_within.Tie as tie
+use Rattle.blocks.proofs.copy_long_within.Statement.{statement}
+use Rattle.blocks.proofs.copy_long_within.Tie as tie
 
 abbrev Inv-loop : tie.InvT-loop
 Inv-loop buf₀ a b n i₀ buf i = (i ≤ n) × (length buf ≡ length buf₀) × (buf ≡ splice buf₀ a (part b i buf₀))
@@ -54,8 +54,8 @@ same-length c = c .before .loop .inv .1
 returns : tie.Need-returns Inv-loop μ-loop
 returns c = let e : c .before .loop .i ≡ c .before .before .args .n = omega arith in rw e at (c .before .loop .inv .2)
 
-pub copy-within-spec : {M : Type 1} → statement M
-copy-within-spec =
+pub copy-long-within-spec : {M : Type 1} → statement M
+copy-long-within-spec =
     tie.close
     (tie.spec
     Inv-loop

@@ -7,8 +7,8 @@ use Rattle.defs.specs.Bytes.{splice}
 use Rattle.defs.specs.Engine.Call.{close}
 use Rattle.laws.specs.Splice.{splice-nil}
 use Rattle.laws.specs.Turns.{turn, take-more}
-use Rattle.blocks.proofs.copy_part.Statement.{statement}
-use Rattle.blocks.proofs.copy_part.Tie as tie
+use Rattle.blocks.proofs.copy_long.Statement.{statement}
+use Rattle.blocks.proofs.copy_long.Tie as tie
 
 abbrev Inv-loop : tie.InvT-loop
 Inv-loop dst₀ at src i₀ dst i = (i ≤ length src) × (length dst ≡ length dst₀) × (dst ≡ splice dst₀ at (take i src))
@@ -51,8 +51,8 @@ returns c =
     let e : length (a .src .now) ≤ c .before .loop .i = omega arith in
     c .before .loop .inv .2 ∙ ap (splice (a .dst .now) (a .at)) (take-all (c .before .loop .i) (a .src .now) e)
 
-pub copy-part-spec : {M : Type 1} → statement M
-copy-part-spec =
+pub copy-long-spec : {M : Type 1} → statement M
+copy-long-spec =
     tie.close
     (tie.spec
     Inv-loop
