@@ -1,0 +1,85 @@
+use Rattle.cabi.specs.Told.{lending, hears}
+use Rattle.cabi.specs.Writes.{hears-short, hears-write}
+use Rattle.cabi.specs.declared.Told.{Told}
+use Rattle.calls.specs.Left.{after}
+use Rattle.defs.specs.Engine.{callDisk, Lent, lentDisk, lentMemory}
+use Rattle.defs.specs.Engine.Call.{write}
+use Rattle.defs.specs.Memory.{mkMemory}
+use Rattle.defs.specs.Params.{mkParams}
+use Rattle.defs.specs.declared.Params.{Params}
+use Rattle.defs.specs.declared.State.{State}
+use borrow.Author.Needs.{needs}
+use mathlib.Core.Path.{_≡_, sym, ap, _∙_}
+use Rattle.cabi.proofs.sorgizhed_write.Statement.{statement}
+use Rattle.cabi.proofs.sorgizhed_write.Tie as tie
+
+state-len-requires : tie.Need-state-len-requires
+state-len-requires c κs = search needs
+
+short-of-requires : tie.Need-short-of-requires
+short-of-requires c κs = search needs
+
+returns : tie.Need-returns
+returns c =
+    let a = c .before .before .before .before .before .before .before .before .before .before .args in
+    let p : Params = mkParams (a .n) (a .b) (a .z) (a .s) (a .g) (a .l) in
+    let l : Lent = lending (a .image .now) (a .pointers .now) (a .addresses .now) (a .compact .now) (a .inflight .now) (a .state .now) in
+    ap (λ (x : Told). hears x l (a .block .now)) (c .short-of .ensures) ∙ hears-short p l (a .address) (a .block .now) (a .count) (λ q. c .before .if1 .taken (q ∙ sym (c .before .before .state-len .ensures)))
+
+decode-requires : tie.Need-decode-requires
+decode-requires c κs = c .before .if1 .left ∙ c .before .before .state-len .ensures
+
+write-requires : tie.Need-write-requires
+write-requires c κs = search needs
+
+finish-requires : tie.Need-finish-requires
+finish-requires c κs = c .before .before .before .before .before .before .before .before .before .before .before .before .before .before .before .before .before .before .before .if1 .left ∙ c .before .before .before .before .before .before .before .before .before .before .before .before .before .before .before .before .before .before .before .before .state-len .ensures
+
+same-length : tie.Need-same-length
+same-length c = search needs
+
+same-length-2 : tie.Need-same-length-2
+same-length-2 c = search needs
+
+same-length-3 : tie.Need-same-length-3
+same-length-3 c = search needs
+
+same-length-4 : tie.Need-same-length-4
+same-length-4 c = search needs
+
+same-length-5 : tie.Need-same-length-5
+same-length-5 c = search needs
+
+same-length-6 : tie.Need-same-length-6
+same-length-6 c = search needs
+
+returns-2 : tie.Need-returns-2
+unfolding lentDisk lentMemory
+returns-2 c =
+    let a = c .before .before .before .before .before .before .before .before .before .before .before .before .before .before .before .before .before .before .before .before .before .before .before .before .before .before .before .before .before .before .before .args in
+    let p : Params = mkParams (a .n) (a .b) (a .z) (a .s) (a .g) (a .l) in
+    let l : Lent = lending (a .image .now) (a .pointers .now) (a .addresses .now) (a .compact .now) (a .inflight .now) (a .state .now) in
+    let w = c .before .before .before .before .before .before .before .before .before .before .before .before .before .before .write .last in
+    let e : after (c .before .before .before .before .before .before .before .before .before .before .before .before .before .before .write .result) (w .1 .0) (w .1 .1 .0) (w .1 .1 .1 .0) (w .1 .1 .1 .1 .0) (w .1 .1 .1 .1 .1 .0) (a .block .now)
+    ≡ callDisk p (lentDisk l) (lentMemory l) (write (a .address) (a .block .now) (a .count)) =
+    c .before .before .before .before .before .before .before .before .before .before .before .before .before .before .write .ensures ∙ ap (λ (x : State). callDisk p (lentDisk l) (mkMemory x (a .addresses .now) (a .compact .now) (a .inflight .now)) (write (a .address) (a .block .now) (a .count))) (c .before .before .before .before .before .before .before .before .before .before .before .before .before .before .before .before .before .before .before .before .decode .ensures) in
+    hears-write p l (a .address) (a .block .now) (a .count) (c .before .before .before .before .before .before .before .before .before .before .before .before .before .before .before .before .before .before .before .before .before .before .if1 .left ∙ c .before .before .before .before .before .before .before .before .before .before .before .before .before .before .before .before .before .before .before .before .before .before .before .state-len .ensures) (c .before .before .before .before .before .before .before .before .before .before .before .before .before .before .write .result) (w .1 .0) (w .1 .1 .0) (w .1 .1 .1 .0) (w .1 .1 .1 .1 .0) (w .1 .1 .1 .1 .1 .0)
+    (c .before .before .finish .last .0) (c .before .before .finish .result) e (c .before .before .finish .ensures .0) (c .before .before .finish .ensures .1)
+
+pub sorgizhed-write-spec : {M : Type 1} → statement M
+sorgizhed-write-spec =
+    tie.close
+    (tie.spec
+    state-len-requires
+    short-of-requires
+    returns
+    decode-requires
+    write-requires
+    finish-requires
+    same-length
+    same-length-2
+    same-length-3
+    same-length-4
+    same-length-5
+    same-length-6
+    returns-2)
