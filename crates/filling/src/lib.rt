@@ -2,7 +2,7 @@
 ghost use mathlib.Core.Path.{_≡_};
 ghost use mathlib.Core.Bool.{true, false, cond, not, _&&_};
 ghost use mathlib.Core.List.{List, []};
-ghost use Prim.Native.Nat.{ℕ, _≤_, _<_};
+ghost use Prim.Native.Nat.{ℕ, _<_};
 ghost use lib.ListN.{length};
 ghost use Rattle.defs.specs.Lists.{any};
 ghost use Rattle.defs.specs.Counts.{lastCount};
@@ -51,8 +51,8 @@ pub fn opens(p: Params, state: State) -> bool
 pub fn no_stamp(state: State) -> bool
     ensures { λ r. ⌜ r ≡ noStamp state ⌝ }
 {
-    let t = state.stamp.0;
-    t == 0xffff_ffff_ffff_ffff
+    let last = Stamp::LAST;
+    state.stamp.0 == last.0
 }
 
 // 01, Refusals, 6: no next serial where a segment must be opened.
@@ -62,8 +62,8 @@ pub fn no_serial(p: Params, state: State) -> bool
     if !opens(p, state) {
         return false;
     }
-    let n = state.serial.0;
-    n == 0xffff_ffff_ffff_ffff
+    let last = Serial::LAST;
+    state.serial.0 == last.0
 }
 
 // The stripe of eighth i is in flight, and of another group than the next one.

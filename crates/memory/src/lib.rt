@@ -2,10 +2,10 @@
 // that its contract names.
 ghost use mathlib.Core.Path.{_≡_};
 ghost use mathlib.Core.Bool.{cond, not, _&&_};
-ghost use Prim.Native.Nat.{_-_, _*_, _^_, _≤_, _<_};
+ghost use Prim.Native.Nat.{_*_, _^_, _<_};
 ghost use lib.Bits.{bitOr};
 ghost use lib.Dec.{ltb, eqb};
-ghost use lib.ListN.{length, getD};
+ghost use lib.ListN.{length};
 ghost use Rattle.defs.specs.Lists.{all, only};
 ghost use Rattle.defs.specs.Params.{dataCount};
 ghost use Rattle.defs.specs.Memory.{slots, stripeIn, filledIn, landedIn, isWrite, openSegment, isFree, isFull, isFilling, inFlight, freeSlot, fillingSlot, hasFilling, holdsAt, holds, slotOk, stateOk, idleState, zeroState, setStamp, setOpen, setClosed, beginStripe, addEntry, markLanded, freeStripe};

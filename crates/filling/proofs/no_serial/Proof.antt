@@ -20,8 +20,8 @@ returns c =
 returns-2 : tie.Need-returns-2
 unfolding noSerial
 returns-2 c =
-    let a = c .before .before .args in
-    ap (λ (x : Bool). x && eqb (a .state .serial .0) lastCount) (sym (not-false (c .before .opens .result) (c .if1 .left)) ∙ c .before .opens .ensures)
+    let a = c .before .before .before .before .args in
+    ap (λ (x : Bool). x && eqb (a .state .serial .0) lastCount) (sym (not-false (c .before .before .before .opens .result) (c .before .before .if1 .left)) ∙ c .before .before .before .opens .ensures)
 
 pub no-serial-spec : {M : Type 1} → statement M
 no-serial-spec = tie.close (tie.spec opens-requires returns returns-2)

@@ -1,0 +1,4 @@
+pub mod Told
+pub mod Numbers
+pub mod Evaluation
+pub mod Parts

@@ -1,0 +1,3 @@
+pub mod Observed
+pub mod Table
+pub mod Witness
