@@ -48,6 +48,7 @@ InOrder p v = (z : ℕ) → Has z (remaining p v (named noDrive)) → segmentOf 
 -- the memory that a restart makes of the unsealed segments: open or not, its zone, its next stripe
 pub record Opened (p : Params) (r : Ranged p) (g : Ghost) (v : View) (b : Bool) (z n : ℕ) : Type 0 where
   pub few : n ≤ p .S
+  -- it isn't whole
   pub less : b ≡ true → n < p .S
   pub lone : (y : ℕ) → Ragged (parOf p r) (g .un) (itemsIn p v) y → (b ≡ true) × (y ≡ z)
   pub whole : b ≡ true → m-Whole (parOf p r) (g .un) (itemsIn p v) z
@@ -181,7 +182,7 @@ module _ (p : Params) (r : Ranged p) (g : Ghost) (v : View) (k : Settled p r g v
                     counted-stripe p r g v (k .on) noDrive none-choice (a .0) s b (subst (λ (y : List ℕ). Has s y) (sym (o .0)) (has-below s (length (counted p (named noDrive) (G (a .0)))) l)) in
                     (pieceAt p r g v (k .on) noDrive none-choice (a .0) s d, st .on d h (trust d h .1));
                 short = λ w d l. no-footer (a .0) (a .1) (a .3) (o .2) d l (decLt (suc (p .S)) (length (itemsIn p v d (a .0))));
-              is = inl (refl, open-at q l e (a .0) (a .2), next-at q l e (a .0) (a .2));
+                is = inl (refl, open-at q l e (a .0) (a .2), next-at q l e (a .0) (a .2));
               },
             )
           where

@@ -41,14 +41,14 @@ use Rattle.bridge.specs.Named.{none-named, present-all}
 use Rattle.bridge.specs.Ranges.{parOf}
 use Rattle.bridge.specs.Segs.{zone-bytes, zone-len}
 use Rattle.bridge.specs.Shape.{Shape, zone-set, zone-set-other, shape-zone, shape-store}
-use Rattle.bridge.specs.Sound.{Sound, sound-fits, bytes-store, items-put-kind}
+use Rattle.bridge.specs.Sound.{Sound, AllSound, sound-fits, bytes-store, items-put-kind}
 use Rattle.bridge.specs.Stripes.{pointer-is, offset-on, counted-has, pieceAt, counted-stripe}
 use Rattle.bridge.specs.ZoneBytes.{sparesIn, blockIn, Kind, kindItem, old-spares}
 use Rattle.restarts.specs.Ends.{InOrder, none-choice, full-is, one-of}
 use Rattle.restarts.specs.Link.{stateOn, Linked, linked-on, linked-step}
 use Rattle.restarts.specs.Order.{pigeon, flat-same, pointer-zone}
 use Rattle.restarts.specs.Rest.{Settled, far-off, settled-remains, settled-used}
-use Rattle.restarts.specs.Runs.{Always, run-always, run-end, runs-always, runs-end}
+use Rattle.restarts.specs.Runs.{Always, run-always, run-end, runs-always, runs-end, run-sound, runs-sound}
 use Rattle.restarts.specs.Same.{segment-same}
 
 -- all pass where none is left out
@@ -203,6 +203,28 @@ module _ (p : Params) (r : Ranged p) (g₀ : Ghost) (a : List Val) (s : Bool) wh
               done : (e : ℕ) → e < suc d → e < p .N → Dec (e ≡ d) → pointerAt u e o ≡ capacity p
               done e b l (yes q) = unfold capacity in (ap (λ (x : ℕ). pointerAt u x o) q ∙ i .at ∙ (let x : suc (p .S + footers p) ≡ 1 + p .S + footers p = omega arith in x))
               done e b l (no q) = i .done e (omega arith) l
+
+      within-sound : (d j : ℕ) (w : View) → d < p .N → j < footers p → Within d j w → Sound p w (put d o (footerBlock p (sparesIn p (zoneAt v d o)) j) zeroSpare)
+      within-sound d j w dl jl k = subst (λ (ss : List (List ℕ)). Sound p w (put d o (footerBlock p ss j) zeroSpare)) (k .spares) (sound w d j (k .foot) dl (k .at) jl)
+
+      drive-sound : ((d : ℕ) → d < p .N → pointerAt v d o ≡ suc (p .S + footersStored p (zoneAt v d o)))
+          → (d : ℕ) (w : View) → d < p .N → Upto d w → AllSound p w (feetOn d) × Upto (suc d) (storeAll storeView (feetOn d) w)
+      drive-sound starts d w dl k = (
+        run-sound p (Within d) (λ j. put d o (footerBlock p (sparesIn p (zoneAt v d o)) j) zeroSpare) (footers p) (λ j u l i. within-step d j u dl l i) (λ j u l i. within-sound d j u dl l i)
+            (footersStored p (zoneAt v d o)) (footers p - footersStored p (zoneAt v d o)) (omega (arith, stored-few (zoneAt v d o))) w (record {
+              foot = k .foot;
+              at = pointer-zone w v d o (k .left d (omega arith)) ∙ starts d dl;
+              spares = ap (sparesIn p) (k .left d (omega arith));
+              done = k .done;
+              left = λ e b. k .left e (omega arith);
+              other = k .other;
+            }),
+        drive-step starts d w dl k .1,
+      )
+
+      pub feet-sound : ((d : ℕ) → d < p .N → pointerAt v d o ≡ suc (p .S + footersStored p (zoneAt v d o))) → Footing o v → AllSound p v (flat feetOn (below (p .N)))
+      unfolding below
+      feet-sound starts k = runs-sound p Upto feetOn (p .N) (drive-sound starts) 0 (p .N) (omega arith) v (record { foot = k; done = λ e b l. absurd (let q : ⊥ = omega arith in q); left = λ e b. refl; other = λ e y n. refl })
 
       pub feet-all : ((d : ℕ) → d < p .N → pointerAt v d o ≡ suc (p .S + footersStored p (zoneAt v d o))) → Footing o v
           → Always (Footing o) v (flat feetOn (below (p .N))) × Upto (p .N) (storeAll storeView (flat feetOn (below (p .N))) v)

@@ -23,6 +23,7 @@ use Rattle.defs.specs.Segments.{headerAt, remaining, Segment, segmentOf, segmen
 use Rattle.laws.specs.Geometry.{Ranged}
 use Rattle.laws.specs.Ranges.{and-both, length-below, length-keep, sameList-true}
 use Rattle.laws.specs.Stores.{storeAll-append}
+use Rattle.machine.specs.Drop.{dropped}
 use Rattle.machine.specs.Exec.{true≢false}
 use Rattle.machine.specs.Facts.Pair.{alone}
 use Rattle.machine.specs.Facts.{Ghost}
@@ -38,13 +39,15 @@ use Rattle.bridge.specs.Named.{none-named}
 use Rattle.bridge.specs.Refuse.{one-unsealed, free-zone}
 use Rattle.bridge.specs.SegFacts.{seg-low, begun-on, serial-is}
 use Rattle.bridge.specs.Segs.{OnDrives, zone-bytes, head-serials}
+use Rattle.bridge.specs.Sound.{AllSound, sound-append}
 use Rattle.bridge.specs.Stripes.{pointer-is}
 use Rattle.bridge.specs.ZoneBytes.{sparesIn, blockIn}
 use Rattle.restarts.specs.Done.{serialTop, RestartDone, plain-done}
-use Rattle.restarts.specs.Drops.{dropItems, free-has, dropping}
+use Rattle.restarts.specs.Drops.{dropItems, free-has, drops-follow, dropping}
 use Rattle.restarts.specs.Ends.{InOrder, has-us, one-of}
-use Rattle.restarts.specs.Feet.{Footing, Upto, feet-all, whole-stripes, whole-pointers, feet-are, feet-order}
+use Rattle.restarts.specs.Feet.{Footing, Upto, feet-sound, feet-all, whole-stripes, whole-pointers, feet-are, feet-order}
 use Rattle.restarts.specs.Link.{Linked, linked-on, CutTo}
+use Rattle.restarts.specs.Moved.{rewrite-follows}
 use Rattle.restarts.specs.MovedEnd.{drops-cut, moved-cut, moved-done}
 use Rattle.restarts.specs.Rest.{Settled, settled-used, dropped-items, after-settled, zone-after, free-after, remaining-same, segments-same}
 use Rattle.restarts.specs.Runs.{Always, always-append}
@@ -148,6 +151,9 @@ module _ (p : Params) (r : Ranged p) (v₀ : View) (g₀ : Ghost) (a : List Val)
       pub feet-both : Always (CutTo p r g₀ a s) v (missingFooters p (segmentOf p v (named noDrive) o)) × RestartDone p r g₀ a s (storeAll storeView (missingFooters p (segmentOf p v (named noDrive) o)) v)
       feet-both = subst (λ (l : List Store). Always (CutTo p r g₀ a s) v l × RestartDone p r g₀ a s (storeAll storeView l v)) (sym (feet-are p r (withPr g₀ alone) v k o i w)) (feet-cut, feet-done)
 
+      feet-right : AllSound p v (missingFooters p (segmentOf p v (named noDrive) o))
+      feet-right = subst (AllSound p v) (sym (feet-are p r (withPr g₀ alone) v k o i w)) (feet-sound p r g₀ a s o ob v (whole-pointers p r (withPr g₀ alone) v k o i w) footing)
+
     -- ---- a rewrite
     abbrev w? : ℕ
     w? = firstOr 0 (freeZones p gs)
@@ -228,6 +234,9 @@ module _ (p : Params) (r : Ranged p) (v₀ : View) (g₀ : Ghost) (a : List Val)
         moved-done p r v₀ g₀ a s m lk none o i un (firstOr 0 (freeZones p gs)) wb empty? (suc (greatestSerial gs)) next-low top unfull,
       )
 
+      moved-right : AllSound p v (rewriteStores p (segmentOf p v (named noDrive) o) (firstOr 0 (freeZones p gs)) (suc (greatestSerial gs)))
+      moved-right = rewrite-follows p r (withPr g₀ alone) v k o i (firstOr 0 (freeZones p gs)) wb empty? (suc (greatestSerial gs)) next-low .sound
+
     -- ---- what mending o comes to
     abbrev Both : List Store → Type 0
     Both l = Always (CutTo p r g₀ a s) v l × RestartDone p r g₀ a s (storeAll storeView l v)
@@ -270,6 +279,18 @@ module _ (p : Params) (r : Ranged p) (v₀ : View) (g₀ : Ghost) (a : List Val)
 
         uncounted-in : uncounted p (named noDrive) G ≡ []
         uncounted-in = subst (λ (x : ℕ). uncounted p x G ≡ []) (sym none-named) (isNil-nil (uncounted p 0 G) (two .1))
+
+    mended-right : AllSound p v (mendStores p gs (segmentOf p v₀ (named noDrive) o))
+    mended-right = subst (λ (x : Segment). AllSound p v (mendStores p gs x)) same-G (go (isWhole p (segmentOf p v (named noDrive) o)) refl (isRagged p (segmentOf p v (named noDrive) o)) refl)
+      where
+        is : (b c : Bool) → isWhole p (segmentOf p v (named noDrive) o) ≡ b → isRagged p (segmentOf p v (named noDrive) o) ≡ c
+            → mendStores p gs (segmentOf p v (named noDrive) o) ≡ cond b (missingFooters p (segmentOf p v (named noDrive) o)) (cond c (rewriteStores p (segmentOf p v (named noDrive) o) (firstOr 0 (freeZones p gs)) (suc (greatestSerial gs))) [])
+        is b c e f = unfold mendStores in ap₂ (λ (x y : Bool). cond x (missingFooters p (segmentOf p v (named noDrive) o)) (cond y (rewriteStores p (segmentOf p v (named noDrive) o) (firstOr 0 (freeZones p gs)) (suc (greatestSerial gs))) [])) e f
+
+        go : (b : Bool) → isWhole p (segmentOf p v (named noDrive) o) ≡ b → (c : Bool) → isRagged p (segmentOf p v (named noDrive) o) ≡ c → AllSound p v (mendStores p gs (segmentOf p v (named noDrive) o))
+        go true e c f = subst (AllSound p v) (sym (is true c e f)) (feet-right e)
+        go false e true f = subst (AllSound p v) (sym (is false true e f)) (moved-right (ap (isRagged p) (sym same-G) ∙ f))
+        go false e false f = subst (AllSound p v) (sym (is false false e f)) tt
 
     mended : Both (mendStores p gs (segmentOf p v₀ (named noDrive) o))
     mended = subst (λ (x : Segment). Both (mendStores p gs x)) same-G (go (isWhole p (segmentOf p v (named noDrive) o)) refl (isRagged p (segmentOf p v (named noDrive) o)) refl)
@@ -323,6 +344,41 @@ module _ (p : Params) (r : Ranged p) (v₀ : View) (g₀ : Ghost) (a : List Val)
       go (q ∷ []) e =
           let z : (z : ℕ) × Has z (remaining p v₀ (named noDrive)) × (q ≡ segmentOf p v₀ (named noDrive) z) × (segmentOf p v₀ (named noDrive) z .full ≡ false) = from q (subst (λ (x : List Segment). Has q x) (sym e) (inl refl)) in
           subst (λ (x : List Store). Whole? (dropStores p gs ++ x)) (single q (z .0) (z .2)) (join (mendStores p gs (segmentOf p v₀ (named noDrive) (z .0))) (mended (z .0) (z .1) (z .3)))
+        where
+          single : (q : Segment) (z : ℕ) → q ≡ segmentOf p v₀ (named noDrive) z → mendStores p gs (segmentOf p v₀ (named noDrive) z) ≡ flat (mendStores p gs) (q ∷ [])
+          single q z h = unfold flat in (ap (mendStores p gs) (sym h) ∙ sym (append-nil (mendStores p gs q)))
+      go (q ∷ (x ∷ l)) e = absurd (let y : length (unsealed gs) ≡ suc (suc (length l)) = ap length e in let j : ⊥ = omega (arith, short, y) in j)
+
+  -- each of its stores is of the right kind
+  pub healthy-sound : AllSound p v₀ (restartStores p (named noDrive) gs)
+  healthy-sound = subst (AllSound p v₀) (sym stores-are) (go (unsealed gs) refl)
+    where
+      stores-are : restartStores p (named noDrive) gs ≡ dropStores p gs ++ flat (mendStores p gs) (unsealed gs)
+      stores-are = unfold restartStores in cond-true (eqb (named noDrive) 0) (dropStores p gs ++ flat (mendStores p gs) (unsealed gs)) [] (eq-eqb (named noDrive) 0 none-named)
+
+      short : length (unsealed gs) ≤ 1
+      short = one-unsealed p r g₀ v₀ on₀ (λ x q. lk .inv .ones x q) noDrive (inl none)
+
+      from : (q : Segment) → Has q (unsealed gs) → (z : ℕ) × Has z (remaining p v₀ (named noDrive)) × (q ≡ segmentOf p v₀ (named noDrive) z) × (segmentOf p v₀ (named noDrive) z .full ≡ false)
+      from q i = unfold unsealed segments in go (keep-has (λ (g : Segment). not (g .full)) q (map (segmentOf p v₀ (named noDrive)) (remaining p v₀ (named noDrive))) (reveal i))
+        where
+          reveal : Has q (unsealed gs) → Has q (keep (λ (g : Segment). not (g .full)) (map (segmentOf p v₀ (named noDrive)) (remaining p v₀ (named noDrive))))
+          reveal i = unfold unsealed segments in i
+
+          go : Has q (map (segmentOf p v₀ (named noDrive)) (remaining p v₀ (named noDrive))) × (not (q .full) ≡ true)
+              → (z : ℕ) × Has z (remaining p v₀ (named noDrive)) × (q ≡ segmentOf p v₀ (named noDrive) z) × (segmentOf p v₀ (named noDrive) z .full ≡ false)
+          go (h, f) =
+              let b : (z : ℕ) × Has z (remaining p v₀ (named noDrive)) × (q ≡ segmentOf p v₀ (named noDrive) z) = map-has (segmentOf p v₀ (named noDrive)) q (remaining p v₀ (named noDrive)) h in
+              (b .0, b .1, b .2, ap (λ (x : Segment). x .full) (sym (b .2)) ∙ not-true (q .full) f)
+
+      dropped : (l : List Store) → AllSound p v l → AllSound p v₀ (dropStores p gs ++ l)
+      dropped l k = sound-append p v₀ (dropStores p gs) l (drops-follow p r v₀ v₀ (named noDrive) .sound) k
+
+      go : (l : List Segment) → unsealed gs ≡ l → AllSound p v₀ (dropStores p gs ++ flat (mendStores p gs) l)
+      go [] e = dropped (flat (mendStores p gs) []) (unfold flat in tt)
+      go (q ∷ []) e =
+          let z : (z : ℕ) × Has z (remaining p v₀ (named noDrive)) × (q ≡ segmentOf p v₀ (named noDrive) z) × (segmentOf p v₀ (named noDrive) z .full ≡ false) = from q (subst (λ (x : List Segment). Has q x) (sym e) (inl refl)) in
+          subst (λ (x : List Store). AllSound p v₀ (dropStores p gs ++ x)) (single q (z .0) (z .2)) (dropped (mendStores p gs (segmentOf p v₀ (named noDrive) (z .0))) (mended-right (z .0) (z .1) (z .3)))
         where
           single : (q : Segment) (z : ℕ) → q ≡ segmentOf p v₀ (named noDrive) z → mendStores p gs (segmentOf p v₀ (named noDrive) z) ≡ flat (mendStores p gs) (q ∷ [])
           single q z h = unfold flat in (ap (mendStores p gs) (sym h) ∙ sym (append-nil (mendStores p gs q)))

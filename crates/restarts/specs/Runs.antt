@@ -5,11 +5,14 @@ use Prim.Native.Nat.{ℕ, zero, suc, _+_, _≤_, _<_}
 use native.Mathlib.Omega.{arith}
 use lib.ListN.{length, take}
 use lib.Seq.{take-all}
+use Rattle.defs.specs.declared.Params.{Params}
 use Rattle.defs.specs.Drives.{View, Store, storeView, storeAll}
 use Rattle.defs.specs.History.{step}
 use Rattle.defs.specs.Lists.{upFrom, flat}
 use Rattle.laws.specs.Stores.{storeAll-append}
+use Rattle.machine.specs.Final.{right}
 use Rattle.machine.specs.Rewrite.{st}
+use Rattle.bridge.specs.Sound.{Sound, AllSound, sound-append}
 
 abbrev pub Always : (View → Type 0) → View → List Store → Type 0
 Always Q v ss = (n : ℕ) → Q (storeAll storeView (take n ss) v)
@@ -54,3 +57,19 @@ module _ (Q : View → Type 0) (D : ℕ → View → Type 0) (f : ℕ → List S
 
 pub always-end : (Q : View → Type 0) (v : View) (ss : List Store) → Always Q v ss → Q (storeAll storeView ss v)
 always-end Q v ss a = subst (λ (l : List Store). Q (storeAll storeView l v)) (take-all (length ss) ss (omega arith)) (a (length ss))
+
+-- each store is of the right kind
+module _ (p : Params) (I : ℕ → View → Type 0) (st : ℕ → Store) (hi : ℕ) (step : (j : ℕ) (w : View) → j < hi → I j w → I (suc j) (storeView (st j) w))
+    (right : (j : ℕ) (w : View) → j < hi → I j w → Sound p w (st j)) where
+  pub run-sound : (j n : ℕ) → j + n ≤ hi → (w : View) → I j w → AllSound p w (map st (upFrom j n))
+  unfolding upFrom
+  run-sound j zero b w i = tt
+  run-sound j (suc n) b w i = (right j w (omega arith) i, run-sound (suc j) n (omega arith) (storeView (st j) w) (step j w (omega arith) i))
+
+module _ (p : Params) (D : ℕ → View → Type 0) (f : ℕ → List Store) (hi : ℕ) (step : (j : ℕ) (w : View) → j < hi → D j w → AllSound p w (f j) × D (suc j) (storeAll storeView (f j) w)) where
+  pub runs-sound : (j n : ℕ) → j + n ≤ hi → (w : View) → D j w → AllSound p w (flat f (upFrom j n))
+  unfolding upFrom flat
+  runs-sound j zero b w i = tt
+  runs-sound j (suc n) b w i =
+      let a : AllSound p w (f j) × D (suc j) (storeAll storeView (f j) w) = step j w (omega arith) i in
+      sound-append p w (f j) (flat f (upFrom (suc j) n)) (a .0) (runs-sound (suc j) n (omega arith) (storeAll storeView (f j) w) (a .1))
