@@ -1,15 +1,19 @@
 // The calls of the host, in C: numbers and byte buffers, the state as bytes (01, The array). Each decodes the state, makes the call and, unless
 // it is refused, encodes the state again.
 ghost use mathlib.Core.Path.{_≡_};
-ghost use mathlib.Core.Bool.{cond};
+ghost use mathlib.Core.Bool.{cond, _&&_};
+ghost use mathlib.Core.List.{[]};
+ghost use Prim.Native.Nat.{ℕ};
 ghost use lib.ListN.{length};
 ghost use Rattle.cabi.specs.Told.{toldOf, heard, hears, lending};
-ghost use Rattle.cabi.specs.Writes.{shortAnswer};
+ghost use Rattle.hosts.specs.Shorts.{shortAnswer};
 ghost use Rattle.defs.specs.Answers.{isRefused};
 ghost use Rattle.defs.specs.Engine.{callBytes};
-ghost use Rattle.defs.specs.Engine.Call.{write};
-ghost use Rattle.defs.specs.Memory.{stateLen, stateBytes};
-ghost use Rattle.defs.specs.Params.{mkParams};
+ghost use Rattle.defs.specs.Engine.Call.{write, land, close, reclaim, read, fill};
+ghost use Rattle.defs.specs.Memory.{stateLen, stateBytes, stateOf};
+ghost use Rattle.defs.specs.Params.{mkParams, inRange, imageLen, pointersLen, addressesLen, compactLen, inflightLen};
+ghost use Rattle.defs.specs.Rebuild.{namesMissing};
+ghost use Rattle.defs.specs.Restart.{namesDrive};
 use calls::Done;
 use defs::Address;
 use defs::Answer;
@@ -87,14 +91,188 @@ fn finish(state: &mut [u8], done: Done) -> Told
     r
 }
 
-// 01, Refusals: 1, and then 2 where a buffer has another length.
-fn short_of(p: Params) -> Told
-    ensures { λ r. ⌜ r ≡ toldOf (shortAnswer p) ⌝ }
+// 01, Refusals: 1, where a number is not good, and then 2: a buffer has another length.
+fn short_of(good: bool) -> Told
+    ensures { λ r. ⌜ r ≡ toldOf (shortAnswer good) ⌝ }
 {
-    if shape::in_range(p) {
+    if good {
         return told_of(Answer::Refused(2));
     }
     told_of(Answer::Refused(1))
+}
+
+// 01, Refusals, 1: the parameters, and a restart's missing drive.
+fn good_restart(p: Params, missing: usize) -> bool
+    ensures { λ r. ⌜ r ≡ (inRange p && namesDrive p missing) ⌝ }
+{
+    if !shape::in_range(p) {
+        return false;
+    }
+    if missing < p.N {
+        return true;
+    }
+    missing == 255
+}
+
+// The mask of missing drives in the state's bytes, whatever their length.
+fn missing_in(state: &[u8]) -> u8
+    ensures { λ r. ⌜ r ≡ stateOf (now (state .entry)) .missing ⌝ }
+{
+    if state.len() < 2 {
+        return 0;
+    }
+    state[1]
+}
+
+// 01, Refusals, 1: the parameters, and the drive that the last restart named missing.
+fn good_rebuild(p: Params, state: &[u8], drive: usize) -> bool
+    ensures { λ r. ⌜ r ≡ (inRange p && namesMissing p (stateOf (now (state .entry))) drive) ⌝ }
+{
+    if !shape::in_range(p) {
+        return false;
+    }
+    if p.N <= drive {
+        return false;
+    }
+    missing_in(state) == masks::only_drive(drive)
+}
+
+// The length of the buffer of the drives; 0 where a parameter is outside its range.
+#[no_mangle]
+pub extern "C" fn sorgizhed_image_length(
+    n: usize,
+    b: usize,
+    z: usize,
+    s: usize,
+    g: usize,
+    l: usize,
+) -> usize
+    ensures { λ r. ⌜ r ≡ cond (inRange (mkParams n b z s g l)) (imageLen (mkParams n b z s g l)) 0 ⌝ }
+{
+    let p = Params {
+        N: n,
+        B: b,
+        Z: z,
+        S: s,
+        G: g,
+        L: l,
+    };
+    if shape::in_range(p) {
+        return shape::image_len(p);
+    }
+    0
+}
+
+// The length of the buffer of the write pointers; 0 where a parameter is outside its range.
+#[no_mangle]
+pub extern "C" fn sorgizhed_pointers_length(
+    n: usize,
+    b: usize,
+    z: usize,
+    s: usize,
+    g: usize,
+    l: usize,
+) -> usize
+    ensures { λ r. ⌜ r ≡ cond (inRange (mkParams n b z s g l)) (pointersLen (mkParams n b z s g l)) 0 ⌝ }
+{
+    let p = Params {
+        N: n,
+        B: b,
+        Z: z,
+        S: s,
+        G: g,
+        L: l,
+    };
+    if shape::in_range(p) {
+        return shape::pointers_len(p);
+    }
+    0
+}
+
+// The length of the buffer of the address table; 0 where a parameter is outside its range.
+#[no_mangle]
+pub extern "C" fn sorgizhed_addresses_length(
+    n: usize,
+    b: usize,
+    z: usize,
+    s: usize,
+    g: usize,
+    l: usize,
+) -> usize
+    ensures { λ r. ⌜ r ≡ cond (inRange (mkParams n b z s g l)) (addressesLen (mkParams n b z s g l)) 0 ⌝ }
+{
+    let p = Params {
+        N: n,
+        B: b,
+        Z: z,
+        S: s,
+        G: g,
+        L: l,
+    };
+    if shape::in_range(p) {
+        return shape::addresses_len(p);
+    }
+    0
+}
+
+// The length of the buffer of the compact stripe table; 0 where a parameter is outside its range.
+#[no_mangle]
+pub extern "C" fn sorgizhed_compact_length(
+    n: usize,
+    b: usize,
+    z: usize,
+    s: usize,
+    g: usize,
+    l: usize,
+) -> usize
+    ensures { λ r. ⌜ r ≡ cond (inRange (mkParams n b z s g l)) (compactLen (mkParams n b z s g l)) 0 ⌝ }
+{
+    let p = Params {
+        N: n,
+        B: b,
+        Z: z,
+        S: s,
+        G: g,
+        L: l,
+    };
+    if shape::in_range(p) {
+        return shape::compact_len(p);
+    }
+    0
+}
+
+// The length of the buffer of the stripes in flight; 0 where a parameter is outside its range.
+#[no_mangle]
+pub extern "C" fn sorgizhed_inflight_length(
+    n: usize,
+    b: usize,
+    z: usize,
+    s: usize,
+    g: usize,
+    l: usize,
+) -> usize
+    ensures { λ r. ⌜ r ≡ cond (inRange (mkParams n b z s g l)) (inflightLen (mkParams n b z s g l)) 0 ⌝ }
+{
+    let p = Params {
+        N: n,
+        B: b,
+        Z: z,
+        S: s,
+        G: g,
+        L: l,
+    };
+    if shape::in_range(p) {
+        return shape::inflight_len(p);
+    }
+    0
+}
+
+// The length of the state's bytes.
+#[no_mangle]
+pub extern "C" fn sorgizhed_state_length() -> usize
+    ensures { λ r. ⌜ r ≡ stateLen ⌝ }
+{
+    codec::state_len()
 }
 
 // A write of the host.
@@ -127,7 +305,7 @@ pub extern "C" fn sorgizhed_write(
         L: l,
     };
     if state.len() != codec::state_len() {
-        return short_of(p);
+        return short_of(shape::in_range(p));
     }
     let before = codec::decode(state);
     let done = write::write(
@@ -140,6 +318,222 @@ pub extern "C" fn sorgizhed_write(
         before,
         Address(address),
         block,
+        count,
+    );
+    finish(state, done)
+}
+
+// The first read of the host: where the block lies in the image.
+#[no_mangle]
+pub extern "C" fn sorgizhed_read(
+    n: usize,
+    b: usize,
+    z: usize,
+    s: usize,
+    g: usize,
+    l: usize,
+    image: &[u8],
+    pointers: &[u8],
+    addresses: &[u8],
+    compact: &[u8],
+    inflight: &[u8],
+    state: &[u8],
+    address: u64,
+) -> Told
+    ensures { λ r. ⌜ hears r (lending (now (image .entry)) (now (pointers .entry)) (now (addresses .entry)) (now (compact .entry)) (now (inflight .entry)) (now (state .entry))) [] ≡ heard (callBytes (mkParams n b z s g l) (lending (now (image .entry)) (now (pointers .entry)) (now (addresses .entry)) (now (compact .entry)) (now (inflight .entry)) (now (state .entry))) (read address)) ⌝ }
+{
+    let p = Params {
+        N: n,
+        B: b,
+        Z: z,
+        S: s,
+        G: g,
+        L: l,
+    };
+    if state.len() != codec::state_len() {
+        return short_of(shape::in_range(p));
+    }
+    let before = codec::decode(state);
+    let answer = read::find(
+        p,
+        image,
+        pointers,
+        addresses,
+        compact,
+        inflight,
+        before,
+        Address(address),
+    );
+    told_of(answer)
+}
+
+// The second read of the host, on a lent block.
+#[no_mangle]
+pub extern "C" fn sorgizhed_fill(
+    n: usize,
+    b: usize,
+    z: usize,
+    s: usize,
+    g: usize,
+    l: usize,
+    image: &[u8],
+    pointers: &[u8],
+    addresses: &[u8],
+    compact: &[u8],
+    inflight: &[u8],
+    state: &[u8],
+    address: u64,
+    block: &mut [u8],
+) -> Told
+    ensures { λ r. ⌜ hears r (lending (now (image .entry)) (now (pointers .entry)) (now (addresses .entry)) (now (compact .entry)) (now (inflight .entry)) (now (state .entry))) (now (block .exit)) ≡ heard (callBytes (mkParams n b z s g l) (lending (now (image .entry)) (now (pointers .entry)) (now (addresses .entry)) (now (compact .entry)) (now (inflight .entry)) (now (state .entry))) (fill address (now (block .entry)))) ⌝ }
+{
+    let p = Params {
+        N: n,
+        B: b,
+        Z: z,
+        S: s,
+        G: g,
+        L: l,
+    };
+    if state.len() != codec::state_len() {
+        return short_of(shape::in_range(p));
+    }
+    let before = codec::decode(state);
+    let answer = read::fill(
+        p,
+        image,
+        pointers,
+        addresses,
+        compact,
+        inflight,
+        before,
+        Address(address),
+        block,
+    );
+    told_of(answer)
+}
+
+// A closing of the host: it makes no store, so no count cuts it.
+#[no_mangle]
+pub extern "C" fn sorgizhed_close(
+    n: usize,
+    b: usize,
+    z: usize,
+    s: usize,
+    g: usize,
+    l: usize,
+    image: &[u8],
+    pointers: &[u8],
+    addresses: &[u8],
+    compact: &[u8],
+    inflight: &mut [u8],
+    state: &mut [u8],
+) -> Told
+    ensures { λ r. ⌜ ((count : ℕ) → hears r (lending (now (image .entry)) (now (pointers .entry)) (now (addresses .entry)) (now (compact .entry)) (now (inflight .exit)) (now (state .exit))) [] ≡ heard (callBytes (mkParams n b z s g l) (lending (now (image .entry)) (now (pointers .entry)) (now (addresses .entry)) (now (compact .entry)) (now (inflight .entry)) (now (state .entry))) (close count))) ⌝ }
+{
+    let p = Params {
+        N: n,
+        B: b,
+        Z: z,
+        S: s,
+        G: g,
+        L: l,
+    };
+    if state.len() != codec::state_len() {
+        return short_of(shape::in_range(p));
+    }
+    let before = codec::decode(state);
+    let done = close::close(p, image, pointers, addresses, compact, inflight, before);
+    finish(state, done)
+}
+
+// A landing of the host.
+#[no_mangle]
+pub extern "C" fn sorgizhed_land(
+    n: usize,
+    b: usize,
+    z: usize,
+    s: usize,
+    g: usize,
+    l: usize,
+    image: &mut [u8],
+    pointers: &mut [u8],
+    addresses: &mut [u8],
+    compact: &mut [u8],
+    inflight: &[u8],
+    state: &mut [u8],
+    drive: usize,
+    stripe: usize,
+    count: u64,
+) -> Told
+    ensures { λ r. ⌜ hears r (lending (now (image .exit)) (now (pointers .exit)) (now (addresses .exit)) (now (compact .exit)) (now (inflight .entry)) (now (state .exit))) [] ≡ heard (callBytes (mkParams n b z s g l) (lending (now (image .entry)) (now (pointers .entry)) (now (addresses .entry)) (now (compact .entry)) (now (inflight .entry)) (now (state .entry))) (land drive stripe count)) ⌝ }
+{
+    let p = Params {
+        N: n,
+        B: b,
+        Z: z,
+        S: s,
+        G: g,
+        L: l,
+    };
+    if state.len() != codec::state_len() {
+        return short_of(shape::in_range(p));
+    }
+    let before = codec::decode(state);
+    let done = land::land(
+        p,
+        image,
+        pointers,
+        addresses,
+        compact,
+        inflight,
+        before,
+        drive,
+        stripe,
+        count,
+    );
+    finish(state, done)
+}
+
+// A reclaim of the host.
+#[no_mangle]
+pub extern "C" fn sorgizhed_reclaim(
+    n: usize,
+    b: usize,
+    z: usize,
+    s: usize,
+    g: usize,
+    l: usize,
+    image: &mut [u8],
+    pointers: &mut [u8],
+    addresses: &mut [u8],
+    compact: &mut [u8],
+    inflight: &mut [u8],
+    state: &mut [u8],
+    count: u64,
+) -> Told
+    ensures { λ r. ⌜ hears r (lending (now (image .exit)) (now (pointers .exit)) (now (addresses .exit)) (now (compact .exit)) (now (inflight .exit)) (now (state .exit))) [] ≡ heard (callBytes (mkParams n b z s g l) (lending (now (image .entry)) (now (pointers .entry)) (now (addresses .entry)) (now (compact .entry)) (now (inflight .entry)) (now (state .entry))) (reclaim count)) ⌝ }
+{
+    let p = Params {
+        N: n,
+        B: b,
+        Z: z,
+        S: s,
+        G: g,
+        L: l,
+    };
+    if state.len() != codec::state_len() {
+        return short_of(shape::in_range(p));
+    }
+    let before = codec::decode(state);
+    let done = reclaim::reclaim(
+        p,
+        image,
+        pointers,
+        addresses,
+        compact,
+        inflight,
+        before,
         count,
     );
     finish(state, done)

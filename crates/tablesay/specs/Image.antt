@@ -39,7 +39,7 @@ bytes-of [] q i = omega arith
 bytes-of (b ∷ l) q zero = ltb-true b 256 (and-left (ltb b 256) (all (λ x. ltb x 256) l) q)
 bytes-of (b ∷ l) q (suc i) = bytes-of l (and-right (ltb b 256) (all (λ x. ltb x 256) l) q) i
 
-sized-of : (p : Params) (k : Disk) → Whole p k → Sized p (seen p k)
+pub sized-of : (p : Params) (k : Disk) → Whole p k → Sized p (seen p k)
 unfolding viewOf driveOf
 sized-of p k w = record {
   drives-long = pair-long (driveOf p) (pieces (driveLen p) (p .N) (k .image)) (pieces (4 * p .Z) (p .N) (k .pointers)) (p .N)

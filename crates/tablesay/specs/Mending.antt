@@ -109,10 +109,10 @@ module _ (p : Params) (r : Ranged p) (v : View) (sh : Shaped p v) (acc : Accepte
 
     -- ---- missing footers
 
-    abbrev have : ℕ → ℕ
+    abbrev pub have : ℕ → ℕ
     have d = footersStored p (zoneAt v d g)
 
-    abbrev lack : ℕ → List Chunk
+    abbrev pub lack : ℕ → List Chunk
     lack d = footerChunks p (zoneAt v d g) (have d) (footers p - have d)
 
     lack-is : missingFooters p x ≡ flat (λ d. map (putAt d g) (lack d)) (drivesOf p)
@@ -136,24 +136,24 @@ module _ (p : Params) (r : Ranged p) (v : View) (sh : Shaped p v) (acc : Accepte
       zone-a d hd = sym (same! g hg kg d hd)
 
       -- a zone's pointer and the footers that it has
-      has-pointer : (d : ℕ) → d < p .N → zoneAt v d g .pointer ≡ 1 + p .S + have d
+      pub has-pointer : (d : ℕ) → d < p .N → zoneAt v d g .pointer ≡ 1 + p .S + have d
       has-pointer d hd = as! (whole-pointer p r v sh acc g hg kg ng wh d hd) (pointer-ok p v 0 acc d g hd hg (isIn-empty d))
         where
           as! : 1 + p .S ≤ pointerAt v d g → pointerAt v d g ≤ capacity p → zoneAt v d g .pointer ≡ 1 + p .S + have d
           as! a b = unfold footersStored pointerAt in (let c = capacity-is p r in omega arith)
 
-      have-few : (d : ℕ) → have d ≤ footers p
+      pub have-few : (d : ℕ) → have d ≤ footers p
       have-few d = unfold footersStored in omega arith
 
       lack-count : (d : ℕ) → d < p .N → length (lack d) ≡ footers p - have d
       lack-count d hd = footers-count p r (zoneAt v d g) (sh .zone-ok d g hd hg) (have d) (footers p - have d)
 
-      b-zone : (d : ℕ) → d < p .N → zoneAt vb d g ≡ putAll d g (lack d) (zoneAt v d g)
+      pub b-zone : (d : ℕ) → d < p .N → zoneAt vb d g ≡ putAll d g (lack d) (zoneAt v d g)
       b-zone d hd =
           zone-after p va d g ts (shaped-a .sized) hd hg
           ∙ ap₂ (λ (l : List Store) (q : Zone). storeAll zoneStore l q) (ap (hits d g) lack-is ∙ hits-each p d g g lack hd ∙ cond-true (eqb g g) (map (putAt d g) (lack d)) [] (eqb-self g)) (zone-a d hd)
 
-      b-other : (y : ℕ) → y < p .Z → (g ≡ y → ⊥) → SameZones p va vb y
+      pub b-other : (y : ℕ) → y < p .Z → (g ≡ y → ⊥) → SameZones p va vb y
       b-other y hy n d hd =
           sym (zone-after p va d y ts (shaped-a .sized) hd hy
           ∙ ap (λ (l : List Store). storeAll zoneStore l (zoneAt va d y)) (ap (hits d y) lack-is ∙ hits-each p d y g lack hd ∙ cond-false (eqb g y) (map (putAt d g) (lack d)) [] (ne-eqb g y n)) ∙ nothing)
@@ -161,7 +161,7 @@ module _ (p : Params) (r : Ranged p) (v : View) (sh : Shaped p v) (acc : Accepte
           nothing : storeAll zoneStore [] (zoneAt va d y) ≡ zoneAt va d y
           nothing = unfold storeAll in refl
 
-      b-pointer : (d : ℕ) → d < p .N → pointerAt vb d g ≡ capacity p
+      pub b-pointer : (d : ℕ) → d < p .N → pointerAt vb d g ≡ capacity p
       b-pointer d hd = as! (ap (λ (q : Zone). q .pointer) (b-zone d hd) ∙ puts-pointer d g (lack d) (zoneAt v d g)
           ∙ (let a = has-pointer d hd in let b = lack-count d hd in let c = capacity-is p r in let e = have-few d in let z : zoneAt v d g .pointer + length (lack d) ≡ capacity p = omega arith in z))
         where

@@ -102,7 +102,7 @@ module _ (p : Params) (r : Ranged p) (v : View) (sh : Shaped p v) (acc : Accepte
           one! x = unfold flat in refl
 
 -- the greatest serial of what a restart accepts is a number of 8 bytes
-serials-small : (p : Params) (r : Ranged p) (v : View) → Shaped p v → greatestSerial (segments p v 0) < 256 ^ 8
+pub serials-small : (p : Params) (r : Ranged p) (v : View) → Shaped p v → greatestSerial (segments p v 0) < 256 ^ 8
 serials-small p r v sh = as! (greatest-low (256 ^ 8) (map (λ (g : Segment). g .serial) (segments p v 0)) (lit< tt)
     (λ n m.
     let (x, i, e) = map-in (λ (g : Segment). g .serial) (segments p v 0) n m in

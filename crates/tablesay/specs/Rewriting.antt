@@ -117,7 +117,7 @@ module _ (p : Params) (r : Ranged p) (v : View) (sh : Shaped p v) (acc : Accepte
     abbrev on : ℕ → Piece
     on e = movedOn p qs k e
 
-    moved-data : (e : ℕ) → isData p k e ≡ true → e < p .N → on e ≡ renumbered k (storedPiece x s (dataDrive p s (dataPosition p k e)))
+    pub moved-data : (e : ℕ) → isData p k e ≡ true → e < p .N → on e ≡ renumbered k (storedPiece x s (dataDrive p s (dataPosition p k e)))
     moved-data e q he = as! q ∙ qs-at (dataPosition p k e) (position-lt p k e q he)
       where
         as! : isData p k e ≡ true → movedOn p qs k e ≡ getD qs (dataPosition p k e) (mkPiece [] (mkRec 0 0 0))
@@ -316,7 +316,7 @@ module _ (p : Params) (r : Ranged p) (v : View) (sh : Shaped p v) (acc : Accepte
   new-zone : (e : ℕ) → e < p .N → zoneAt vc e z0 ≡ putAll e z0 (lay e) (zoneAt va e z0)
   new-zone e he = zone-after p va e z0 ts (sha .sized) he hz0 ∙ ap (λ (l : List Store). storeAll zoneStore l (zoneAt va e z0)) (hits-new e he)
 
-  old-pointer : (e : ℕ) → e < p .N → pointerAt vc e g ≡ 0
+  pub old-pointer : (e : ℕ) → e < p .N → pointerAt vc e g ≡ 0
   old-pointer e he = as! (ap (λ (q : Zone). q .pointer) (zone-after p va e g ts (sha .sized) he hg ∙ ap (λ (l : List Store). storeAll zoneStore l (zoneAt va e g)) (hits-old e he) ∙ once) ∙ reset-pointer (zoneAt va e g))
     where
       once : storeAll zoneStore (reset e g ∷ []) (zoneAt va e g) ≡ resetZone (zoneAt va e g)
@@ -325,7 +325,7 @@ module _ (p : Params) (r : Ranged p) (v : View) (sh : Shaped p v) (acc : Accepte
       as! : zoneAt vc e g .pointer ≡ 0 → pointerAt vc e g ≡ 0
       as! q = unfold pointerAt in q
 
-  same-else : (y : ℕ) → y < p .Z → (z0 ≡ y → ⊥) → (g ≡ y → ⊥) → SameZones p va vc y
+  pub same-else : (y : ℕ) → y < p .Z → (z0 ≡ y → ⊥) → (g ≡ y → ⊥) → SameZones p va vc y
   same-else y hy a b e he = sym (zone-after p va e y ts (sha .sized) he hy ∙ ap (λ (l : List Store). storeAll zoneStore l (zoneAt va e y)) (hits-else e y he a b) ∙ nothing)
     where
       nothing : storeAll zoneStore [] (zoneAt va e y) ≡ zoneAt va e y
@@ -337,7 +337,7 @@ module _ (p : Params) (r : Ranged p) (v : View) (sh : Shaped p v) (acc : Accepte
       as! : pointerAt va e z0 ≡ 0 → zoneAt va e z0 .pointer ≡ 0
       as! q = unfold pointerAt in q
 
-  new-pointer : (e : ℕ) → e < p .N → pointerAt vc e z0 ≡ 1 + c
+  pub new-pointer : (e : ℕ) → e < p .N → pointerAt vc e z0 ≡ 1 + c
   new-pointer e he = as! (ap (λ (q : Zone). q .pointer) (new-zone e he) ∙ puts-pointer e z0 (lay e) (zoneAt va e z0) ∙ (let a = zero! e he in let b = lay-count e in let w : zoneAt va e z0 .pointer + length (lay e) ≡ 1 + c = omega arith in w))
     where
       as! : zoneAt vc e z0 .pointer ≡ 1 + c → pointerAt vc e z0 ≡ 1 + c
@@ -350,7 +350,7 @@ module _ (p : Params) (r : Ranged p) (v : View) (sh : Shaped p v) (acc : Accepte
       ∙ puts-new e z0 (lay e) (zoneAt va e z0) i h (let a = zero! e he in let b = lay-count e in let d = c-low in let k = capacity-over p r in let l = sha .zone-ok e z0 he hz0 .blocks-long in omega arith)
 
   -- stripe o lies at offset o
-  new-stripe : (e o : ℕ) → e < p .N → o < c → spareAt p vc e z0 o .stripe ≡ o
+  pub new-stripe : (e o : ℕ) → e < p .N → o < c → spareAt p vc e z0 o .stripe ≡ o
   new-stripe e o he h =
       let (b, q, f, lb, st) = lay-at e o he h in
       let w : getD (zoneAt vc e z0 .blocks) (1 + o) noChunk ≡ mkChunk b (recordBytes q) = ap (λ (n : ℕ). getD (zoneAt vc e z0 .blocks) n noChunk) (let z : 1 + o ≡ suc o = omega arith in z) ∙ new-block e (suc o) he (let a = lay-count e in omega arith) ∙ f in
@@ -358,6 +358,20 @@ module _ (p : Params) (r : Ranged p) (v : View) (sh : Shaped p v) (acc : Accepte
     where
       as! : (b : List ℕ) (q : Rec) → getD (zoneAt vc e z0 .blocks) (1 + o) noChunk ≡ mkChunk b (recordBytes q) → recordOf (recordBytes q) .stripe ≡ o → spareAt p vc e z0 o .stripe ≡ o
       as! b q w u = unfold recordIn in (ap (λ (y : Chunk). recordOf (y .spare) .stripe) w ∙ u)
+
+  -- its record is that of a counted stripe, moved
+  pub new-record : (e o : ℕ) → e < p .N → o < c → (s : ℕ) × In s cs × (spareAt p vc e z0 o ≡ recordOf (recordBytes (movedOn p (movedPieces p x s o) o e .rec)))
+  new-record e o he h =
+      let (s, m, q) = moved-at e cs 0 o h in
+      let w : getD (zoneAt vc e z0 .blocks) (1 + o) noChunk ≡ pieceChunk (on s o e) =
+      ap (λ (n : ℕ). getD (zoneAt vc e z0 .blocks) n noChunk) (let z : 1 + o ≡ suc o = omega arith in z) ∙ new-block e (suc o) he (let a = lay-count e in omega arith) ∙ behind ∙ q ∙ ap (λ (n : ℕ). pieceChunk (on s n e)) (zero-add o) in
+      (s, m, as! s w)
+    where
+      behind : getD (lay e) (suc o) noChunk ≡ getD (movedChunks e cs 0) o noChunk
+      behind = unfold lay in refl
+
+      as! : (s : ℕ) → getD (zoneAt vc e z0 .blocks) (1 + o) noChunk ≡ pieceChunk (on s o e) → spareAt p vc e z0 o ≡ recordOf (recordBytes (on s o e .rec))
+      as! s w = unfold recordIn pieceChunk in ap (λ (y : Chunk). recordOf (y .spare)) w
 
   new-head : headerAt vc 0 z0 ≡ headerBlock p 0 z0 sn (x .serial)
   new-head = as! (ap (λ (y : Chunk). y .block) (new-block 0 0 h0 (let a = lay-count 0 in omega arith)) ∙ first!)
@@ -380,7 +394,7 @@ module _ (p : Params) (r : Ranged p) (v : View) (sh : Shaped p v) (acc : Accepte
     abbrev y0 : Segment
     y0 = segmentOf p vc 0 z0
 
-    open-now : sealedIn p vc 0 z0 ≡ false
+    pub open-now : sealedIn p vc 0 z0 ≡ false
     open-now = not-so (sealedIn p vc 0 z0) (λ q. let a = sealed-full p vc z0 q 0 h0 in let b = new-pointer 0 h0 in let d = few! in let k = capacity-over p r in let bad : ⊥ = omega arith in bad)
 
     stored! : (e o : ℕ) → e < p .N → o < c → o < dataStored p (zoneAt vc e z0)
@@ -389,7 +403,7 @@ module _ (p : Params) (r : Ranged p) (v : View) (sh : Shaped p v) (acc : Accepte
         as! : pointerAt vc e z0 ≡ 1 + c → 1 + o < zoneAt vc e z0 .pointer
         as! q = unfold pointerAt in omega arith
 
-    under! : (e o : ℕ) → e < p .N → o < dataStored p (zoneAt vc e z0) → o < c
+    pub under! : (e o : ℕ) → e < p .N → o < dataStored p (zoneAt vc e z0) → o < c
     under! e o he h = let a = data-low p (zoneAt vc e z0) o h .1 in as! (new-pointer e he) a
       where
         as! : pointerAt vc e z0 ≡ 1 + c → 1 + o < zoneAt vc e z0 .pointer → o < c
@@ -430,7 +444,7 @@ module _ (p : Params) (r : Ranged p) (v : View) (sh : Shaped p v) (acc : Accepte
 
     -- ---- the view is tidy
 
-    was! : (y : ℕ) → y < p .Z → usedAt vc y ≡ true → (y ≡ z0) ⊎ ((keeps! y ≡ true) × ((z0 ≡ y → ⊥) × (g ≡ y → ⊥)))
+    pub was! : (y : ℕ) → y < p .Z → usedAt vc y ≡ true → (y ≡ z0) ⊎ ((keeps! y ≡ true) × ((z0 ≡ y → ⊥) × (g ≡ y → ⊥)))
     was! y hy q = go (ℕ-discrete z0 y) (ℕ-discrete g y)
       where
         go : Dec (z0 ≡ y) → Dec (g ≡ y) → (y ≡ z0) ⊎ ((keeps! y ≡ true) × ((z0 ≡ y → ⊥) × (g ≡ y → ⊥)))

@@ -1,14 +1,16 @@
-use Rattle.cabi.specs.Told.{lending, hears}
-use Rattle.cabi.specs.Writes.{hears-short, hears-write}
+use Rattle.cabi.specs.Told.{toldOf, lending, hears}
+use Rattle.cabi.specs.Hears.{hears-short, hears-call}
 use Rattle.cabi.specs.declared.Told.{Told}
 use Rattle.calls.specs.Left.{after}
 use Rattle.defs.specs.Engine.{callDisk, Lent, lentDisk, lentMemory}
 use Rattle.defs.specs.Engine.Call.{write}
 use Rattle.defs.specs.Memory.{mkMemory}
-use Rattle.defs.specs.Params.{mkParams}
+use Rattle.defs.specs.Params.{mkParams, inRange}
 use Rattle.defs.specs.declared.Params.{Params}
 use Rattle.defs.specs.declared.State.{State}
+use Rattle.hosts.specs.Shorts.{shortAnswer, write-short, write-keeps}
 use borrow.Author.Needs.{needs}
+use mathlib.Core.Bool.{Bool}
 use mathlib.Core.Path.{_≡_, sym, ap, _∙_}
 use Rattle.cabi.proofs.sorgizhed_write.Statement.{statement}
 use Rattle.cabi.proofs.sorgizhed_write.Tie as tie
@@ -16,15 +18,21 @@ use Rattle.cabi.proofs.sorgizhed_write.Tie as tie
 state-len-requires : tie.Need-state-len-requires
 state-len-requires c κs = search needs
 
+in-range-requires : tie.Need-in-range-requires
+in-range-requires c κs = search needs
+
 short-of-requires : tie.Need-short-of-requires
 short-of-requires c κs = search needs
 
 returns : tie.Need-returns
 returns c =
-    let a = c .before .before .before .before .before .before .before .before .before .before .args in
+    let a = c .before .before .before .before .before .before .before .before .before .before .before .args in
     let p : Params = mkParams (a .n) (a .b) (a .z) (a .s) (a .g) (a .l) in
     let l : Lent = lending (a .image .now) (a .pointers .now) (a .addresses .now) (a .compact .now) (a .inflight .now) (a .state .now) in
-    ap (λ (x : Told). hears x l (a .block .now)) (c .short-of .ensures) ∙ hears-short p l (a .address) (a .block .now) (a .count) (λ q. c .before .if1 .taken (q ∙ sym (c .before .before .state-len .ensures)))
+    let d = lentDisk l in
+    let m = lentMemory l in
+    ap (λ (x : Told). hears x l (a .block .now)) (c .short-of .ensures ∙ ap (λ (x : Bool). toldOf (shortAnswer x)) (c .before .in-range .ensures))
+    ∙ hears-short p l (write (a .address) (a .block .now) (a .count)) (a .block .now) (λ e. c .before .before .if1 .taken (e ∙ sym (c .before .before .before .state-len .ensures))) (inRange p) (write-short p d m (a .address) (a .block .now) (a .count))
 
 decode-requires : tie.Need-decode-requires
 decode-requires c κs = c .before .if1 .left ∙ c .before .before .state-len .ensures
@@ -60,17 +68,17 @@ returns-2 c =
     let p : Params = mkParams (a .n) (a .b) (a .z) (a .s) (a .g) (a .l) in
     let l : Lent = lending (a .image .now) (a .pointers .now) (a .addresses .now) (a .compact .now) (a .inflight .now) (a .state .now) in
     let w = c .before .before .before .before .before .before .before .before .before .before .before .before .before .before .write .last in
-    let e : after (c .before .before .before .before .before .before .before .before .before .before .before .before .before .before .write .result) (w .1 .0) (w .1 .1 .0) (w .1 .1 .1 .0) (w .1 .1 .1 .1 .0) (w .1 .1 .1 .1 .1 .0) (a .block .now)
-    ≡ callDisk p (lentDisk l) (lentMemory l) (write (a .address) (a .block .now) (a .count)) =
+    let e : after (c .before .before .before .before .before .before .before .before .before .before .before .before .before .before .write .result) (w .1 .0) (w .1 .1 .0) (w .1 .1 .1 .0) (w .1 .1 .1 .1 .0) (w .1 .1 .1 .1 .1 .0) (a .block .now) ≡ callDisk p (lentDisk l) (lentMemory l) (write (a .address) (a .block .now) (a .count)) =
     c .before .before .before .before .before .before .before .before .before .before .before .before .before .before .write .ensures ∙ ap (λ (x : State). callDisk p (lentDisk l) (mkMemory x (a .addresses .now) (a .compact .now) (a .inflight .now)) (write (a .address) (a .block .now) (a .count))) (c .before .before .before .before .before .before .before .before .before .before .before .before .before .before .before .before .before .before .before .before .decode .ensures) in
-    hears-write p l (a .address) (a .block .now) (a .count) (c .before .before .before .before .before .before .before .before .before .before .before .before .before .before .before .before .before .before .before .before .before .before .if1 .left ∙ c .before .before .before .before .before .before .before .before .before .before .before .before .before .before .before .before .before .before .before .before .before .before .before .state-len .ensures) (c .before .before .before .before .before .before .before .before .before .before .before .before .before .before .write .result) (w .1 .0) (w .1 .1 .0) (w .1 .1 .1 .0) (w .1 .1 .1 .1 .0) (w .1 .1 .1 .1 .1 .0)
-    (c .before .before .finish .last .0) (c .before .before .finish .result) e (c .before .before .finish .ensures .0) (c .before .before .finish .ensures .1)
+    hears-call p l (write (a .address) (a .block .now) (a .count)) (a .block .now) (c .before .before .before .before .before .before .before .before .before .before .before .before .before .before .before .before .before .before .before .before .before .before .if1 .left ∙ c .before .before .before .before .before .before .before .before .before .before .before .before .before .before .before .before .before .before .before .before .before .before .before .state-len .ensures) (write-keeps p (lentDisk l) (lentMemory l) (a .address) (a .block .now) (a .count))
+    (c .before .before .before .before .before .before .before .before .before .before .before .before .before .before .write .result) (w .1 .0) (w .1 .1 .0) (w .1 .1 .1 .0) (w .1 .1 .1 .1 .0) (w .1 .1 .1 .1 .1 .0) (c .before .before .finish .last .0) (a .block .now) (c .before .before .finish .result) e (c .before .before .finish .ensures .0) (c .before .before .finish .ensures .1)
 
 pub sorgizhed-write-spec : {M : Type 1} → statement M
 sorgizhed-write-spec =
     tie.close
     (tie.spec
     state-len-requires
+    in-range-requires
     short-of-requires
     returns
     decode-requires

@@ -1,0 +1,77 @@
+use Rattle.cabi.specs.Told.{toldOf, lending, hears}
+use Rattle.cabi.specs.Hears.{hears-short, hears-read}
+use Rattle.cabi.specs.declared.Told.{Told}
+use Rattle.codec.specs.Codec.{stateBytes-stateOf}
+use Rattle.defs.specs.Calls.{mkAfter}
+use Rattle.defs.specs.Engine.{callDisk, Lent, lentDisk, lentMemory}
+use Rattle.defs.specs.Engine.Call.{fill}
+use Rattle.defs.specs.Memory.{mkMemory}
+use Rattle.defs.specs.Params.{mkParams, inRange}
+use Rattle.defs.specs.declared.Params.{Params}
+use Rattle.defs.specs.declared.State.{State}
+use Rattle.hosts.specs.Shorts.{shortAnswer, fill-short, fill-keeps}
+use borrow.Author.Needs.{needs}
+use mathlib.Core.Bool.{Bool}
+use mathlib.Core.Path.{sym, ap, _∙_}
+use native.Mathlib.Omega.{arith}
+use Rattle.cabi.proofs.sorgizhed_fill.Statement.{statement}
+use Rattle.cabi.proofs.sorgizhed_fill.Tie as tie
+
+state-len-requires : tie.Need-state-len-requires
+state-len-requires c κs = search needs
+
+in-range-requires : tie.Need-in-range-requires
+in-range-requires c κs = search needs
+
+short-of-requires : tie.Need-short-of-requires
+short-of-requires c κs = search needs
+
+returns : tie.Need-returns
+returns c =
+    let a = c .before .before .before .before .before .before .before .before .before .before .before .args in
+    let p : Params = mkParams (a .n) (a .b) (a .z) (a .s) (a .g) (a .l) in
+    let l : Lent = lending (a .image .now) (a .pointers .now) (a .addresses .now) (a .compact .now) (a .inflight .now) (a .state .now) in
+    let d = lentDisk l in
+    let m = lentMemory l in
+    ap (λ (x : Told). hears x l (a .block .now)) (c .short-of .ensures ∙ ap (λ (x : Bool). toldOf (shortAnswer x)) (c .before .in-range .ensures))
+    ∙ hears-short p l (fill (a .address) (a .block .now)) (a .block .now) (λ e. c .before .before .if1 .taken (e ∙ sym (c .before .before .before .state-len .ensures))) (inRange p) (fill-short p d m (a .address) (a .block .now))
+
+decode-requires : tie.Need-decode-requires
+decode-requires c κs = c .if1 .left ∙ c .before .state-len .ensures
+
+fill-requires : tie.Need-fill-requires
+fill-requires c κs = search needs
+
+told-of-requires : tie.Need-told-of-requires
+told-of-requires c κs = search needs
+
+same-length : tie.Need-same-length
+same-length c = search needs
+
+returns-2 : tie.Need-returns-2
+unfolding lentDisk lentMemory
+returns-2 c =
+    let a = c .before .before .before .before .before .before .before .before .before .before .before .before .before .before .before .args in
+    let p : Params = mkParams (a .n) (a .b) (a .z) (a .s) (a .g) (a .l) in
+    let l : Lent = lending (a .image .now) (a .pointers .now) (a .addresses .now) (a .compact .now) (a .inflight .now) (a .state .now) in
+    hears-read p l (fill (a .address) (a .block .now)) (a .block .now) (c .before .before .before .before .before .before .if1 .left ∙ c .before .before .before .before .before .before .before .state-len .ensures) (fill-keeps p (lentDisk l) (lentMemory l) (a .address) (a .block .now))
+    (stateBytes-stateOf (a .state .now) (c .before .before .before .before .before .before .if1 .left ∙ c .before .before .before .before .before .before .before .state-len .ensures) (λ k h. omega (arith, c .before .before .before .before .before .before .before .before .before .shared-slice-known6 .given k)))
+    (c .before .before .before .fill .result) (c .before .before .before .fill .last .1 .1 .1 .1 .1 .1 .1 .1 .0) (c .told-of .result)
+    (ap (λ (x : State). mkAfter (c .before .before .before .fill .result) (lentDisk l) (mkMemory x (a .addresses .now) (a .compact .now) (a .inflight .now)) (c .before .before .before .fill .last .1 .1 .1 .1 .1 .1 .1 .1 .0)) (sym (c .before .before .before .before .before .decode .ensures))
+    ∙ c .before .before .before .fill .ensures
+    ∙ ap (λ (x : State). callDisk p (lentDisk l) (mkMemory x (a .addresses .now) (a .compact .now) (a .inflight .now)) (fill (a .address) (a .block .now))) (c .before .before .before .before .before .decode .ensures))
+    (c .told-of .ensures)
+
+pub sorgizhed-fill-spec : {M : Type 1} → statement M
+sorgizhed-fill-spec =
+    tie.close
+    (tie.spec
+    state-len-requires
+    in-range-requires
+    short-of-requires
+    returns
+    decode-requires
+    fill-requires
+    told-of-requires
+    same-length
+    returns-2)

@@ -1,0 +1,4 @@
+pub mod Order
+pub mod Ready
+pub mod Pads
+pub mod Ends

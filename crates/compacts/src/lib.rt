@@ -1,0 +1,115 @@
+// The compact table that the drives say (01, What a zone holds; Restart, 3).
+ghost use mathlib.Core.Path.{_≡_};
+ghost use mathlib.Core.Bool.{Bool, true};
+ghost use mathlib.Core.List.{List, map};
+ghost use Prim.Native.Nat.{ℕ, _+_, _≤_, _<_};
+ghost use lib.ListN.{length};
+ghost use Rattle.defs.specs.Bytes.{splice};
+ghost use Rattle.defs.specs.Drives.{viewOf, mkDisk, zoneAt, recordIn};
+ghost use Rattle.defs.specs.Lists.{below, flat};
+ghost use Rattle.defs.specs.Memory.{compactAt};
+ghost use Rattle.defs.specs.Params.{inRange, imageLen, pointersLen, compactLen};
+ghost use Rattle.defs.specs.Segments.{segments, compactTable};
+ghost use Rattle.remains.specs.Remains.{Keeps};
+ghost use Rattle.views.specs.Views.{Whole};
+ghost use Rattle.compacts.specs.Compacts.{entryOf, rowBytes, driveSaid};
+use defs::Params;
+
+// The entries of the first n data blocks of a zone, from index row of the table on.
+fn entries(
+    p: Params,
+    image: &[u8],
+    compact: &mut [u8],
+    full: bool,
+    drive: usize,
+    zone: usize,
+    row: usize,
+    n: usize,
+)
+    requires { ⌜ inRange p ≡ true ⌝ }
+    requires { ⌜ (length (now image) ≡ imageLen p) × (drive < p .N) × (zone < p .Z) × (n ≤ p .S) × (row + p .S ≤ length (now compact)) ⌝ }
+    ensures { λ _. ⌜ ((ps : List ℕ) → length ps ≡ pointersLen p → now (compact .exit) ≡ splice (now (compact .entry)) row (map (entryOf p full (zoneAt (viewOf p (now (image .entry)) ps) drive zone)) (below n))) ⌝ }
+{
+    let mut o = 0;
+    while o < n {
+        let r = stored::record_in(p, image, full, drive, zone, o);
+        compact[row + o] = shape::compact_entry(p, r.stripe as usize);
+        o += 1;
+    }
+}
+
+// 01, What a zone holds: the row of a zone; zeros where the drive is missing or the segment dropped.
+fn row(
+    p: Params,
+    image: &[u8],
+    pointers: &[u8],
+    compact: &mut [u8],
+    gone: u8,
+    kept: bool,
+    drive: usize,
+    zone: usize,
+)
+    requires { ⌜ inRange p ≡ true ⌝ }
+    requires { ⌜ Whole p (mkDisk (now image) (now pointers)) ⌝ }
+    requires { ⌜ (length (now compact) ≡ compactLen p) × (drive < p .N) × (zone < p .Z) ⌝ }
+    ensures { λ _. ⌜ now (compact .exit) ≡ splice (now (compact .entry)) (compactAt p drive zone 0) (rowBytes p (viewOf p (now (image .entry)) (now (pointers .entry))) gone kept drive zone) ⌝ }
+{
+    let at = shape::compact_at(p, drive, zone, 0);
+    if !kept {
+        blocks::clear_part(compact, at, p.S);
+        return;
+    }
+    if masks::has_drive(gone, drive) {
+        blocks::clear_part(compact, at, p.S);
+        return;
+    }
+    let full = zones::is_sealed(p, pointers, gone, zone);
+    let n = stored::data_stored(p, pointers, drive, zone);
+    entries(p, image, compact, full, drive, zone, at, n);
+    blocks::clear_part(compact, at + n, p.S - n);
+}
+
+// The rows of a drive.
+fn rows(
+    p: Params,
+    image: &[u8],
+    pointers: &[u8],
+    compact: &mut [u8],
+    gone: u8,
+    kept: &[bool],
+    drive: usize,
+)
+    requires { ⌜ inRange p ≡ true ⌝ }
+    requires { ⌜ Whole p (mkDisk (now image) (now pointers)) ⌝ }
+    requires { ⌜ (length (now compact) ≡ compactLen p) × (drive < p .N) ⌝ }
+    requires { ⌜ Keeps p (viewOf p (now image) (now pointers)) gone (now kept) ⌝ }
+    ensures { λ _. ⌜ now (compact .exit) ≡ splice (now (compact .entry)) (compactAt p drive 0 0) (driveSaid p (viewOf p (now (image .entry)) (now (pointers .entry))) gone drive) ⌝ }
+{
+    let mut z = 0;
+    while z < p.Z {
+        row(p, image, pointers, compact, gone, kept[z], drive, z);
+        z += 1;
+    }
+}
+
+// The compact table, whatever it held.
+pub fn compacts(
+    p: Params,
+    image: &[u8],
+    pointers: &[u8],
+    compact: &mut [u8],
+    gone: u8,
+    kept: &[bool],
+)
+    requires { ⌜ inRange p ≡ true ⌝ }
+    requires { ⌜ Whole p (mkDisk (now image) (now pointers)) ⌝ }
+    requires { ⌜ length (now compact) ≡ compactLen p ⌝ }
+    requires { ⌜ Keeps p (viewOf p (now image) (now pointers)) gone (now kept) ⌝ }
+    ensures { λ _. ⌜ now (compact .exit) ≡ compactTable p (segments p (viewOf p (now (image .entry)) (now (pointers .entry))) gone) ⌝ }
+{
+    let mut d = 0;
+    while d < p.N {
+        rows(p, image, pointers, compact, gone, kept, d);
+        d += 1;
+    }
+}

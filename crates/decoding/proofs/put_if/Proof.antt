@@ -1,0 +1,82 @@
+use mathlib.Core.Path.{_≡_, sym, _∙_, subst}
+use mathlib.Core.List.{List}
+use mathlib.Core.Bool.{true, false}
+use Prim.Native.Nat.{_+_, _<_}
+use borrow.Author.Tests.{not-true, not-false}
+use borrow.Author.Needs.{needs}
+use native.Mathlib.Omega.{arith}
+use Rattle.defs.specs.Drives.{Store, mkDisk}
+use Rattle.defs.specs.Engine.Call.{close}
+use Rattle.defs.specs.History.{before}
+use Rattle.defs.specs.Segments.{counts}
+use Rattle.laws.specs.Geometry.{ranged}
+use Rattle.tablesay.specs.Reclaiming.{taken}
+use Rattle.zones.specs.Made.{Storing, storing-none}
+use Rattle.groups.specs.Bases.{group-len-le}
+use Rattle.groups.specs.Groups.{segmentIn}
+use Rattle.restoring.specs.Lost.{lost-hit, lost-miss}
+use Rattle.decoding.specs.Group.{lost-room}
+use Rattle.decoding.proofs.put_if.Statement.{statement}
+use Rattle.decoding.proofs.put_if.Tie as tie
+
+few : (c : tie.After-shared-slice-known) → c .before .before .before .args .k < 256
+few c =
+    let p = c .before .before .before .args .p in
+    omega (arith, c .before .before .before .pre .1 .1 .1 .0 .3, group-len-le p (c .before .before .before .args .w .base), ranged p (c .before .before .before .pre .0) .group-high)
+
+counts-requires : tie.Need-counts-requires
+counts-requires c κs = (c .before .before .before .pre .0, (c .before .before .before .pre .1 .1 .1 .0 .0, few c))
+
+returns : tie.Need-returns
+returns c =
+    let a = c .before .before .before .before .before .args in
+    let q = c .before .before .before .before .before .pre in
+    let k = mkDisk (a .image .now) (a .pointers .now) in
+    let g = segmentIn (a .p) (a .image .now) (a .pointers .now) (a .w) in
+    let e = c .before .counts .ensures g (a .w .base) (q .1 .1 .1 .1 .0 .indexed) (q .1 .1 .1 .0 .3) in
+    subst (λ (l : List Store). Storing (a .p) (a .count) l k (record { left = a .count; cut = false }) k)
+    (sym (lost-miss (a .p) (a .w .gone) (a .drive) g (a .w .base + a .k) (sym e ∙ not-true (c .before .counts .result) (c .if1 .taken)))) (storing-none (a .p) (a .count) k)
+
+-- the stripe counts
+it-counts : (c : tie.After-put-lost-arg2) → counts (c .before .before .before .before .before .before .before .args .p) (c .before .before .before .before .before .before .before .args .w .gone) (segmentIn (c .before .before .before .before .before .before .before .args .p) (c .before .before .before .before .before .before .before .args .image .now) (c .before .before .before .before .before .before .before .args .pointers .now) (c .before .before .before .before .before .before .before .args .w)) (c .before .before .before .before .before .before .before .args .w .base + c .before .before .before .before .before .before .before .args .k) ≡ true
+it-counts c =
+    let a = c .before .before .before .before .before .before .before .args in
+    let q = c .before .before .before .before .before .before .before .pre in
+    let g = segmentIn (a .p) (a .image .now) (a .pointers .now) (a .w) in
+    sym (c .before .before .before .counts .ensures g (a .w .base) (q .1 .1 .1 .1 .0 .indexed) (q .1 .1 .1 .0 .3)) ∙ not-false (c .before .before .before .counts .result) (c .before .before .if1 .left)
+
+put-lost-requires : tie.Need-put-lost-requires
+put-lost-requires c κs =
+    let a = c .before .before .before .before .before .before .before .args in
+    let q = c .before .before .before .before .before .before .before .pre in
+    let h = q .1 .1 .1 .0 in
+    let k = mkDisk (a .image .now) (a .pointers .now) in (
+      q .0,
+      (
+        q .1 .0,
+        (
+          q .1 .1 .0,
+          (
+            (h .0, h .1, h .2, h .3, lost-room (a .p) (a .w .gone) (a .drive) k (a .w .seg) (a .w .base + a .k) (q .1 .0) (q .1 .1 .0 .drive-low) (h .1) (it-counts c) (q .1 .1 .1 .1 .1)),
+            (q .1 .1 .1 .1 .0, it-counts c),
+          ),
+        ),
+      ),
+    )
+
+same-length : tie.Need-same-length
+same-length c = search needs
+
+same-length-2 : tie.Need-same-length-2
+same-length-2 c = search needs
+
+returns-2 : tie.Need-returns-2
+returns-2 c =
+    let a = c .before .before .before .before .before .before .before .before .before .before .before .before .args in
+    let k = mkDisk (a .image .now) (a .pointers .now) in
+    let k′ = mkDisk (c .before .before .before .before .put-lost .last .1 .0) (c .before .before .before .before .put-lost .last .1 .1 .0) in
+    let g = segmentIn (a .p) (a .image .now) (a .pointers .now) (a .w) in
+    subst (λ (l : List Store). Storing (a .p) (a .count) l k (c .before .before .before .before .put-lost .result) k′) (sym (lost-hit (a .p) (a .w .gone) (a .drive) g (a .w .base + a .k) (it-counts (c .before .before .before .before .before)))) (c .before .before .before .before .put-lost .ensures)
+
+pub put-if-spec : {M : Type 1} → statement M
+put-if-spec = tie.close (tie.spec counts-requires returns put-lost-requires same-length same-length-2 returns-2)

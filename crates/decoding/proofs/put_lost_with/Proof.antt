@@ -1,0 +1,96 @@
+use Rattle.records.specs.Record.{recOf as recVal}
+use mathlib.Core.Path.{sym, _∙_, subst}
+use mathlib.Core.List.{List, [], _∷_}
+use Prim.Native.Nat.{ℕ, _+_, _<_}
+use borrow.Author.Needs.{needs}
+use Rattle.defs.specs.Drives.{viewOf, Store, mkDisk, pointerOf}
+use Rattle.defs.specs.Drives.Store.{put}
+use Rattle.defs.specs.Engine.Call.{close}
+use Rattle.defs.specs.History.{before}
+use Rattle.defs.specs.Layout.{recordBytes}
+use Rattle.defs.specs.Params.{capacity}
+use Rattle.laws.specs.Geometry.{zone-on-lt}
+use Rattle.zones.specs.Made.{Storing}
+use Rattle.groups.specs.Chunks.{counts-entered}
+use Rattle.groups.specs.Groups.{AllEntered, segmentIn}
+use Rattle.decoding.specs.Group.{lost-store-is}
+use Rattle.decoding.proofs.put_lost_with.Statement.{statement}
+use Rattle.decoding.proofs.put_lost_with.Tie as tie
+
+-- every present drive has the chunk
+entered : (c : tie.After-lost-block-arg2) → AllEntered (c .before .before .before .before .before .before .args .p) (c .before .before .before .before .before .before .args .w .gone) (c .before .before .before .before .before .before .args .w .base) (c .before .before .before .before .before .before .args .at .now) (c .before .before .before .before .before .before .args .k)
+entered c =
+    let a = c .before .before .before .before .before .before .args in
+    let q = c .before .before .before .before .before .before .pre .1 .1 .1 in
+    counts-entered (a .p) (a .w .gone) (segmentIn (a .p) (a .image .now) (a .pointers .now) (a .w)) (a .w .base) (a .at .now) (a .k) (q .1 .0 .indexed) (q .0 .4) (q .1 .1)
+
+lost-block-requires : tie.Need-lost-block-requires
+lost-block-requires c κs =
+    let q = c .before .before .before .before .before .before .pre in
+    let h = q .1 .1 .1 .0 in
+    (q .0, ((q .1 .0 .image-long, h .1, h .2, h .3, h .4, h .0), entered c))
+
+lost-rec-requires : tie.Need-lost-rec-requires
+lost-rec-requires c κs =
+    let q = c .before .before .before .before .before .before .before .before .before .before .pre in
+    let h = q .1 .1 .1 .0 in
+    (q .0, ((q .1 .0 .image-long, h .1, h .2, h .3, h .4), entered (c .before .before .before .before)))
+
+slice-aggregate-write-record : tie.Need-slice-aggregate-write-record
+slice-aggregate-write-record c = search needs
+
+write-record-requires : tie.Need-write-record-requires
+write-record-requires c κs = search needs
+
+zone-on-requires : tie.Need-zone-on-requires
+zone-on-requires c κs = tt
+
+slice-aggregate-put-limited : tie.Need-slice-aggregate-put-limited
+slice-aggregate-put-limited c = search needs
+
+put-limited-requires : tie.Need-put-limited-requires
+put-limited-requires c κs =
+    let a = c .before .before .before .before .before .before .before .before .before .before .before .before .before .before .before .before .before .before .before .args in
+    let q = c .before .before .before .before .before .before .before .before .before .before .before .before .before .before .before .before .before .before .before .pre in
+    let h = q .1 .1 .1 .0 in
+    let z = c .before .before .before .before .zone-on .ensures in (
+      q .0,
+      (
+        q .1 .0,
+        (
+          (
+            q .1 .1 .0 .drive-low,
+            subst (λ (x : ℕ). x < a .p .Z) (sym z) (zone-on-lt (a .p) (a .w .seg) (a .drive) (h .2)),
+            subst (λ (x : ℕ). pointerOf (a .p) (a .pointers .now) (a .drive) x < capacity (a .p)) (sym z) (h .5),
+          ),
+          (c .before .before .before .before .before .before .before .before .before .before .before .before .lost-block .kept .1 .1 .1 .1 .1 .0 ∙ h .0, c .before .before .before .before .before .before .write-record .kept .0),
+        ),
+      ),
+    )
+
+same-length : tie.Need-same-length
+same-length c = search needs
+
+same-length-2 : tie.Need-same-length-2
+same-length-2 c = search needs
+
+same-length-3 : tie.Need-same-length-3
+same-length-3 c = search needs
+
+returns : tie.Need-returns
+returns c =
+    let a = c .before .before .before .before .before .before .before .before .before .before .before .before .before .before .before .before .before .before .before .before .before .before .before .before .args in
+    let q = c .before .before .before .before .before .before .before .before .before .before .before .before .before .before .before .before .before .before .before .before .before .before .before .before .pre in
+    let k = mkDisk (a .image .now) (a .pointers .now) in
+    let k′ = mkDisk (c .before .before .before .before .put-limited .last .1 .0) (c .before .before .before .before .put-limited .last .1 .1 .0) in
+    let m = c .before .before .before .before .put-limited .result in
+    let rd = q .1 .1 .1 .1 .0 in
+    let b = c .before .before .before .before .before .before .before .before .before .before .before .before .before .before .before .before .before .lost-block .ensures (a .pointers .now) rd in
+    let x = c .before .before .before .before .before .before .before .before .before .before .before .before .before .lost-rec .ensures (a .pointers .now) rd in
+    let e = lost-store-is (a .p) (viewOf (a .p) (a .image .now) (a .pointers .now)) (a .w .gone) (a .w .seg) (a .drive) (a .w .base + a .k) (c .before .before .before .before .before .before .before .before .before .before .before .before .before .before .before .before .before .lost-block .last .1 .1 .1 .1 .1 .0) (recVal (c .before .before .before .before .before .before .before .before .before .before .before .before .before .lost-rec .result)) (q .1 .1 .0 .lost) b x in
+    subst (λ (s : Store). Storing (a .p) (a .count) (s ∷ []) k m k′) e
+    (subst (λ (z : ℕ). Storing (a .p) (a .count) (put (a .drive) z (c .before .before .before .before .before .before .before .before .before .before .before .before .before .before .before .before .before .lost-block .last .1 .1 .1 .1 .1 .0) (recordBytes (recVal (c .before .before .before .before .before .before .before .before .before .before .before .before .before .lost-rec .result))) ∷ []) k m k′) (c .before .before .before .before .before .before .before .before .before .zone-on .ensures)
+    (subst (λ (y : List ℕ). Storing (a .p) (a .count) (put (a .drive) (c .before .before .before .before .before .before .before .before .before .zone-on .result) (c .before .before .before .before .before .before .before .before .before .before .before .before .before .before .before .before .before .lost-block .last .1 .1 .1 .1 .1 .0) y ∷ []) k m k′) (c .before .before .before .before .before .before .before .before .before .before .before .write-record .ensures) (c .before .before .before .before .put-limited .ensures)))
+
+pub put-lost-with-spec : {M : Type 1} → statement M
+put-lost-with-spec = tie.close (tie.spec lost-block-requires lost-rec-requires slice-aggregate-write-record write-record-requires zone-on-requires slice-aggregate-put-limited put-limited-requires same-length same-length-2 same-length-3 returns)

@@ -1,0 +1,37 @@
+use mathlib.Core.Path.{sym, ap, _∙_}
+use Prim.Native.Nat.{_+_}
+use borrow.Author.Needs.{needs}
+use Rattle.defs.specs.History.{before}
+use Rattle.defs.specs.Layout.{mkRec}
+use Rattle.defs.specs.Lists.{isIn}
+use Rattle.defs.specs.Segments.{storedRec}
+use Rattle.tablesay.specs.Tests.{cond-true, cond-false}
+use Rattle.groups.specs.Groups.{segmentIn}
+use Rattle.groups.specs.Pieces.{addRec}
+use Rattle.records.specs.Record.{recOf as recVal}
+use borrow.Author.Needs.{needs}
+use Rattle.groups.proofs.add_rec.Statement.{statement}
+use Rattle.groups.proofs.add_rec.Tie as tie
+
+has-drive-requires : tie.Need-has-drive-requires
+has-drive-requires c κs = search needs
+
+returns : tie.Need-returns
+returns c = λ ps x. sym (cond-true (isIn (c .before .before .before .before .args .w .gone) (c .before .before .before .before .args .drive)) (recVal (c .before .before .before .before .args .r)) (addRec (recVal (c .before .before .before .before .args .r)) (storedRec (segmentIn (c .before .before .before .before .args .p) (c .before .before .before .before .args .image .now) ps (c .before .before .before .before .args .w)) (c .before .before .before .before .args .w .base + c .before .before .before .before .args .k) (c .before .before .before .before .args .drive))) (sym (c .before .has-drive .ensures) ∙ c .if1 .taken))
+
+stored-rec-requires : tie.Need-stored-rec-requires
+stored-rec-requires c κs = (c .before .before .before .before .pre .0, (c .before .before .before .before .pre .1 .0, c .before .before .before .before .pre .1 .1 (c .before .before .before .before .args .drive) (c .before .before .before .before .pre .1 .0 .4) (sym (c .before .has-drive .ensures) ∙ c .if1 .left)))
+
+xor-rec-requires : tie.Need-xor-rec-requires
+xor-rec-requires c κs = search needs
+
+returns-2 : tie.Need-returns-2
+returns-2 c =
+    let a = c .before .before .before .before .before .before .args in
+    λ ps x. (λ j. mkRec (c .xor-rec .ensures .0 j) (c .xor-rec .ensures .1 j) (c .xor-rec .ensures .2 j))
+    ∙ ap (addRec (recVal (a .r))) (c .before .stored-rec .ensures ps x)
+    ∙ sym (cond-false (isIn (a .w .gone) (a .drive)) (recVal (a .r)) (addRec (recVal (a .r)) (storedRec (segmentIn (a .p) (a .image .now) ps (a .w)) (a .w .base + a .k) (a .drive))) (sym (c .before .before .before .has-drive .ensures) ∙ c .before .before .if1 .left))
+
+pub add-rec-spec : {M : Type 1} → statement M
+add-rec-spec =
+    tie.close (tie.spec has-drive-requires returns stored-rec-requires xor-rec-requires returns-2)

@@ -1,0 +1,195 @@
+use mathlib.Core.Path.{_≡_, refl, sym, ap, _∙_, subst}
+use mathlib.Core.List.{List}
+use mathlib.Core.Bool.{true, false, not}
+use Prim.Native.Nat.{ℕ, _+_, _-_, _*_, _≤_, _<_}
+use borrow.Author.Tests.{not-true, not-false}
+use native.Mathlib.Omega.{arith}
+use lib.ListN.{length, getD, set}
+use borrow.Author.Needs.{needs}
+use Rattle.defs.specs.Drives.{zoneAt, viewOf, recordIn}
+use Rattle.defs.specs.History.{before}
+use Rattle.defs.specs.Layout.{mkRec}
+use Rattle.defs.specs.Segments.{recsOn}
+use Rattle.laws.specs.Geometry.{ranged, zone-on-lt}
+use Rattle.laws.specs.Ranges.{not-both}
+use Rattle.tablesay.specs.Tests.{cond-true, cond-false}
+use Rattle.groups.specs.Bases.{group-len-le, group-len-fits}
+use Rattle.groups.specs.Chunks.{group-record}
+use Rattle.groups.specs.Entering.{Entering, entering-start, entering-end, entering-bad-data, entering-bad, entering-next}
+use Rattle.groups.specs.Groups.{groupLen, groupRecs, segmentIn}
+use Rattle.records.specs.Record.{recOf as recVal}
+use Rattle.groups.proofs.index_drive.Statement.{statement}
+use Rattle.groups.proofs.index_drive.Tie as tie
+
+abbrev Inv-loop : tie.InvT-loop
+Inv-loop p image pointers w drive at₀ n base zone i₀ at i = (i ≤ n) × Entering p drive (w .base) (groupRecs p (w .base) (recsOn (segmentIn p image pointers w) drive)) at₀ at i
+
+abbrev μ-loop : tie.MeasureT-loop
+μ-loop p image pointers w drive at₀ n base zone i₀ at i = n - i
+
+group-stored-requires : tie.Need-group-stored-requires Inv-loop μ-loop
+group-stored-requires c κs = (c .before .before .before .pre .0, (c .before .before .before .pre .1 .0 .pointers-long, c .before .before .before .pre .1 .1 .0 .1, c .before .before .before .pre .1 .1 .0 .2, c .before .before .before .pre .1 .1 .0 .3))
+
+zone-on-requires : tie.Need-zone-on-requires Inv-loop μ-loop
+zone-on-requires c κs = tt
+
+loop-holds : tie.Need-loop-holds Inv-loop μ-loop
+loop-holds c =
+    let a = c .before .before .before .before .before .args in
+    let p = a .p in
+    let w = a .w in
+    let im = a .image .now in
+    let ps = a .pointers .now in
+    let v = viewOf p im ps in
+    let d = a .drive in
+    let q = c .before .before .before .before .before .pre .1 .1 .0 in
+    let rs = groupRecs p (w .base) (recsOn (segmentIn p im ps w) d) in
+    let n : c .before .group-stored .result ≡ length rs = c .before .group-stored .ensures .0 im (c .before .before .before .before .before .pre .1 .0 .image-long) (q .5) in
+    (omega arith, entering-start p d (w .base) rs (a .at .now) (q .0) (c .before .before .before .before .before .pre .1 .1 .1 .1))
+
+add-record-in : tie.Need-add-record-in Inv-loop μ-loop
+add-record-in c = let f = group-len-fits (c .before .before .before .before .before .before .before .args .p) (c .before .before .before .before .before .before .before .args .w .base) (omega (arith, c .before .before .before .before .before .before .before .pre .1 .1 .0 .3)) in omega (arith, f, c .before .before .before .before .before .before .before .pre .1 .1 .0 .3, c .before .before .before .group-stored .ensures .1, c .loop-test .taken, ranged (c .before .before .before .before .before .before .before .args .p) (c .before .before .before .before .before .before .before .pre .0) .stripes-high, ranged (c .before .before .before .before .before .before .before .args .p) (c .before .before .before .before .before .before .before .pre .0) .group-high)
+
+record-in-requires : tie.Need-record-in-requires Inv-loop μ-loop
+record-in-requires c κs = (c .before .before .before .before .before .before .before .pre .0, (c .before .before .before .before .before .before .before .pre .1 .0 .image-long, c .before .before .before .before .before .before .before .pre .1 .1 .0 .1, rw (c .before .before .zone-on .ensures) (zone-on-lt (c .before .before .before .before .before .before .before .args .p) (c .before .before .before .before .before .before .before .args .w .seg) (c .before .before .before .before .before .before .before .args .drive) (c .before .before .before .before .before .before .before .pre .1 .1 .0 .2)), (let f = group-len-fits (c .before .before .before .before .before .before .before .args .p) (c .before .before .before .before .before .before .before .args .w .base) (omega (arith, c .before .before .before .before .before .before .before .pre .1 .1 .0 .3)) in omega (arith, f, c .before .before .before .before .before .before .before .pre .1 .1 .0 .3, c .before .before .before .group-stored .ensures .1, c .loop-test .taken, ranged (c .before .before .before .before .before .before .before .args .p) (c .before .before .before .before .before .before .before .pre .0) .stripes-high, ranged (c .before .before .before .before .before .before .before .args .p) (c .before .before .before .before .before .before .before .pre .0) .group-high))))
+
+stored-bad-requires : tie.Need-stored-bad-requires Inv-loop μ-loop
+stored-bad-requires c κs = c .before .before .before .before .before .before .before .before .pre .0
+
+same-length : tie.Need-same-length Inv-loop μ-loop
+same-length c = c .before .before .before .before .loop .inv .1 .long ∙ sym (c .before .before .before .before .before .before .before .before .before .before .pre .1 .1 .0 .0)
+
+returns : tie.Need-returns Inv-loop μ-loop
+returns c =
+    let a = c .before .before .before .before .before .before .before .before .before .before .args in
+    let p = a .p in
+    let w = a .w in
+    let im = a .image .now in
+    let ps = a .pointers .now in
+    let v = viewOf p im ps in
+    let d = a .drive in
+    let q = c .before .before .before .before .before .before .before .before .before .before .pre .1 .1 .0 in
+    let rs = groupRecs p (w .base) (recsOn (segmentIn p im ps w) d) in
+    let n : c .before .before .before .before .before .before .group-stored .result ≡ length rs = c .before .before .before .before .before .before .group-stored .ensures .0 im (c .before .before .before .before .before .before .before .before .before .before .pre .1 .0 .image-long) (q .5) in
+    let i = c .before .before .before .before .loop .i in
+    let h : i < length rs = omega (arith, n, c .before .before .before .loop-test .taken) in
+    let l : length rs ≤ groupLen p (w .base) = omega (arith, n, c .before .before .before .before .before .before .group-stored .ensures .1) in
+    let r = recVal (c .before .before .record-in .result) in
+    let e : r ≡ getD rs i (mkRec 0 0 0) = c .before .before .record-in .ensures ps (c .before .before .before .before .before .before .before .before .before .before .pre .1 .0 .pointers-long)
+    ∙ (λ j. recordIn p (c .before .before .before .before .before .before .before .before .before .before .pre .1 .1 .1 .0 j) (zoneAt v d (c .before .before .before .before .before .zone-on .ensures j)) (w .base + i))
+    ∙ group-record p v (w .gone) (w .seg) (w .base) d i (q .1) (q .5) h in
+    let g : 0 < p .G = omega (arith, ranged (c .before .before .before .before .before .before .before .before .before .before .args .p) (c .before .before .before .before .before .before .before .before .before .before .pre .0) .group-low) in
+    let b = entering-bad-data p d (w .base) rs (a .at .now) (c .before .before .before .before .loop .at) i (c .before .before .before .before .loop .inv .1) h g (q .3) (q .4) l r e (sym (c .before .stored-bad .ensures) ∙ c .if1 .taken) in
+    (sym (ap not b), (c .before .before .before .before .loop .inv .1 .lower, λ t. absurd (not-both false t refl)))
+
+cast-enter : tie.Need-cast-enter Inv-loop μ-loop
+cast-enter c = search needs
+
+add-enter : tie.Need-add-enter Inv-loop μ-loop
+add-enter c = let f = group-len-le (c .before .before .before .before .before .before .before .before .before .before .before .before .args .p) (c .before .before .before .before .before .before .before .before .before .before .before .before .args .w .base) in omega (arith, f, c .before .before .before .before .before .before .before .before .group-stored .ensures .1, c .before .before .before .before .before .loop-test .taken, ranged (c .before .before .before .before .before .before .before .before .before .before .before .before .args .p) (c .before .before .before .before .before .before .before .before .before .before .before .before .pre .0) .group-high)
+
+enter-requires : tie.Need-enter-requires Inv-loop μ-loop
+enter-requires c κs = let f = group-len-le (c .before .before .before .before .before .before .before .before .before .before .before .before .args .p) (c .before .before .before .before .before .before .before .before .before .before .before .before .args .w .base) in (c .before .before .before .before .before .before .before .before .before .before .before .before .pre .0, (c .before .before .before .before .before .before .loop .inv .1 .long, c .before .before .before .before .before .before .before .before .before .before .before .before .pre .1 .1 .0 .1, c .before .before .before .before .before .before .before .before .before .before .before .before .pre .1 .1 .0 .3, omega (arith, f, c .before .before .before .before .before .before .before .before .group-stored .ensures .1, c .before .before .before .before .before .loop-test .taken, ranged (c .before .before .before .before .before .before .before .before .before .before .before .before .args .p) (c .before .before .before .before .before .before .before .before .before .before .before .before .pre .0) .group-high)))
+
+same-length-2 : tie.Need-same-length-2 Inv-loop μ-loop
+same-length-2 c = c .before .before .before .enter .kept .1 .0 ∙ c .before .before .before .before .before .before .before .before .before .before .loop .inv .1 .long ∙ sym (c .before .before .before .before .before .before .before .before .before .before .before .before .before .before .before .before .pre .1 .1 .0 .0)
+
+returns-2 : tie.Need-returns-2 Inv-loop μ-loop
+returns-2 c =
+    let a = c .before .before .before .before .before .before .before .before .before .before .before .before .before .before .before .before .args in
+    let p = a .p in
+    let w = a .w in
+    let im = a .image .now in
+    let ps = a .pointers .now in
+    let v = viewOf p im ps in
+    let d = a .drive in
+    let q = c .before .before .before .before .before .before .before .before .before .before .before .before .before .before .before .before .pre .1 .1 .0 in
+    let rs = groupRecs p (w .base) (recsOn (segmentIn p im ps w) d) in
+    let n : c .before .before .before .before .before .before .before .before .before .before .before .before .group-stored .result ≡ length rs = c .before .before .before .before .before .before .before .before .before .before .before .before .group-stored .ensures .0 im (c .before .before .before .before .before .before .before .before .before .before .before .before .before .before .before .before .pre .1 .0 .image-long) (q .5) in
+    let i = c .before .before .before .before .before .before .before .before .before .before .loop .i in
+    let h : i < length rs = omega (arith, n, c .before .before .before .before .before .before .before .before .before .loop-test .taken) in
+    let l : length rs ≤ groupLen p (w .base) = omega (arith, n, c .before .before .before .before .before .before .before .before .before .before .before .before .group-stored .ensures .1) in
+    let r = recVal (c .before .before .before .before .before .before .before .before .record-in .result) in
+    let e : r ≡ getD rs i (mkRec 0 0 0) = c .before .before .before .before .before .before .before .before .record-in .ensures ps (c .before .before .before .before .before .before .before .before .before .before .before .before .before .before .before .before .pre .1 .0 .pointers-long)
+    ∙ (λ j. recordIn p (c .before .before .before .before .before .before .before .before .before .before .before .before .before .before .before .before .pre .1 .1 .1 .0 j) (zoneAt v d (c .before .before .before .before .before .before .before .before .before .before .before .zone-on .ensures j)) (w .base + i))
+    ∙ group-record p v (w .gone) (w .seg) (w .base) d i (q .1) (q .5) h in
+    let g : 0 < p .G = omega (arith, ranged (c .before .before .before .before .before .before .before .before .before .before .before .before .before .before .before .before .args .p) (c .before .before .before .before .before .before .before .before .before .before .before .before .before .before .before .before .pre .0) .group-low) in
+    let t : c .before .before .before .enter .result ≡ false = not-true (c .before .before .before .enter .result) (c .if2 .taken) in
+    let b = entering-bad p d (w .base) rs (a .at .now) (c .before .before .before .before .before .before .before .before .before .before .loop .at) i (c .before .before .before .before .before .before .before .before .before .before .loop .inv .1) h g (q .3) (q .4) l r e (sym (c .before .before .before .enter .ensures .0) ∙ t) in
+    let z : c .before .before .before .enter .last .1 .0 ≡ c .before .before .before .before .before .before .before .before .before .before .loop .at = c .before .before .before .enter .ensures .1 ∙ cond-false (c .before .before .before .enter .result) (set (c .before .before .before .before .before .before .before .before .before .before .loop .at) (256 * d + (c .before .before .before .before .before .before .before .before .record-in .result .stripe - w .base)) (i + 1)) (c .before .before .before .before .before .before .before .before .before .before .loop .at) t in
+    (sym (ap not b), ((λ j k. ap (λ (x : List ℕ). getD x j 0) z ∙ c .before .before .before .before .before .before .before .before .before .before .loop .inv .1 .lower j k), λ t. absurd (not-both false t refl)))
+
+add-i : tie.Need-add-i Inv-loop μ-loop
+add-i c = omega arith
+
+loop-less : tie.Need-loop-less Inv-loop μ-loop
+loop-less c = omega arith
+
+loop-again : tie.Need-loop-again Inv-loop μ-loop
+loop-again c =
+    let a = c .before .before .before .before .before .before .before .before .before .before .before .before .before .before .before .before .args in
+    let p = a .p in
+    let w = a .w in
+    let im = a .image .now in
+    let ps = a .pointers .now in
+    let v = viewOf p im ps in
+    let d = a .drive in
+    let q = c .before .before .before .before .before .before .before .before .before .before .before .before .before .before .before .before .pre .1 .1 .0 in
+    let rs = groupRecs p (w .base) (recsOn (segmentIn p im ps w) d) in
+    let n : c .before .before .before .before .before .before .before .before .before .before .before .before .group-stored .result ≡ length rs = c .before .before .before .before .before .before .before .before .before .before .before .before .group-stored .ensures .0 im (c .before .before .before .before .before .before .before .before .before .before .before .before .before .before .before .before .pre .1 .0 .image-long) (q .5) in
+    let i = c .before .before .before .before .before .before .before .before .before .before .loop .i in
+    let h : i < length rs = omega (arith, n, c .before .before .before .before .before .before .before .before .before .loop-test .taken) in
+    let l : length rs ≤ groupLen p (w .base) = omega (arith, n, c .before .before .before .before .before .before .before .before .before .before .before .before .group-stored .ensures .1) in
+    let r = recVal (c .before .before .before .before .before .before .before .before .record-in .result) in
+    let e : r ≡ getD rs i (mkRec 0 0 0) = c .before .before .before .before .before .before .before .before .record-in .ensures ps (c .before .before .before .before .before .before .before .before .before .before .before .before .before .before .before .before .pre .1 .0 .pointers-long)
+    ∙ (λ j. recordIn p (c .before .before .before .before .before .before .before .before .before .before .before .before .before .before .before .before .pre .1 .1 .1 .0 j) (zoneAt v d (c .before .before .before .before .before .before .before .before .before .before .before .zone-on .ensures j)) (w .base + i))
+    ∙ group-record p v (w .gone) (w .seg) (w .base) d i (q .1) (q .5) h in
+    let g : 0 < p .G = omega (arith, ranged (c .before .before .before .before .before .before .before .before .before .before .before .before .before .before .before .before .args .p) (c .before .before .before .before .before .before .before .before .before .before .before .before .before .before .before .before .pre .0) .group-low) in
+    let t : c .before .before .before .enter .result ≡ true = not-false (c .before .before .before .enter .result) (c .if2 .left) in
+    let f = group-len-le p (w .base) in
+    let y = entering-next p d (w .base) rs (a .at .now) (c .before .before .before .before .before .before .before .before .before .before .loop .at) i (c .before .before .before .before .before .before .before .before .before .before .loop .inv .1) h g (q .3) (q .4) l r e (omega (arith, q .1, ranged (c .before .before .before .before .before .before .before .before .before .before .before .before .before .before .before .before .args .p) (c .before .before .before .before .before .before .before .before .before .before .before .before .before .before .before .before .pre .0) .drives-high)) (omega (arith, f, ranged (c .before .before .before .before .before .before .before .before .before .before .before .before .before .before .before .before .args .p) (c .before .before .before .before .before .before .before .before .before .before .before .before .before .before .before .before .pre .0) .group-high)) (sym (c .before .before .before .before .before .before .before .stored-bad .ensures) ∙ c .before .before .before .before .before .before .if1 .left) (sym (c .before .before .before .enter .ensures .0) ∙ t) in
+    let z : c .before .before .before .enter .last .1 .0 ≡ set (c .before .before .before .before .before .before .before .before .before .before .loop .at) (256 * d + (c .before .before .before .before .before .before .before .before .record-in .result .stripe - w .base)) (i + 1) = c .before .before .before .enter .ensures .1 ∙ cond-true (c .before .before .before .enter .result) (set (c .before .before .before .before .before .before .before .before .before .before .loop .at) (256 * d + (c .before .before .before .before .before .before .before .before .record-in .result .stripe - w .base)) (i + 1)) (c .before .before .before .before .before .before .before .before .before .before .loop .at) t in
+    (omega (arith, c .before .before .before .before .before .before .before .before .before .loop-test .taken), subst (λ (x : List ℕ). Entering p d (w .base) rs (a .at .now) x (i + 1)) (sym z) y)
+
+same-length-3 : tie.Need-same-length-3 Inv-loop μ-loop
+same-length-3 c = c .before .loop .inv .1 .long ∙ sym (c .before .before .before .before .before .before .before .pre .1 .1 .0 .0)
+
+returns-3 : tie.Need-returns-3 Inv-loop μ-loop
+returns-3 c =
+    let a = c .before .before .before .before .before .before .before .args in
+    let p = a .p in
+    let w = a .w in
+    let im = a .image .now in
+    let ps = a .pointers .now in
+    let v = viewOf p im ps in
+    let d = a .drive in
+    let q = c .before .before .before .before .before .before .before .pre .1 .1 .0 in
+    let rs = groupRecs p (w .base) (recsOn (segmentIn p im ps w) d) in
+    let n : c .before .before .before .group-stored .result ≡ length rs = c .before .before .before .group-stored .ensures .0 im (c .before .before .before .before .before .before .before .pre .1 .0 .image-long) (q .5) in
+    let y = entering-end p d (w .base) rs (a .at .now) (c .before .loop .at) (c .before .loop .i) (c .before .loop .inv .1) (omega (arith, n, c .loop-test .left)) in
+    (sym (ap not (y .0)), (c .before .loop .inv .1 .lower, λ t. y .1))
+
+pub index-drive-spec : {M : Type 1} → statement M
+index-drive-spec =
+    tie.close
+    (tie.spec
+    Inv-loop
+    μ-loop
+    group-stored-requires
+    zone-on-requires
+    loop-holds
+    add-record-in
+    record-in-requires
+    stored-bad-requires
+    same-length
+    returns
+    cast-enter
+    add-enter
+    enter-requires
+    same-length-2
+    returns-2
+    add-i
+    loop-less
+    loop-again
+    same-length-3
+    returns-3)

@@ -1,0 +1,26 @@
+use mathlib.Core.Path.{sym, ap, _∙_}
+use mathlib.Core.Bool.{Bool, not, _||_}
+use Prim.Native.Nat.{_+_, _*_}
+use lib.Dec.{eqb}
+use lib.ListN.{getD}
+use borrow.Author.Needs.{needs}
+use Rattle.defs.specs.History.{before}
+use Rattle.tablesay.specs.Segs.{has-chunk}
+use borrow.Author.Needs.{needs}
+use Rattle.groups.proofs.is_there.Statement.{statement}
+use Rattle.groups.proofs.is_there.Tie as tie
+
+has-drive-requires : tie.Need-has-drive-requires
+has-drive-requires c κs = search needs
+
+returns : tie.Need-returns
+returns c = sym (ap (λ (b : Bool). b || not (eqb (getD (c .before .before .before .args .at .now) (256 * c .before .before .before .args .drive + c .before .before .before .args .k) 0) 0)) (sym (c .before .has-drive .ensures) ∙ c .if1 .taken))
+
+has-chunk-requires : tie.Need-has-chunk-requires
+has-chunk-requires c κs = search needs
+
+returns-2 : tie.Need-returns-2
+returns-2 c = c .has-chunk .ensures .0 ∙ sym (ap (λ (b : Bool). b || not (eqb (getD (c .before .before .before .before .args .at .now) (256 * c .before .before .before .before .args .drive + c .before .before .before .before .args .k) 0) 0)) (sym (c .before .before .has-drive .ensures) ∙ c .before .if1 .left))
+
+pub is-there-spec : {M : Type 1} → statement M
+is-there-spec = tie.close (tie.spec has-drive-requires returns has-chunk-requires returns-2)

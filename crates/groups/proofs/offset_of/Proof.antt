@@ -1,0 +1,31 @@
+use mathlib.Core.Path.{sym, _∙_}
+use Prim.Native.Nat.{_+_}
+use borrow.Author.Needs.{needs}
+use Rattle.defs.specs.History.{before}
+use Rattle.defs.specs.Lists.{isIn}
+use Rattle.defs.specs.Segments.{offsetOn, offsetOf}
+use Rattle.tablesay.specs.Tests.{cond-true, cond-false}
+use borrow.Author.Needs.{needs}
+use Rattle.groups.proofs.offset_of.Statement.{statement}
+use Rattle.groups.proofs.offset_of.Tie as tie
+
+has-drive-requires : tie.Need-has-drive-requires
+has-drive-requires c κs = search needs
+
+add-result : tie.Need-add-result
+add-result c = search needs
+
+returns : tie.Need-returns
+unfolding offsetOf
+returns c = λ p g x hd hk. sym (cond-true (isIn (c .before .before .before .before .args .w .gone) (c .before .before .before .before .args .drive)) (c .before .before .before .before .args .w .base + c .before .before .before .before .args .k) (offsetOn g (c .before .before .before .before .args .drive) (c .before .before .before .before .args .w .base + c .before .before .before .before .args .k)) (sym (c .before .before .has-drive .ensures) ∙ c .before .if1 .taken))
+
+offset-on-requires : tie.Need-offset-on-requires
+offset-on-requires c κs = (c .before .before .before .pre .0 .0, c .before .before .before .pre .0 .1, c .before .before .before .pre .0 .2, c .before .before .before .pre .0 .3, c .before .before .before .pre .1 (sym (c .before .has-drive .ensures) ∙ c .if1 .left))
+
+returns-2 : tie.Need-returns-2
+unfolding offsetOf
+returns-2 c = λ p g x hd hk. c .offset-on .ensures .1 p g x hd hk ∙ sym (cond-false (isIn (c .before .before .before .before .args .w .gone) (c .before .before .before .before .args .drive)) (c .before .before .before .before .args .w .base + c .before .before .before .before .args .k) (offsetOn g (c .before .before .before .before .args .drive) (c .before .before .before .before .args .w .base + c .before .before .before .before .args .k)) (sym (c .before .before .has-drive .ensures) ∙ c .before .if1 .left))
+
+pub offset-of-spec : {M : Type 1} → statement M
+offset-of-spec =
+    tie.close (tie.spec has-drive-requires add-result returns offset-on-requires returns-2)

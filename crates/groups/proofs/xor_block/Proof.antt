@@ -1,0 +1,71 @@
+use mathlib.Core.Path.{sym, ap, _∙_}
+use Prim.Native.Nat.{ℕ, _+_}
+use native.Mathlib.Omega.{arith}
+use borrow.Author.Needs.{needs}
+use Rattle.defs.specs.Bytes.{part, xors}
+use Rattle.defs.specs.History.{before}
+use Rattle.defs.specs.Params.{unitLen, placeOf, placeByte}
+use Rattle.laws.specs.Geometry.{ranged, data-below, zone-on-lt}
+use Rattle.laws.specs.Splice.{part-lent}
+use Rattle.groups.specs.Bases.{group-len-le, group-len-fits}
+use Rattle.groups.specs.Pieces.{block-read}
+use borrow.Author.Needs.{needs}
+use Rattle.groups.proofs.xor_block.Statement.{statement}
+use Rattle.groups.proofs.xor_block.Tie as tie
+
+zone-on-requires : tie.Need-zone-on-requires
+zone-on-requires c κs = search needs
+
+offset-on-requires : tie.Need-offset-on-requires
+offset-on-requires c κs = (let g = group-len-le (c .before .before .before .before .args .p) (c .before .before .before .before .args .w .base) in (c .before .before .before .before .pre .1 .0 .1, omega (arith, c .before .before .before .before .pre .1 .0 .4, ranged (c .before .before .before .before .args .p) (c .before .before .before .before .pre .0) .drives-high), omega (arith, c .before .before .before .before .pre .1 .0 .5, g, ranged (c .before .before .before .before .args .p) (c .before .before .before .before .pre .0) .group-high), omega (arith, c .before .before .before .before .pre .1 .0 .3, ranged (c .before .before .before .before .args .p) (c .before .before .before .before .pre .0) .stripes-high), c .before .before .before .before .pre .1 .1 .0))
+
+add-block-byte : tie.Need-add-block-byte
+add-block-byte c = let f = group-len-fits (c .before .before .before .before .before .args .p) (c .before .before .before .before .before .args .w .base) (omega (arith, c .before .before .before .before .before .pre .1 .0 .3)) in omega (arith, f, c .offset-on .ensures .0, c .before .before .before .before .before .pre .1 .1 .0, c .before .before .before .before .before .pre .1 .1 .1, ranged (c .before .before .before .before .before .args .p) (c .before .before .before .before .before .pre .0) .stripes-high)
+
+block-byte-requires : tie.Need-block-byte-requires
+block-byte-requires c κs = let f = group-len-fits (c .before .before .before .before .before .args .p) (c .before .before .before .before .before .args .w .base) (omega (arith, c .before .before .before .before .before .pre .1 .0 .3)) in (c .before .before .before .before .before .pre .0, (c .before .before .before .before .before .pre .1 .0 .4, rw (c .before .zone-on .ensures) (zone-on-lt (c .before .before .before .before .before .args .p) (c .before .before .before .before .before .args .w .seg) (c .before .before .before .before .before .args .drive) (c .before .before .before .before .before .pre .1 .0 .2)), data-below (c .before .before .before .before .before .args .p) (ranged (c .before .before .before .before .before .args .p) (c .before .before .before .before .before .pre .0)) (1 + c .offset-on .result) (omega (arith, f, c .offset-on .ensures .0, c .before .before .before .before .before .pre .1 .1 .0, c .before .before .before .before .before .pre .1 .1 .1))))
+
+add-e : tie.Need-add-e
+add-e c = search needs
+
+sub-xor-into : tie.Need-sub-xor-into
+sub-xor-into c = search needs
+
+part-xor-into-start : tie.Need-part-xor-into-start
+part-xor-into-start c = search needs
+
+part-xor-into-end : tie.Need-part-xor-into-end
+unfolding unitLen
+part-xor-into-end c = omega (arith, c .before .before .block-byte .ensures .1, c .before .before .before .before .before .before .before .before .pre .1 .0 .0)
+
+xor-into-requires : tie.Need-xor-into-requires
+xor-into-requires c κs = search needs
+
+same-length : tie.Need-same-length
+same-length c = search needs
+
+returns : tie.Need-returns
+returns c =
+    let a = c .before .before .before .before .before .before .before .before .before .before .before .before .args in
+    let p = a .p in
+    let w = a .w in
+    let im = a .image .now in
+    λ ps x. c .before .before .xor-into .ensures ∙ ap (xors (a .block .now)) (part-lent (c .before .before .before .before .before .before .block-byte .result) (p .B) im
+    ∙ ap (λ (t : ℕ). part t (p .B) im) (c .before .before .before .before .before .before .block-byte .ensures .0 ∙ (λ j. placeByte p (placeOf p (a .drive) (c .before .before .before .before .before .before .before .before .zone-on .ensures j) (1 + c .before .before .before .before .before .before .before .offset-on .ensures .0 j))))
+    ∙ sym (block-read p im ps w (a .at .now) (ranged (c .before .before .before .before .before .before .before .before .before .before .before .before .args .p) (c .before .before .before .before .before .before .before .before .before .before .before .before .pre .0)) (c .before .before .before .before .before .before .before .before .before .before .before .before .pre .1 .0 .0) x (c .before .before .before .before .before .before .before .before .before .before .before .before .pre .1 .0 .2) (c .before .before .before .before .before .before .before .before .before .before .before .before .pre .1 .0 .3) (a .k) (c .before .before .before .before .before .before .before .before .before .before .before .before .pre .1 .0 .5) (a .drive) (c .before .before .before .before .before .before .before .before .before .before .before .before .pre .1 .0 .4) (c .before .before .before .before .before .before .before .before .before .before .before .before .pre .1 .1 .0)))
+
+pub xor-block-spec : {M : Type 1} → statement M
+xor-block-spec =
+    tie.close
+    (tie.spec
+    zone-on-requires
+    offset-on-requires
+    add-block-byte
+    block-byte-requires
+    add-e
+    sub-xor-into
+    part-xor-into-start
+    part-xor-into-end
+    xor-into-requires
+    same-length
+    returns)

@@ -1,0 +1,4 @@
+pub mod Order
+pub mod Ready
+pub mod Plan
+pub mod Ends

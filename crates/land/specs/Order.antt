@@ -1,0 +1,87 @@
+-- The checks of a landing one after the other: each refuses, or leaves it to the next (01, Refusals). Assumes nothing.
+use mathlib.Core.Path.{_≡_, refl, sym, ap, _∙_}
+use mathlib.Core.List.{List, [], _∷_, _++_}
+use mathlib.Core.Bool.{true, false, not}
+use Prim.Native.Nat.{ℕ, suc, min, _<_}
+use borrow.Author.Tests.{eq-eqb, ne-eqb}
+use native.Mathlib.Omega.{arith}
+use lib.Dec.{ltb, eqb}
+use lib.ListN.{drop}
+use Rattle.defs.specs.declared.Params.{Params}
+use Rattle.defs.specs.declared.Answer.{Answer}
+use Rattle.defs.specs.declared.Answer.the-variants.{Refused, BadZone}
+use Rattle.defs.specs.Calls.Check.{zones}
+use Rattle.defs.specs.Calls.{Check, ninth, firstRefusal}
+use Rattle.defs.specs.Drives.{Disk}
+use Rattle.defs.specs.Engine.{lentOk}
+use Rattle.defs.specs.Landing.{waiting, landFaults, landChecks}
+use Rattle.defs.specs.Lists.{Opt, consIf, least}
+use Rattle.defs.specs.Lists.Opt.{some}
+use Rattle.defs.specs.Memory.{Memory, openSegment, stateOk}
+use Rattle.defs.specs.Params.{inRange}
+use Rattle.laws.specs.Geometry.{ranged}
+use Rattle.views.specs.Views.{seen}
+use Rattle.plans.specs.Refusals.{rule-fails, rule-passes, state-fault, state-fine}
+use Rattle.landfaults.specs.Lowest.{lowest-refused, low-faults}
+
+least-zero : (zs : List ℕ) → least 0 zs ≡ 0
+unfolding least
+least-zero [] = refl
+least-zero (z ∷ zs) = let e : min 0 z ≡ 0 = omega arith in ap (λ (x : ℕ). least x zs) e ∙ least-zero zs
+
+module _ (p : Params) (k : Disk) (m : Memory) (d s : ℕ) where
+  -- the first refusal among the checks from the i-th on, counted from 0
+  abbrev pub from : ℕ → Opt Answer
+  from i = firstRefusal (drop i (landChecks p (lentOk p k m) (seen p k) m d s))
+
+  -- the checks after the i-th
+  abbrev rest : ℕ → List Check
+  rest i = drop (suc i) (landChecks p (lentOk p k m) (seen p k) m d s)
+
+  pub range-fails : inRange p ≡ false → some (Refused 1) ≡ from 0
+  unfolding landChecks
+  range-fails e = sym (rule-fails 1 (not (inRange p)) (rest 0) (ap not e))
+
+  pub range-passes : inRange p ≡ true → from 1 ≡ from 0
+  unfolding landChecks
+  range-passes e = sym (rule-passes 1 (not (inRange p)) (rest 0) (ap not e))
+
+  pub lengths-fail : lentOk p k m ≡ false → some (Refused 2) ≡ from 1
+  unfolding landChecks
+  lengths-fail e = sym (rule-fails 2 (not (lentOk p k m)) (rest 1) (ap not e))
+
+  pub lengths-pass : lentOk p k m ≡ true → from 2 ≡ from 1
+  unfolding landChecks
+  lengths-pass e = sym (rule-passes 2 (not (lentOk p k m)) (rest 1) (ap not e))
+
+  pub missing-fails : (m .state .missing ≡ 0 → ⊥) → some (Refused 3) ≡ from 2
+  unfolding landChecks
+  missing-fails f = sym (rule-fails 3 (not (eqb (m .state .missing) 0)) (rest 2) (ap not (ne-eqb (m .state .missing) 0 f)))
+
+  pub missing-passes : m .state .missing ≡ 0 → from 3 ≡ from 2
+  unfolding landChecks
+  missing-passes f = sym (rule-passes 3 (not (eqb (m .state .missing) 0)) (rest 2) (ap not (eq-eqb (m .state .missing) 0 f)))
+
+  pub waiting-fails : waiting p (m .state) d s ≡ false → some (Refused 5) ≡ from 3
+  unfolding landChecks
+  waiting-fails e = sym (rule-fails 5 (not (waiting p (m .state) d s)) (rest 3) (ap not e))
+
+  pub waiting-passes : waiting p (m .state) d s ≡ true → from 4 ≡ from 3
+  unfolding landChecks
+  waiting-passes e = sym (rule-passes 5 (not (waiting p (m .state) d s)) (rest 3) (ap not e))
+
+  pub state-fails : stateOk p (m .state) ≡ false → some (BadZone 0) ≡ from 4
+  unfolding landChecks firstRefusal ninth
+  state-fails e =
+      let zs = landFaults p (seen p k) m d s in
+      sym (ap (λ (x : List ℕ). firstRefusal (zones (x ++ zs) ∷ [])) (state-fault p (m .state) e) ∙ ap (λ (x : ℕ). some (BadZone x)) (least-zero zs))
+
+  -- the last check, by the lowest bad zone
+  pub faults-are : stateOk p (m .state) ≡ true → inRange p ≡ true → openSegment (m .state) < p .Z → (z : ℕ) → z ≡ least (p .Z) (landFaults p (seen p k) m d s)
+      → firstRefusal (zones (consIf (ltb z (p .Z)) z []) ∷ []) ≡ from 4
+  unfolding landChecks
+  faults-are e ok h z q =
+      let zs = landFaults p (seen p k) m d s in
+      ap (λ (x : ℕ). firstRefusal (zones (consIf (ltb x (p .Z)) x []) ∷ [])) q
+      ∙ lowest-refused (p .Z) zs (low-faults p (ranged p ok) (seen p k) m d s h)
+      ∙ ap (λ (x : List ℕ). firstRefusal (zones (x ++ zs) ∷ [])) (sym (state-fine p (m .state) e))

@@ -1,0 +1,43 @@
+use Rattle.defs.specs.Counts.{neverPlace}
+use Rattle.defs.specs.Drives.{View, viewOf}
+use Rattle.defs.specs.Memory.{placeAt}
+use Rattle.defs.specs.Params.{addressesLen}
+use Rattle.defs.specs.Read.{placeFaults}
+use Rattle.landfaults.specs.Lowest.{entry-outside, entry-never, entry-placed}
+use borrow.Author.Needs.{needs}
+use mathlib.Core.Path.{_≡_, sym, ap, _∙_}
+use native.Mathlib.Omega.{arith}
+use Rattle.landfaults.proofs.entry_fault.Statement.{statement}
+use Rattle.landfaults.proofs.entry_fault.Tie as tie
+
+returns : tie.Need-returns
+returns c im e h q =
+    let a = c .before .before .before .before .args in
+    entry-outside (a .p) (viewOf (a .p) im (a .pointers .now)) (a .addresses .now) e (omega (arith, c .if1 .taken, q))
+
+place-at-requires : tie.Need-place-at-requires
+unfolding addressesLen
+place-at-requires c κs = omega (arith, c .if1 .left, c .before .before .before .before .pre .1 .1)
+
+returns-2 : tie.Need-returns-2
+returns-2 c im e h q =
+    let a = c .before .before .before .before .before .before .before .args in
+    let tb = a .addresses .now in
+    let f : placeAt tb (e .address) ≡ neverPlace = ap (placeAt tb) q ∙ sym (c .before .before .place-at .ensures) ∙ c .if2 .taken in
+    entry-never (a .p) (viewOf (a .p) im (a .pointers .now)) tb e (omega (arith, c .before .before .before .if1 .left, q)) f
+
+place-fault-requires : tie.Need-place-fault-requires
+place-fault-requires c κs = search needs
+
+returns-3 : tie.Need-returns-3
+returns-3 c im e h q =
+    let a = c .before .before .before .before .before .before .before .before .args in
+    let tb = a .addresses .now in
+    let v : View = viewOf (a .p) im (a .pointers .now) in
+    let f : placeAt tb (e .address) ≡ c .before .before .before .place-at .result .0 = ap (placeAt tb) q ∙ sym (c .before .before .before .place-at .ensures) in
+    entry-placed (a .p) v tb e (omega (arith, c .before .before .before .before .if1 .left, q)) (λ x. c .before .if2 .left (sym f ∙ x))
+    ∙ ap (placeFaults (a .p) v 0) f ∙ c .place-fault .ensures im h
+
+pub entry-fault-spec : {M : Type 1} → statement M
+entry-fault-spec =
+    tie.close (tie.spec returns place-at-requires returns-2 place-fault-requires returns-3)

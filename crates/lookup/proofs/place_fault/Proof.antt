@@ -1,0 +1,51 @@
+use Rattle.laws.specs.Geometry.{ranged}
+use Rattle.lookup.specs.Places.{fault-outside, fault-bad, fault-none}
+use borrow.Author.Needs.{needs}
+use mathlib.Core.Path.{sym, _∙_}
+use native.Mathlib.Omega.{arith}
+use Rattle.lookup.proofs.place_fault.Statement.{statement}
+use Rattle.lookup.proofs.place_fault.Tie as tie
+
+place-drive-requires : tie.Need-place-drive-requires
+place-drive-requires c κs = search needs
+
+place-zone-requires : tie.Need-place-zone-requires
+place-zone-requires c κs = search needs
+
+place-block-requires : tie.Need-place-block-requires
+place-block-requires c κs = search needs
+
+returns : tie.Need-returns
+returns c =
+    let a = c .before .before .before .before .before .before .args in
+    λ im h. fault-outside (a .p) im (a .pointers .now) (a .gone) (a .q .0) h (c .before .before .before .before .before .before .pre .1) (c .before .before .before .before .place-drive .result) (c .before .before .before .place-zone .result) (c .before .before .place-block .result)
+    (c .before .before .before .before .place-drive .ensures .0) (c .before .before .before .place-zone .ensures .0) (c .before .before .place-block .ensures .0) (omega (arith, ranged (a .p) (c .before .before .before .before .before .before .pre .0) .zones-low)) (c .if1 .taken)
+
+is-bad-requires : tie.Need-is-bad-requires
+is-bad-requires c κs = search needs
+
+returns-2 : tie.Need-returns-2
+returns-2 c =
+    let a = c .before .before .before .before .before .before .before .before .args in
+    λ im h. fault-bad (a .p) im (a .pointers .now) (a .gone) (a .q .0) h (c .before .before .before .before .before .before .before .before .pre .1) (c .before .before .before .before .before .before .place-drive .result) (c .before .before .before .before .before .place-zone .result) (c .before .before .before .before .place-block .result)
+    (c .before .before .before .before .before .before .place-drive .ensures .0) (c .before .before .before .before .before .place-zone .ensures .0) (c .before .before .before .before .place-block .ensures .0) (omega (arith, c .before .before .if1 .left)) (c .before .before .before .before .before .place-zone .ensures .1)
+    (sym (c .before .is-bad .ensures) ∙ c .if2 .taken)
+
+returns-3 : tie.Need-returns-3
+returns-3 c =
+    let a = c .before .before .before .before .before .before .before .before .args in
+    λ im h. fault-none (a .p) im (a .pointers .now) (a .gone) (a .q .0) h (c .before .before .before .before .before .before .before .before .pre .1) (c .before .before .before .before .before .before .place-drive .result) (c .before .before .before .before .before .place-zone .result) (c .before .before .before .before .place-block .result)
+    (c .before .before .before .before .before .before .place-drive .ensures .0) (c .before .before .before .before .before .place-zone .ensures .0) (c .before .before .before .before .place-block .ensures .0) (omega (arith, c .before .before .if1 .left)) (c .before .before .before .before .before .place-zone .ensures .1)
+    (sym (c .before .is-bad .ensures) ∙ c .if2 .left)
+
+pub place-fault-spec : {M : Type 1} → statement M
+place-fault-spec =
+    tie.close
+    (tie.spec
+    place-drive-requires
+    place-zone-requires
+    place-block-requires
+    returns
+    is-bad-requires
+    returns-2
+    returns-3)

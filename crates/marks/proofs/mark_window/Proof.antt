@@ -1,0 +1,30 @@
+use Prim.Native.Nat.{ℕ, _-_}
+use Rattle.defs.specs.Engine.Call.{close}
+use Rattle.defs.specs.History.{before}
+use Rattle.marks.specs.Marks.{marked, isPointed, marked-none}
+use borrow.Author.Needs.{needs}
+use lib.ListN.{length}
+use mathlib.Core.Bool.{Bool, _||_, or-false}
+use mathlib.Core.List.{List}
+use mathlib.Core.Path.{ap, _∙_}
+use Rattle.marks.proofs.mark_window.Statement.{statement}
+use Rattle.marks.proofs.mark_window.Tie as tie
+
+clear-requires : tie.Need-clear-requires
+clear-requires c κs = search needs
+
+mark-places-requires : tie.Need-mark-places-requires
+mark-places-requires c κs = search needs
+
+same-length : tie.Need-same-length
+same-length c = search needs
+
+returns : tie.Need-returns
+returns c =
+    let s = c .before .before .before .before .before .before .before .before .before .before .args in
+    λ q x y. c .before .before .mark-places .ensures q x y
+    ∙ ap (λ (b : Bool). isPointed (s .addresses .now) (s .n) q || b) (ap (λ (l : List ℕ). marked l (q - s .first)) (c .before .before .before .before .before .before .clear .ensures) ∙ marked-none (length (s .marks .now)) (q - s .first))
+    ∙ or-false (isPointed (s .addresses .now) (s .n) q)
+
+pub mark-window-spec : {M : Type 1} → statement M
+mark-window-spec = tie.close (tie.spec clear-requires mark-places-requires same-length returns)

@@ -1,0 +1,85 @@
+use Prim.Native.Nat.{_+_, _-_}
+use Rattle.defs.specs.Drives.{mkDisk}
+use Rattle.defs.specs.Lists.{upFrom}
+use Rattle.defs.specs.Restart.{movedStripe}
+use Rattle.groups.specs.Groups.{segmentIn}
+use Rattle.laws.specs.Geometry.{ranged}
+use Rattle.moving.specs.Moves.{movedTo, Moves, moves-reads, row-start, row-done, row-room, row-cut, row-turn}
+use lib.ListN.{length}
+use mathlib.Core.List.{map}
+use mathlib.Core.Path.{_≡_, refl, _∙_}
+use native.Mathlib.Omega.{arith}
+use Rattle.moving.proofs.move_stripe.Statement.{statement}
+use Rattle.moving.proofs.move_stripe.Tie as tie
+
+abbrev Inv-loop : tie.InvT-loop
+Inv-loop p image₀ pointers₀ w at k to s count left₀ d₀ image pointers left d = (length image ≡ length image₀) × (length pointers ≡ length pointers₀) × Moves p count (movedStripe p (segmentIn p image₀ pointers₀ w) to (w .base + k) s) (mkDisk image₀ pointers₀) (w .seg) (map (movedTo p (segmentIn p image₀ pointers₀ w) to (w .base + k) s) (upFrom d (p .N - d))) left (mkDisk image pointers)
+
+abbrev μ-loop : tie.MeasureT-loop
+μ-loop p image₀ pointers₀ w at k to s count left₀ d₀ image pointers left d = p .N - d
+
+loop-holds : tie.Need-loop-holds Inv-loop μ-loop
+loop-holds c = (refl, refl, row-start (c .before .before .before .args .p) (ranged (c .before .before .before .args .p) (c .before .before .before .pre .0)) (c .before .before .before .args .count) (mkDisk (c .before .before .before .args .image .now) (c .before .before .before .args .pointers .now)) (c .before .before .before .args .w) (c .before .before .before .pre .1 .1 .0 .seg-low) (c .before .before .before .pre .1 .1 .0 .none-gone) (c .before .before .before .args .to) (c .before .before .before .args .w .base + c .before .before .before .args .k) (c .before .before .before .args .s) (c .before .before .before .pre .1 .1 .1 .1 .1 .0 .2) (c .before .before .before .pre .1 .0) (c .before .before .before .pre .1 .1 .1 .1 .1 .1))
+
+move-chunk-requires : tie.Need-move-chunk-requires Inv-loop μ-loop
+move-chunk-requires c κs = let a = c .before .before .before .before .before .before .before .before .args in (
+  c .before .before .before .before .before .before .before .before .pre .0,
+  (
+    c .before .before .before .before .loop .inv .2 .going .whole,
+    (
+      c .before .before .before .before .before .before .before .before .pre .1 .1 .0,
+      (
+        c .before .before .before .before .before .before .before .before .pre .1 .1 .1 .0,
+        (
+          moves-reads (a .p) (ranged (c .before .before .before .before .before .before .before .before .args .p) (c .before .before .before .before .before .before .before .before .pre .0)) (a .count) (movedStripe (a .p) (segmentIn (a .p) (a .image .now) (a .pointers .now) (a .w)) (a .to) (a .w .base + a .k) (a .s)) (mkDisk (c .before .before .before .before .before .before .before .before .args .image .now) (c .before .before .before .before .before .before .before .before .args .pointers .now)) (a .w .seg) (map (movedTo (a .p) (segmentIn (a .p) (a .image .now) (a .pointers .now) (a .w)) (a .to) (a .w .base + a .k) (a .s)) (upFrom (c .before .before .before .before .loop .d) (a .p .N - c .before .before .before .before .loop .d))) (c .before .before .before .before .loop .left) (mkDisk (c .before .before .before .before .loop .image) (c .before .before .before .before .loop .pointers)) (c .before .before .before .before .loop .inv .2) (a .w) (c .before .before .before .before .before .before .before .before .pre .1 .1 .0 .none-gone) refl (a .at .now) (c .before .before .before .before .before .before .before .before .pre .1 .1 .1 .1 .0),
+          (c .before .before .if1 .taken, c .before .before .before .before .before .before .before .before .pre .1 .1 .1 .1 .1 .0 .0, c .before .before .before .before .before .before .before .before .pre .1 .1 .1 .1 .1 .0 .1, row-room (c .before .before .before .before .before .before .before .before .args .p) (ranged (c .before .before .before .before .before .before .before .before .args .p) (c .before .before .before .before .before .before .before .before .pre .0)) (c .before .before .before .before .before .before .before .before .args .count) (mkDisk (c .before .before .before .before .before .before .before .before .args .image .now) (c .before .before .before .before .before .before .before .before .args .pointers .now)) (c .before .before .before .before .before .before .before .before .args .w) (c .before .before .before .before .before .before .before .before .pre .1 .1 .0 .seg-low) (c .before .before .before .before .before .before .before .before .pre .1 .1 .0 .none-gone) (c .before .before .before .before .before .before .before .before .args .to) (c .before .before .before .before .before .before .before .before .args .w .base + c .before .before .before .before .before .before .before .before .args .k) (c .before .before .before .before .before .before .before .before .args .s) (c .before .before .before .before .before .before .before .before .pre .1 .1 .1 .1 .1 .0 .2) (c .before .before .before .before .loop .d) (c .before .before .before .before .loop .left) (mkDisk (c .before .before .before .before .loop .image) (c .before .before .before .before .loop .pointers)) (c .before .before .before .before .loop .inv .2) (c .before .before .if1 .taken)),
+        ),
+      ),
+    ),
+  ),
+)
+
+same-length : tie.Need-same-length Inv-loop μ-loop
+same-length c = c .before .before .before .before .before .move-chunk .kept .1 .0 ∙ c .before .before .before .before .before .before .before .before .before .before .loop .inv .0
+
+same-length-2 : tie.Need-same-length-2 Inv-loop μ-loop
+same-length-2 c = c .before .before .before .before .before .move-chunk .kept .1 .1 .0 ∙ c .before .before .before .before .before .before .before .before .before .before .loop .inv .1
+
+returns : tie.Need-returns Inv-loop μ-loop
+returns c = row-cut (c .before .before .before .before .before .before .before .before .before .before .before .before .before .before .args .p) (ranged (c .before .before .before .before .before .before .before .before .before .before .before .before .before .before .args .p) (c .before .before .before .before .before .before .before .before .before .before .before .before .before .before .pre .0)) (c .before .before .before .before .before .before .before .before .before .before .before .before .before .before .args .count) (mkDisk (c .before .before .before .before .before .before .before .before .before .before .before .before .before .before .args .image .now) (c .before .before .before .before .before .before .before .before .before .before .before .before .before .before .args .pointers .now)) (c .before .before .before .before .before .before .before .before .before .before .before .before .before .before .args .w) (c .before .before .before .before .before .before .before .before .before .before .before .before .before .before .pre .1 .1 .0 .seg-low) (c .before .before .before .before .before .before .before .before .before .before .before .before .before .before .pre .1 .1 .0 .none-gone) (c .before .before .before .before .before .before .before .before .before .before .before .before .before .before .args .to) (c .before .before .before .before .before .before .before .before .before .before .before .before .before .before .args .w .base + c .before .before .before .before .before .before .before .before .before .before .before .before .before .before .args .k) (c .before .before .before .before .before .before .before .before .before .before .before .before .before .before .args .s) (c .before .before .before .before .before .before .before .before .before .before .before .before .before .before .pre .1 .1 .1 .1 .1 .0 .2) (c .before .before .before .before .before .before .before .before .before .before .loop .d) (c .before .before .before .before .before .before .before .before .before .before .loop .left) (mkDisk (c .before .before .before .before .before .before .before .before .before .before .loop .image) (c .before .before .before .before .before .before .before .before .before .before .loop .pointers)) (c .before .before .before .before .before .before .before .before .before .before .loop .inv .2) (c .before .before .before .before .before .before .before .before .if1 .taken) (c .before .before .before .before .before .move-chunk .result) (mkDisk (c .before .before .before .before .before .move-chunk .last .1 .0) (c .before .before .before .before .before .move-chunk .last .1 .1 .0)) (c .before .before .before .before .before .move-chunk .ensures) (c .if2 .taken)
+
+add-d : tie.Need-add-d Inv-loop μ-loop
+add-d c = omega arith
+
+loop-less : tie.Need-loop-less Inv-loop μ-loop
+loop-less c = omega arith
+
+loop-again : tie.Need-loop-again Inv-loop μ-loop
+loop-again c = (c .before .before .before .before .before .move-chunk .kept .1 .0 ∙ c .before .before .before .before .before .before .before .before .before .before .loop .inv .0, c .before .before .before .before .before .move-chunk .kept .1 .1 .0 ∙ c .before .before .before .before .before .before .before .before .before .before .loop .inv .1, row-turn (c .before .before .before .before .before .before .before .before .before .before .before .before .before .before .args .p) (ranged (c .before .before .before .before .before .before .before .before .before .before .before .before .before .before .args .p) (c .before .before .before .before .before .before .before .before .before .before .before .before .before .before .pre .0)) (c .before .before .before .before .before .before .before .before .before .before .before .before .before .before .args .count) (mkDisk (c .before .before .before .before .before .before .before .before .before .before .before .before .before .before .args .image .now) (c .before .before .before .before .before .before .before .before .before .before .before .before .before .before .args .pointers .now)) (c .before .before .before .before .before .before .before .before .before .before .before .before .before .before .args .w) (c .before .before .before .before .before .before .before .before .before .before .before .before .before .before .pre .1 .1 .0 .seg-low) (c .before .before .before .before .before .before .before .before .before .before .before .before .before .before .pre .1 .1 .0 .none-gone) (c .before .before .before .before .before .before .before .before .before .before .before .before .before .before .args .to) (c .before .before .before .before .before .before .before .before .before .before .before .before .before .before .args .w .base + c .before .before .before .before .before .before .before .before .before .before .before .before .before .before .args .k) (c .before .before .before .before .before .before .before .before .before .before .before .before .before .before .args .s) (c .before .before .before .before .before .before .before .before .before .before .before .before .before .before .pre .1 .1 .1 .1 .1 .0 .2) (c .before .before .before .before .before .before .before .before .before .before .loop .d) (c .before .before .before .before .before .before .before .before .before .before .loop .left) (mkDisk (c .before .before .before .before .before .before .before .before .before .before .loop .image) (c .before .before .before .before .before .before .before .before .before .before .loop .pointers)) (c .before .before .before .before .before .before .before .before .before .before .loop .inv .2) (c .before .before .before .before .before .before .before .before .if1 .taken) (c .before .before .before .before .before .move-chunk .result) (mkDisk (c .before .before .before .before .before .move-chunk .last .1 .0) (c .before .before .before .before .before .move-chunk .last .1 .1 .0)) (c .before .before .before .before .before .move-chunk .ensures) (c .if2 .left))
+
+same-length-3 : tie.Need-same-length-3 Inv-loop μ-loop
+same-length-3 c = c .before .before .loop .inv .0
+
+same-length-4 : tie.Need-same-length-4 Inv-loop μ-loop
+same-length-4 c = c .before .before .loop .inv .1
+
+returns-2 : tie.Need-returns-2 Inv-loop μ-loop
+returns-2 c = row-done (c .before .before .before .before .before .before .args .p) (ranged (c .before .before .before .before .before .before .args .p) (c .before .before .before .before .before .before .pre .0)) (c .before .before .before .before .before .before .args .count) (mkDisk (c .before .before .before .before .before .before .args .image .now) (c .before .before .before .before .before .before .args .pointers .now)) (c .before .before .before .before .before .before .args .w) (c .before .before .before .before .before .before .pre .1 .1 .0 .seg-low) (c .before .before .before .before .before .before .pre .1 .1 .0 .none-gone) (c .before .before .before .before .before .before .args .to) (c .before .before .before .before .before .before .args .w .base + c .before .before .before .before .before .before .args .k) (c .before .before .before .before .before .before .args .s) (c .before .before .before .before .before .before .pre .1 .1 .1 .1 .1 .0 .2) (c .before .before .loop .d) (c .before .before .loop .left) (mkDisk (c .before .before .loop .image) (c .before .before .loop .pointers)) (c .before .before .loop .inv .2) (omega (arith, c .if1 .left))
+
+pub move-stripe-spec : {M : Type 1} → statement M
+move-stripe-spec =
+    tie.close
+    (tie.spec
+    Inv-loop
+    μ-loop
+    loop-holds
+    move-chunk-requires
+    same-length
+    same-length-2
+    returns
+    add-d
+    loop-less
+    loop-again
+    same-length-3
+    same-length-4
+    returns-2)

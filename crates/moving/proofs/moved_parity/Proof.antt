@@ -1,0 +1,92 @@
+use Prim.Native.Nat.{ℕ, _+_, _-_, _≤_}
+use Rattle.defs.specs.Layout.{mkRec}
+use Rattle.defs.specs.Params.{dataCount}
+use Rattle.groups.specs.Groups.{segmentIn, Reads}
+use Rattle.laws.specs.Geometry.{ranged}
+use Rattle.laws.specs.Mask.{isIn-empty}
+use Rattle.moving.specs.Moves.{shown-low}
+use Rattle.moving.specs.Pieces.{data-count, Xored, xored-start, xored-done, xored-step}
+use Rattle.records.specs.Record.{recOf as recVal}
+use lib.ListN.{length, replicate}
+use mathlib.Core.List.{List}
+use mathlib.Core.Path.{_≡_, refl, ap, _∙_, subst}
+use native.Mathlib.Omega.{arith}
+use Rattle.moving.proofs.moved_parity.Statement.{statement}
+use Rattle.moving.proofs.moved_parity.Tie as tie
+
+abbrev Inv-loop : tie.InvT-loop
+Inv-loop p image w at k s block₀ r₀ i₀ block r i = (i ≤ dataCount p) × (length block ≡ length block₀) × ((ps : List ℕ) → Reads p image ps w at → Xored p (segmentIn p image ps w) (w .base + k) s i block (recVal r))
+
+abbrev μ-loop : tie.MeasureT-loop
+μ-loop p image w at k s block₀ r₀ i₀ block r i = dataCount p - i
+
+clear-requires : tie.Need-clear-requires Inv-loop μ-loop
+clear-requires c κs = tt
+
+cast-t16 : tie.Need-cast-t16 Inv-loop μ-loop
+cast-t16 c = omega arith
+
+loop-holds : tie.Need-loop-holds Inv-loop μ-loop
+loop-holds c = (omega arith, refl, λ ps x. xored-start (c .before .before .before .before .before .before .before .args .p) (segmentIn (c .before .before .before .before .before .before .before .args .p) (c .before .before .before .before .before .before .before .args .image .now) ps (c .before .before .before .before .before .before .before .args .w)) (c .before .before .before .before .before .before .before .args .w .base + c .before .before .before .before .before .before .before .args .k) (c .before .before .before .before .before .before .before .args .s) (c .before .before .clear .last .0) (mkRec 0 0 (c .before .before .before .before .before .before .before .args .s)) (c .before .before .clear .ensures ∙ ap (λ (n : ℕ). replicate n 0) (c .before .before .before .before .before .before .before .pre .1 .1 .1 .1)) refl refl refl)
+
+sub-if1 : tie.Need-sub-if1 Inv-loop μ-loop
+sub-if1 c = omega (arith, (ranged (c .before .before .before .before .before .before .before .before .before .args .p) (c .before .before .before .before .before .before .before .before .before .pre .0)) .drives-low)
+
+add-data-drive : tie.Need-add-data-drive Inv-loop μ-loop
+add-data-drive c = omega (arith, shown-low (c .before .before .before .before .before .before .before .before .before .before .before .args .p) (c .before .before .before .before .before .before .before .before .before .before .before .args .w) (c .before .before .before .before .before .before .before .before .before .before .before .args .at .now) (c .before .before .before .before .before .before .before .before .before .before .before .args .k) (c .before .before .before .before .before .before .before .before .before .before .before .pre .1 .0), (ranged (c .before .before .before .before .before .before .before .before .before .before .before .args .p) (c .before .before .before .before .before .before .before .before .before .before .before .pre .0)) .stripes-high)
+
+data-drive-requires : tie.Need-data-drive-requires Inv-loop μ-loop
+data-drive-requires c κs = (c .before .before .before .before .before .before .before .before .before .before .before .pre .0, omega (arith, data-count (c .before .before .before .before .before .before .before .before .before .before .before .args .p), c .before .if1 .taken))
+
+xor-block-requires : tie.Need-xor-block-requires Inv-loop μ-loop
+xor-block-requires c κs = (c .before .before .before .before .before .before .before .before .before .before .before .before .before .pre .0, ((c .before .before .before .before .before .before .before .before .before .before .before .before .before .pre .1 .1 .1 .0, c .before .before .before .before .before .before .before .before .before .before .before .before .before .pre .1 .0 .at-long, c .before .before .before .before .before .before .before .before .before .before .before .before .before .pre .1 .0 .seg-low, c .before .before .before .before .before .before .before .before .before .before .before .before .before .pre .1 .0 .base-low, c .before .data-drive .ensures .1, c .before .before .before .before .before .before .before .before .before .before .before .before .before .pre .1 .0 .in-group, c .before .before .before .before .before .loop .inv .1 ∙ c .before .before .before .before .before .before .before .before .clear .kept .0 ∙ c .before .before .before .before .before .before .before .before .before .before .before .before .before .pre .1 .1 .1 .1), c .before .before .before .before .before .before .before .before .before .before .before .before .before .pre .1 .1 .0 (c .before .data-drive .result) (c .before .data-drive .ensures .1) (isIn-empty (c .before .data-drive .result))))
+
+stored-rec-requires : tie.Need-stored-rec-requires Inv-loop μ-loop
+stored-rec-requires c κs = (c .before .before .before .before .before .before .before .before .before .before .before .before .before .before .before .before .pre .0, ((c .before .before .before .before .before .before .before .before .before .before .before .before .before .before .before .before .pre .1 .1 .1 .0, c .before .before .before .before .before .before .before .before .before .before .before .before .before .before .before .before .pre .1 .0 .at-long, c .before .before .before .before .before .before .before .before .before .before .before .before .before .before .before .before .pre .1 .0 .seg-low, c .before .before .before .before .before .before .before .before .before .before .before .before .before .before .before .before .pre .1 .0 .base-low, c .before .before .before .before .data-drive .ensures .1, c .before .before .before .before .before .before .before .before .before .before .before .before .before .before .before .before .pre .1 .0 .in-group), c .before .before .before .before .before .before .before .before .before .before .before .before .before .before .before .before .pre .1 .1 .0 (c .before .before .before .before .data-drive .result) (c .before .before .before .before .data-drive .ensures .1) (isIn-empty (c .before .before .before .before .data-drive .result))))
+
+xor-rec-requires : tie.Need-xor-rec-requires Inv-loop μ-loop
+xor-rec-requires c κs = tt
+
+add-i : tie.Need-add-i Inv-loop μ-loop
+add-i c = omega arith
+
+loop-less : tie.Need-loop-less Inv-loop μ-loop
+loop-less c = omega (arith, data-count (c .before .before .before .before .before .before .before .before .before .before .before .before .before .before .before .before .before .before .args .p), c .before .before .before .before .before .before .before .before .if1 .taken)
+
+loop-again : tie.Need-loop-again Inv-loop μ-loop
+loop-again c = (
+  omega (arith, data-count (c .before .before .before .before .before .before .before .before .before .before .before .before .before .before .before .before .before .before .args .p), c .before .before .before .before .before .before .before .before .if1 .taken),
+  c .before .before .before .before .xor-block .kept .1 .1 .1 .1 .1 .1 .0 ∙ c .before .before .before .before .before .before .before .before .before .before .loop .inv .1,
+  λ ps x.
+      xored-step (c .before .before .before .before .before .before .before .before .before .before .before .before .before .before .before .before .before .before .args .p) (ranged (c .before .before .before .before .before .before .before .before .before .before .before .before .before .before .before .before .before .before .args .p) (c .before .before .before .before .before .before .before .before .before .before .before .before .before .before .before .before .before .before .pre .0)) (c .before .before .before .before .before .before .before .before .before .before .before .before .before .before .before .before .before .before .args .image .now) ps (c .before .before .before .before .before .before .before .before .before .before .before .before .before .before .before .before .before .before .args .w) (c .before .before .before .before .before .before .before .before .before .before .before .before .before .before .before .before .before .before .args .at .now) (c .before .before .before .before .before .before .before .before .before .before .before .before .before .before .before .before .before .before .args .k) (c .before .before .before .before .before .before .before .before .before .before .before .before .before .before .before .before .before .before .args .s) (c .before .before .before .before .before .before .before .before .before .before .before .before .before .before .before .before .before .before .pre .1 .1 .1 .0) (c .before .before .before .before .before .before .before .before .before .before .before .before .before .before .before .before .before .before .pre .1 .0 .seg-low) (c .before .before .before .before .before .before .before .before .before .before .before .before .before .before .before .before .before .before .pre .1 .0 .base-low) (c .before .before .before .before .before .before .before .before .before .before .before .before .before .before .before .before .before .before .pre .1 .0 .in-group) (c .before .before .before .before .before .before .before .before .before .before .before .before .before .before .before .before .before .before .pre .1 .1 .0) x (c .before .before .before .before .before .before .before .before .before .before .loop .i) (c .before .before .before .before .before .before .data-drive .result) (c .before .before .before .before .before .before .before .before .before .before .loop .block) (c .before .before .before .before .xor-block .last .1 .1 .1 .1 .1 .1 .0) (recVal (c .before .before .before .before .before .before .before .before .before .before .loop .r)) (recVal (c .xor-rec .result)) (recVal (c .before .stored-rec .result)) (omega (arith, data-count (c .before .before .before .before .before .before .before .before .before .before .before .before .before .before .before .before .before .before .args .p), c .before .before .before .before .before .before .before .before .if1 .taken)) (c .before .before .before .before .before .before .data-drive .ensures .0) (c .before .before .before .before .before .before .before .before .before .before .loop .inv .2 ps x) (c .before .before .before .before .xor-block .ensures ps x) (c .before .stored-rec .ensures ps x) (c .xor-rec .ensures .0) (c .xor-rec .ensures .1) (c .xor-rec .ensures .2),
+)
+
+same-length : tie.Need-same-length Inv-loop μ-loop
+same-length c = c .before .before .loop .inv .1 ∙ c .before .before .before .before .before .clear .kept .0
+
+returns : tie.Need-returns Inv-loop μ-loop
+returns c = λ ps x.
+    let e : c .before .before .loop .i ≡ dataCount (c .before .before .before .before .before .before .before .before .before .before .args .p) = omega (arith, c .before .before .loop .inv .0, data-count (c .before .before .before .before .before .before .before .before .before .before .args .p), c .if1 .left) in
+    xored-done (c .before .before .before .before .before .before .before .before .before .before .args .p) (segmentIn (c .before .before .before .before .before .before .before .before .before .before .args .p) (c .before .before .before .before .before .before .before .before .before .before .args .image .now) ps (c .before .before .before .before .before .before .before .before .before .before .args .w)) (c .before .before .before .before .before .before .before .before .before .before .args .w .base + c .before .before .before .before .before .before .before .before .before .before .args .k) (c .before .before .before .before .before .before .before .before .before .before .args .s) (c .before .before .loop .block) (recVal (c .before .before .loop .r))
+    (subst (λ (n : ℕ). Xored (c .before .before .before .before .before .before .before .before .before .before .args .p) (segmentIn (c .before .before .before .before .before .before .before .before .before .before .args .p) (c .before .before .before .before .before .before .before .before .before .before .args .image .now) ps (c .before .before .before .before .before .before .before .before .before .before .args .w)) (c .before .before .before .before .before .before .before .before .before .before .args .w .base + c .before .before .before .before .before .before .before .before .before .before .args .k) (c .before .before .before .before .before .before .before .before .before .before .args .s) n (c .before .before .loop .block) (recVal (c .before .before .loop .r))) e (c .before .before .loop .inv .2 ps x))
+
+pub moved-parity-spec : {M : Type 1} → statement M
+moved-parity-spec =
+    tie.close
+    (tie.spec
+    Inv-loop
+    μ-loop
+    clear-requires
+    cast-t16
+    loop-holds
+    sub-if1
+    add-data-drive
+    data-drive-requires
+    xor-block-requires
+    stored-rec-requires
+    xor-rec-requires
+    add-i
+    loop-less
+    loop-again
+    same-length
+    returns)

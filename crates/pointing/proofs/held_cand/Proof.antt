@@ -1,0 +1,54 @@
+use Prim.Native.Nat.{ℕ, _-_}
+use Rattle.defs.specs.Drives.{View, viewOf, placeSegment, recordAt}
+use Rattle.defs.specs.Landing.{serialAt, heldCand}
+use Rattle.defs.specs.Layout.{Rec}
+use Rattle.defs.specs.Params.{placeBlock, placeZone, placeDrive}
+use borrow.Author.Needs.{needs}
+use mathlib.Core.Path.{_≡_, ap, _∙_}
+use Rattle.pointing.proofs.held_cand.Statement.{statement}
+use Rattle.pointing.proofs.held_cand.Tie as tie
+
+place-drive-requires : tie.Need-place-drive-requires
+place-drive-requires c κs = search needs
+
+place-zone-requires : tie.Need-place-zone-requires
+place-zone-requires c κs = search needs
+
+place-block-requires : tie.Need-place-block-requires
+place-block-requires c κs = search needs
+
+sub-offset : tie.Need-sub-offset
+sub-offset c = search needs
+
+record-at-requires : tie.Need-record-at-requires
+record-at-requires c κs = search needs
+
+serial-at-requires : tie.Need-serial-at-requires
+serial-at-requires c κs = search needs
+
+returns : tie.Need-returns
+unfolding heldCand placeSegment
+returns c =
+    let a = c .before .before .before .before .before .before .before .before .args in
+    let p = a .p in
+    let q = a .place .0 in
+    let v : View = viewOf p (a .image .now) (a .pointers .now) in
+    let d : c .before .before .before .before .before .place-drive .result ≡ placeDrive p q = c .before .before .before .before .before .place-drive .ensures .0 in
+    let g : c .before .before .before .before .place-zone .result ≡ placeZone p q = c .before .before .before .before .place-zone .ensures .0 in
+    let o : c .before .before .before .place-block .result - 1 ≡ placeBlock p q - 1 = ap (λ (x : ℕ). x - 1) (c .before .before .before .place-block .ensures .0) in
+    let s : c .before .before .record-at .result .stamp .0 ≡ recordAt p v 0 (placeDrive p q) (placeZone p q) (placeBlock p q - 1) .stamp =
+    ap (λ (r : Rec). r .stamp) (c .before .before .record-at .ensures) ∙ (λ j. recordAt p v 0 (d j) (g j) (o j) .stamp) in
+    let t : c .serial-at .result .0 ≡ serialAt v (placeZone p q) = c .serial-at .ensures (a .pointers .now) (c .before .before .before .before .before .before .before .before .pre .1 .0 .pointers-long) ∙ ap (serialAt v) g in
+    λ j. record { address = a .address .0; stamp = s j; serial = t j; drive = d j; offset = o j; place = q }
+
+pub held-cand-spec : {M : Type 1} → statement M
+held-cand-spec =
+    tie.close
+    (tie.spec
+    place-drive-requires
+    place-zone-requires
+    place-block-requires
+    sub-offset
+    record-at-requires
+    serial-at-requires
+    returns)

@@ -1,0 +1,75 @@
+use Prim.Native.Nat.{ℕ, _+_, _≤_, _<_}
+use Rattle.defs.specs.Drives.{mkDisk, zoneOn}
+use Rattle.defs.specs.Landing.{serialAt}
+use Rattle.defs.specs.Layout.{headerSerial}
+use Rattle.defs.specs.Params.{unitLen, placeOf, placeByte}
+use Rattle.laws.specs.Geometry.{ranged, capacity-low, zone-on-lt}
+use Rattle.laws.specs.Splice.{length-part, part-lent}
+use Rattle.views.specs.Views.{block-view}
+use borrow.Author.Needs.{needs}
+use lib.ListN.{length}
+use mathlib.Core.List.{List}
+use mathlib.Core.Path.{_≡_, sym, ap, _∙_, subst}
+use native.Mathlib.Omega.{arith}
+use Rattle.defs.specs.Bytes.{part}
+use Rattle.pointing.proofs.serial_at.Statement.{statement}
+use Rattle.pointing.proofs.serial_at.Tie as tie
+
+zone-on-requires : tie.Need-zone-on-requires
+zone-on-requires c κs = search needs
+
+block-byte-requires : tie.Need-block-byte-requires
+block-byte-requires c κs =
+    let q = c .before .before .pre in
+    let p = c .before .before .args .p in
+    let r = ranged p (q .0) in
+    (q .0, (omega (arith, r .drives-low), omega (arith, c .zone-on .ensures, zone-on-lt p (c .before .before .args .segment) 0 (q .1 .1)), omega (arith, capacity-low p r)))
+
+add-e : tie.Need-add-e
+add-e c = omega (arith, c .before .block-byte .ensures .2, ranged (c .before .before .before .before .args .p) (c .before .before .before .before .pre .0) .block-high)
+
+sub-header-serial : tie.Need-sub-header-serial
+sub-header-serial c = search needs
+
+part-header-serial-start : tie.Need-part-header-serial-start
+part-header-serial-start c = search needs
+
+part-header-serial-end : tie.Need-part-header-serial-end
+unfolding unitLen
+part-header-serial-end c = omega (arith, c .before .block-byte .ensures .1, c .before .before .before .before .pre .1 .0)
+
+header-serial-requires : tie.Need-header-serial-requires
+unfolding unitLen
+header-serial-requires c κs =
+    let a = c .before .before .before .before .before .args in
+    let t = c .before .before .block-byte .result in
+    let l : length (part t (a .p .B) (a .image .now)) ≡ a .p .B = length-part t (a .p .B) (a .image .now) (omega (arith, c .before .before .block-byte .ensures .1, c .before .before .before .before .before .pre .1 .0)) in
+    subst (λ (x : List ℕ). 41 ≤ length x) (sym (part-lent t (a .p .B) (a .image .now))) (omega (arith, l, ranged (a .p) (c .before .before .before .before .before .pre .0) .block-low))
+
+returns : tie.Need-returns
+unfolding serialAt
+returns c ps h =
+    let a = c .before .before .before .before .before .before .args in
+    let q = c .before .before .before .before .before .before .pre in
+    let p = a .p in
+    let im = a .image .now in
+    let r = ranged p (q .0) in
+    let t = c .before .before .before .block-byte .result in
+    let z : c .before .before .before .before .zone-on .result ≡ zoneOn (a .segment) 0 = c .before .before .before .before .zone-on .ensures in
+    let e : t ≡ placeByte p (placeOf p 0 (zoneOn (a .segment) 0) 0) = c .before .before .before .block-byte .ensures .0 ∙ ap (λ (x : ℕ). placeByte p (placeOf p 0 x 0)) z in
+    c .header-serial .ensures
+    ∙ ap headerSerial (part-lent t (p .B) im ∙ ap (λ (x : ℕ). part x (p .B) im) e
+    ∙ sym (block-view p (mkDisk im ps) 0 (zoneOn (a .segment) 0) (omega (arith, r .drives-low)) (zone-on-lt p (a .segment) 0 (q .1 .1)) (record { image-long = q .1 .0; pointers-long = h }) 0 (omega (arith, capacity-low p r))))
+
+pub serial-at-spec : {M : Type 1} → statement M
+serial-at-spec =
+    tie.close
+    (tie.spec
+    zone-on-requires
+    block-byte-requires
+    add-e
+    sub-header-serial
+    part-header-serial-start
+    part-header-serial-end
+    header-serial-requires
+    returns)

@@ -1,0 +1,223 @@
+// The address table when a stripe completes: what it holds and all of the stripe's records compete at once (01, The calls, last paragraph; Landing).
+ghost use mathlib.Core.Path.{_≡_};
+ghost use mathlib.Core.Bool.{true};
+ghost use mathlib.Core.List.{List, _∷_};
+ghost use Prim.Native.Nat.{ℕ, _≤_, _<_};
+ghost use lib.ListN.{length, getD};
+ghost use Rattle.defs.specs.Drives.{viewOf, mkDisk};
+ghost use Rattle.defs.specs.Landing.{serialAt, heldCand, held, landedCand, landedCands, pointed};
+ghost use Rattle.defs.specs.Lists.{below};
+ghost use Rattle.defs.specs.Memory.{filledIn, entryIn, offsetIn, placeAt};
+ghost use Rattle.defs.specs.Params.{inRange, dataCount, imageLen, pointersLen, addressesLen};
+ghost use Rattle.defs.specs.Rank.{Cand as CandOf, best, candsOf};
+ghost use Rattle.pointing.specs.Winners.{Sane, IsData, Sound, winnerOf, putAll};
+ghost use Rattle.rank.specs.Ranked.{ranked, rankedBest};
+ghost use Rattle.views.specs.Views.{Whole};
+use defs::Address;
+use defs::Params;
+use defs::Place;
+use defs::Serial;
+use defs::State;
+use rank::Best;
+use rank::Cand;
+
+// The data offset at which a drive has the stripe of eighth i.
+fn offset_in(state: State, i: usize, drive: usize) -> usize
+    requires { ⌜ (i < 8) × (drive < 8) ⌝ }
+    ensures { λ r. ⌜ r ≡ offsetIn state i drive ⌝ }
+{
+    let j = 8 * i + drive;
+    state.offsets[j] as usize
+}
+
+// The serial in drive 0's header of a segment.
+fn serial_at(p: Params, image: &[u8], segment: usize) -> Serial
+    requires { ⌜ inRange p ≡ true ⌝ }
+    requires { ⌜ (length (now image) ≡ imageLen p) × (segment < p .Z) ⌝ }
+    ensures { λ r. ⌜ ((ps : List ℕ) → length ps ≡ pointersLen p → r .0 ≡ serialAt (viewOf p (now (image .entry)) ps) segment) ⌝ }
+{
+    let a = shape::block_byte(p, 0, shape::zone_on(segment, 0), 0);
+    let e = a + p.B;
+    records::header_serial(&image[a..e])
+}
+
+// The record at a place that the table holds of an address.
+fn held_cand(p: Params, image: &[u8], pointers: &[u8], address: Address, place: Place) -> Cand
+    requires { ⌜ inRange p ≡ true ⌝ }
+    requires { ⌜ Whole p (mkDisk (now image) (now pointers)) ⌝ }
+    requires { ⌜ IsData p (place .0) ⌝ }
+    ensures { λ r. ⌜ ranked r ≡ heldCand p (viewOf p (now (image .entry)) (now (pointers .entry))) (address .0) (place .0) ⌝ }
+{
+    let drive = shape::place_drive(p, place);
+    let segment = shape::place_zone(p, place);
+    let offset = shape::place_block(p, place) - 1;
+    let r = stored::record_at(p, image, pointers, 0, drive, segment, offset);
+    let stamp = r.stamp;
+    let serial = serial_at(p, image, segment);
+    Cand {
+        address,
+        stamp,
+        serial,
+        drive,
+        offset,
+        place,
+    }
+}
+
+// 01, The calls: the record that the table holds of an address; none where it was never written.
+fn held(p: Params, image: &[u8], pointers: &[u8], addresses: &[u8], address: Address) -> Best
+    requires { ⌜ inRange p ≡ true ⌝ }
+    requires { ⌜ Whole p (mkDisk (now image) (now pointers)) ⌝ }
+    requires { ⌜ (length (now addresses) ≡ addressesLen p) × (address .0 < p .L) × Sane p (placeAt (now addresses) (address .0)) ⌝ }
+    ensures { λ r. ⌜ rankedBest r ≡ held p (viewOf p (now (image .entry)) (now (pointers .entry))) (now (addresses .entry)) (address .0) ⌝ }
+{
+    let place = tables::place_at(addresses, address.0 as usize);
+    if place.0 == 0xffff_ffff {
+        return Best::Nothing;
+    }
+    Best::Holds(held_cand(p, image, pointers, address, place))
+}
+
+// The completed stripe's record of data position k.
+fn landed_cand(p: Params, image: &[u8], segment: usize, state: State, i: usize, k: usize) -> Cand
+    requires { ⌜ inRange p ≡ true ⌝ }
+    requires { ⌜ (length (now image) ≡ imageLen p) × (segment < p .Z) ⌝ }
+    requires { ⌜ (i < 8) × (k < dataCount p) × ((d : ℕ) → d < p .N → offsetIn state i d < p .S) ⌝ }
+    ensures { λ r. ⌜ ((ps : List ℕ) → length ps ≡ pointersLen p → ranked r ≡ landedCand p (viewOf p (now (image .entry)) ps) segment state i k) ⌝ }
+{
+    let e = waits::entry(state, i, k);
+    let address = e.address;
+    let stamp = e.stamp;
+    let drive = shape::data_drive(p, e.stripe as usize, k);
+    let offset = offset_in(state, i, drive);
+    let serial = serial_at(p, image, segment);
+    let zone = shape::zone_on(segment, drive);
+    let place = shape::place_of(p, drive, zone, 1 + offset);
+    Cand {
+        address,
+        stamp,
+        serial,
+        drive,
+        offset,
+        place,
+    }
+}
+
+// One more record of the stripe competes, if it is of the address.
+fn compete(
+    p: Params,
+    image: &[u8],
+    segment: usize,
+    state: State,
+    i: usize,
+    k: usize,
+    address: Address,
+    b: Best,
+) -> Best
+    requires { ⌜ inRange p ≡ true ⌝ }
+    requires { ⌜ (length (now image) ≡ imageLen p) × (segment < p .Z) ⌝ }
+    requires { ⌜ (i < 8) × (k < dataCount p) × ((d : ℕ) → d < p .N → offsetIn state i d < p .S) ⌝ }
+    ensures { λ r. ⌜ ((ps : List ℕ) (cs : List CandOf) → length ps ≡ pointersLen p → best (rankedBest r) (candsOf (address .0) cs) ≡ best (rankedBest b) (candsOf (address .0) (landedCand p (viewOf p (now (image .entry)) ps) segment state i k ∷ cs))) ⌝ }
+{
+    let c = landed_cand(p, image, segment, state, i, k);
+    if c.address.0 != address.0 {
+        return b;
+    }
+    rank::better(b, c)
+}
+
+// 01, The calls: of an address, the place of the record that holds among the table's and all of the stripe's.
+fn winner(
+    p: Params,
+    image: &[u8],
+    pointers: &[u8],
+    addresses: &[u8],
+    segment: usize,
+    state: State,
+    i: usize,
+    address: Address,
+) -> Place
+    requires { ⌜ inRange p ≡ true ⌝ }
+    requires { ⌜ Whole p (mkDisk (now image) (now pointers)) ⌝ }
+    requires { ⌜ (length (now addresses) ≡ addressesLen p) × (address .0 < p .L) × Sane p (placeAt (now addresses) (address .0)) ⌝ }
+    requires { ⌜ (segment < p .Z) × (i < 8) × (filledIn state i ≤ dataCount p) × ((d : ℕ) → d < p .N → offsetIn state i d < p .S) ⌝ }
+    ensures { λ r. ⌜ r .0 ≡ winnerOf p (viewOf p (now (image .entry)) (now (pointers .entry))) (now (addresses .entry)) (landedCands p (viewOf p (now (image .entry)) (now (pointers .entry))) segment state i) (address .0) ⌝ }
+{
+    let n = memory::filled_in(state, i);
+    let mut b = held(p, image, pointers, addresses, address);
+    let mut k = 0;
+    while k < n {
+        b = compete(p, image, segment, state, i, k, address, b);
+        k += 1;
+    }
+    rank::place_or(b)
+}
+
+// The places that hold, by data position; of an address that is not below L any place.
+fn winners(
+    p: Params,
+    image: &[u8],
+    pointers: &[u8],
+    addresses: &[u8],
+    segment: usize,
+    state: State,
+    i: usize,
+) -> [u32; 8]
+    requires { ⌜ inRange p ≡ true ⌝ }
+    requires { ⌜ Whole p (mkDisk (now image) (now pointers)) ⌝ }
+    requires { ⌜ (length (now addresses) ≡ addressesLen p) × Sound p state i (now addresses) ⌝ }
+    requires { ⌜ (segment < p .Z) × (i < 8) × (filledIn state i ≤ dataCount p) × ((d : ℕ) → d < p .N → offsetIn state i d < p .S) ⌝ }
+    ensures { λ r. ⌜ ((k : ℕ) → k < filledIn state i → entryIn state i k .address < p .L → getD r k 0 ≡ winnerOf p (viewOf p (now (image .entry)) (now (pointers .entry))) (now (addresses .entry)) (landedCands p (viewOf p (now (image .entry)) (now (pointers .entry))) segment state i) (entryIn state i k .address)) ⌝ }
+{
+    let n = memory::filled_in(state, i);
+    let mut out = [0u32; 8];
+    let mut k = 0;
+    while k < n {
+        let e = waits::entry(state, i, k);
+        let address = e.address;
+        if address.0 < p.L as u64 {
+            let q = winner(p, image, pointers, addresses, segment, state, i, address);
+            out[k] = q.0;
+        }
+        k += 1;
+    }
+    out
+}
+
+// Puts the places at the stripe's addresses, by data position.
+fn put_places(p: Params, addresses: &mut [u8], state: State, i: usize, places: [u32; 8])
+    requires { ⌜ inRange p ≡ true ⌝ }
+    requires { ⌜ (length (now addresses) ≡ addressesLen p) × (i < 8) × (filledIn state i ≤ dataCount p) ⌝ }
+    ensures { λ _. ⌜ now (addresses .exit) ≡ putAll p state i places (below (filledIn state i)) (now (addresses .entry)) ⌝ }
+{
+    let n = memory::filled_in(state, i);
+    let mut k = 0;
+    while k < n {
+        let e = waits::entry(state, i, k);
+        let a = e.address.0;
+        if a < p.L as u64 {
+            tables::set_place(addresses, a as usize, Place(places[k]));
+        }
+        k += 1;
+    }
+}
+
+// 01, Landing: the stripe of eighth i is complete: the table points at what holds.
+pub fn point(
+    p: Params,
+    image: &[u8],
+    pointers: &[u8],
+    addresses: &mut [u8],
+    segment: usize,
+    state: State,
+    i: usize,
+)
+    requires { ⌜ inRange p ≡ true ⌝ }
+    requires { ⌜ Whole p (mkDisk (now image) (now pointers)) ⌝ }
+    requires { ⌜ (length (now addresses) ≡ addressesLen p) × Sound p state i (now addresses) ⌝ }
+    requires { ⌜ (segment < p .Z) × (i < 8) × (filledIn state i ≤ dataCount p) × ((d : ℕ) → d < p .N → offsetIn state i d < p .S) ⌝ }
+    ensures { λ _. ⌜ now (addresses .exit) ≡ pointed p (viewOf p (now (image .entry)) (now (pointers .entry))) (now (addresses .entry)) (landedCands p (viewOf p (now (image .entry)) (now (pointers .entry))) segment state i) (landedCands p (viewOf p (now (image .entry)) (now (pointers .entry))) segment state i) (now (addresses .entry)) ⌝ }
+{
+    let places = winners(p, image, pointers, addresses, segment, state, i);
+    put_places(p, addresses, state, i, places);
+}

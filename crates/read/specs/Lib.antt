@@ -1,0 +1,6 @@
+pub mod Order
+pub mod Ready
+pub mod Decode
+pub mod Fill
+pub mod Part
+pub mod Ends

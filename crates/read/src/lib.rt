@@ -1,0 +1,343 @@
+// The two read calls (01, Read). They change neither drives nor memory.
+ghost use mathlib.Core.Path.{_≡_};
+ghost use mathlib.Core.Bool.{true, false, cond, _&&_, not};
+ghost use mathlib.Core.List.{List, []};
+ghost use Prim.Native.Nat.{ℕ, _-_, _<_};
+ghost use lib.Dec.{ltb};
+ghost use lib.ListN.{length};
+ghost use Rattle.calls.specs.Left.{checked};
+ghost use Rattle.defs.specs.Bytes.{part, xors};
+ghost use Rattle.defs.specs.Calls.{mkAfter};
+ghost use Rattle.defs.specs.Drives.{viewOf, mkDisk};
+ghost use Rattle.defs.specs.Engine.{callDisk};
+ghost use Rattle.defs.specs.Engine.Call.{read, fill};
+ghost use Rattle.defs.specs.Lists.{any, consIf, isNil, isIn};
+ghost use Rattle.defs.specs.Memory.{mkMemory, shownAt};
+ghost use Rattle.defs.specs.Params.{inRange, imageLen, pointersLen, compactLen, placeByte};
+ghost use Rattle.defs.specs.Read.Found.{away};
+ghost use Rattle.defs.specs.Read.{foundFaults, shown, decodedAt, readAnswer};
+ghost use Rattle.lookup.specs.Lies.{foundOf};
+ghost use Rattle.read.specs.Decode.{shownBlock};
+ghost use Rattle.read.specs.Order.{refusal};
+ghost use Rattle.read.specs.Part.{PartOf, partAt, partLen};
+ghost use Rattle.read.specs.Fill.{mkFill, filling, Placed, placedAt};
+ghost use Rattle.views.specs.Views.{Whole};
+use calls::Check;
+use defs::Address;
+use defs::Answer;
+use defs::Params;
+use defs::Place;
+use defs::State;
+use lookup::Found;
+
+// 01, Refusals, 9: the bad zone of a place to be read; Z where there is none.
+fn found_fault(p: Params, pointers: &[u8], gone: u8, f: Found) -> usize
+    requires { ⌜ inRange p ≡ true ⌝ }
+    requires { ⌜ length (now pointers) ≡ pointersLen p ⌝ }
+    ensures { λ r. ⌜ ((im : List ℕ) → length im ≡ imageLen p → foundFaults p (viewOf p im (now (pointers .entry))) gone (foundOf f) ≡ consIf (ltb r (p .Z)) r []) ⌝ }
+{
+    match f {
+        Found::Nowhere => p.Z,
+        Found::Here(q) => lookup::place_fault(p, pointers, gone, q),
+        Found::Away(q) => lookup::place_fault(p, pointers, gone, q),
+    }
+}
+
+// 01, Refusals: the checks of both reads, in order; len is the lent block's length, B for the first call, which has none.
+fn checks(
+    p: Params,
+    image: &[u8],
+    pointers: &[u8],
+    addresses: &[u8],
+    compact: &[u8],
+    inflight: &[u8],
+    state: State,
+    address: Address,
+    len: usize,
+) -> Check
+    ensures { λ r. ⌜ checked r ≡ refusal p (mkDisk (now (image .entry)) (now (pointers .entry))) (mkMemory state (now (addresses .entry)) (now (compact .entry)) (now (inflight .entry))) (address .0) len ⌝ }
+{
+    if !shape::in_range(p) {
+        return Check::Fail(Answer::Refused(1));
+    }
+    if !calls::lent_ok(p, image, pointers, addresses, compact, inflight) {
+        return Check::Fail(Answer::Refused(2));
+    }
+    if len != p.B {
+        return Check::Fail(Answer::Refused(2));
+    }
+    if p.L as u64 <= address.0 {
+        return Check::Fail(Answer::Refused(4));
+    }
+    if !memory::state_ok(p, state) {
+        return Check::Fail(Answer::BadZone(0));
+    }
+    let f = lookup::lookup(p, state.missing, addresses, address.0 as usize);
+    let zone = found_fault(p, pointers, state.missing, f);
+    lookup::zone_check(p, zone)
+}
+
+// 01, Read: the part of the image, never written, or on the missing drive.
+fn answer_of(p: Params, f: Found) -> Answer
+    requires { ⌜ inRange p ≡ true ⌝ }
+    ensures { λ r. ⌜ r ≡ readAnswer p (foundOf f) ⌝ }
+{
+    match f {
+        Found::Nowhere => Answer::Never,
+        Found::Here(q) => Answer::Part(shape::place_byte(p, q) as u64),
+        Found::Away(_) => Answer::Lost,
+    }
+}
+
+// The first read: its answer, a part of the image by its byte offset.
+pub fn find(
+    p: Params,
+    image: &[u8],
+    pointers: &[u8],
+    addresses: &[u8],
+    compact: &[u8],
+    inflight: &[u8],
+    state: State,
+    address: Address,
+) -> Answer
+    ensures { λ r. ⌜ mkAfter r (mkDisk (now (image .entry)) (now (pointers .entry))) (mkMemory state (now (addresses .entry)) (now (compact .entry)) (now (inflight .entry))) [] ≡ callDisk p (mkDisk (now (image .entry)) (now (pointers .entry))) (mkMemory state (now (addresses .entry)) (now (compact .entry)) (now (inflight .entry))) (read (address .0)) ⌝ }
+{
+    let b = p.B;
+    let c = checks(
+        p,
+        image,
+        pointers,
+        addresses,
+        compact,
+        inflight,
+        state,
+        address,
+        b,
+    );
+    if let Check::Fail(answer) = c {
+        return answer;
+    }
+    let lies = lookup::lookup(p, state.missing, addresses, address.0 as usize);
+    answer_of(p, lies)
+}
+
+// The first read's part of the lent image, by its place there: the block, or empty where the answer is no part.
+pub fn part<'a>(
+    p: Params,
+    image: &'a [u8],
+    pointers: &[u8],
+    addresses: &[u8],
+    compact: &[u8],
+    inflight: &[u8],
+    state: State,
+    address: Address,
+) -> &'a [u8]
+    ensures { λ r. ⌜ PartOf (image .entry) (partAt (callDisk p (mkDisk (now (image .entry)) (now (pointers .entry))) (mkMemory state (now (addresses .entry)) (now (compact .entry)) (now (inflight .entry))) (read (address .0)) .answer)) (partLen p (callDisk p (mkDisk (now (image .entry)) (now (pointers .entry))) (mkMemory state (now (addresses .entry)) (now (compact .entry)) (now (inflight .entry))) (read (address .0)) .answer)) r ⌝ }
+{
+    let answer = find(
+        p,
+        image,
+        pointers,
+        addresses,
+        compact,
+        inflight,
+        state,
+        address,
+    );
+    if let Answer::Part(at) = answer {
+        let a = at as usize;
+        let e = a + p.B;
+        return &image[a..e];
+    }
+    &image[..0]
+}
+
+// ---- decoding
+
+// Whether the table does not show the stripe on a present drive.
+fn is_hidden(
+    p: Params,
+    pointers: &[u8],
+    gone: u8,
+    compact: &[u8],
+    drive: usize,
+    zone: usize,
+    s: usize,
+) -> bool
+    requires { ⌜ inRange p ≡ true ⌝ }
+    requires { ⌜ (length (now pointers) ≡ pointersLen p) × (length (now compact) ≡ compactLen p) ⌝ }
+    requires { ⌜ (drive < p .N) × (zone < p .Z) × (s < p .S) ⌝ }
+    ensures { λ r. ⌜ ((im : List ℕ) → length im ≡ imageLen p → r ≡ (not (isIn gone drive) && isNil (shownAt p (viewOf p im (now (pointers .entry))) (now (compact .entry)) drive zone s))) ⌝ }
+{
+    if masks::has_drive(gone, drive) {
+        return false;
+    }
+    lookup::shown_at(p, pointers, compact, drive, zone, s) == p.S
+}
+
+// 01, Refusals, 9: whether some present drive does not show the stripe.
+fn any_hidden(p: Params, pointers: &[u8], gone: u8, compact: &[u8], zone: usize, s: usize) -> bool
+    requires { ⌜ inRange p ≡ true ⌝ }
+    requires { ⌜ (length (now pointers) ≡ pointersLen p) × (length (now compact) ≡ compactLen p) ⌝ }
+    requires { ⌜ (zone < p .Z) × (s < p .S) ⌝ }
+    ensures { λ r. ⌜ ((im : List ℕ) → length im ≡ imageLen p → r ≡ any isNil (shown p (viewOf p im (now (pointers .entry))) gone (now (compact .entry)) zone s)) ⌝ }
+{
+    let mut d = 0;
+    while d < p.N {
+        if is_hidden(p, pointers, gone, compact, d, zone, s) {
+            return true;
+        }
+        d += 1;
+    }
+    false
+}
+
+// Adds the chunk that the table shows on a present drive.
+fn add_chunk(
+    p: Params,
+    image: &[u8],
+    pointers: &[u8],
+    missing: u8,
+    compact: &[u8],
+    drive: usize,
+    zone: usize,
+    s: usize,
+    block: &mut [u8],
+)
+    requires { ⌜ inRange p ≡ true ⌝ }
+    requires { ⌜ Whole p (mkDisk (now image) (now pointers)) ⌝ }
+    requires { ⌜ (length (now compact) ≡ compactLen p) × (length (now block) ≡ p .B) ⌝ }
+    requires { ⌜ (drive < p .N) × (zone < p .Z) × (s < p .S) ⌝ }
+    requires { ⌜ (isIn missing drive ≡ false → isNil (shownAt p (viewOf p (now image) (now pointers)) (now compact) drive zone s) ≡ false) ⌝ }
+    ensures { λ _. ⌜ now (block .exit) ≡ cond (isIn missing drive) (now (block .entry)) (xors (now (block .entry)) (shownBlock p (viewOf p (now (image .entry)) (now (pointers .entry))) (now (compact .entry)) zone s drive)) ⌝ }
+{
+    if masks::has_drive(missing, drive) {
+        return;
+    }
+    let o = lookup::shown_at(p, pointers, compact, drive, zone, s);
+    let at = shape::block_byte(p, drive, zone, 1 + o);
+    let end = at + p.B;
+    blocks::xor_into(block, &image[at..end]);
+}
+
+// 01, Read: the block decoded from the chunks that the table shows.
+fn decode(
+    p: Params,
+    image: &[u8],
+    pointers: &[u8],
+    gone: u8,
+    compact: &[u8],
+    zone: usize,
+    s: usize,
+    block: &mut [u8],
+)
+    requires { ⌜ inRange p ≡ true ⌝ }
+    requires { ⌜ Whole p (mkDisk (now image) (now pointers)) ⌝ }
+    requires { ⌜ (length (now compact) ≡ compactLen p) × (length (now block) ≡ p .B) ⌝ }
+    requires { ⌜ (zone < p .Z) × (s < p .S) ⌝ }
+    requires { ⌜ any isNil (shown p (viewOf p (now image) (now pointers)) gone (now compact) zone s) ≡ false ⌝ }
+    ensures { λ _. ⌜ now (block .exit) ≡ decodedAt p (viewOf p (now (image .entry)) (now (pointers .entry))) gone (now (compact .entry)) zone s .block ⌝ }
+{
+    blocks::clear(block);
+    let mut d = 0;
+    while d < p.N {
+        add_chunk(p, image, pointers, gone, compact, d, zone, s, block);
+        d += 1;
+    }
+}
+
+// The second read of a place on the missing drive: decoded, or refused for its zone.
+fn fill_lost(
+    p: Params,
+    image: &[u8],
+    pointers: &[u8],
+    gone: u8,
+    compact: &[u8],
+    q: Place,
+    block: &mut [u8],
+) -> Answer
+    requires { ⌜ inRange p ≡ true ⌝ }
+    requires { ⌜ Whole p (mkDisk (now image) (now pointers)) ⌝ }
+    requires { ⌜ (length (now compact) ≡ compactLen p) × (length (now block) ≡ p .B) × Placed p (q .0) ⌝ }
+    ensures { λ r. ⌜ mkFill r (now (block .exit)) ≡ filling p (viewOf p (now (image .entry)) (now (pointers .entry))) gone (now (compact .entry)) (away (q .0)) (now (block .entry)) ⌝ }
+{
+    let zone = shape::place_zone(p, q);
+    let s = shape::place_block(p, q) - 1;
+    if any_hidden(p, pointers, gone, compact, zone, s) {
+        return Answer::BadZone(zone as u64);
+    }
+    decode(p, image, pointers, gone, compact, zone, s, block);
+    Answer::Filled
+}
+
+// The second read of a place on a present drive: a copy.
+fn fill_here(p: Params, image: &[u8], q: Place, block: &mut [u8])
+    requires { ⌜ inRange p ≡ true ⌝ }
+    requires { ⌜ (length (now image) ≡ imageLen p) × (length (now block) ≡ p .B) × Placed p (q .0) ⌝ }
+    ensures { λ _. ⌜ now (block .exit) ≡ part (placeByte p (q .0)) (p .B) (now (image .entry)) ⌝ }
+{
+    let at = shape::place_byte(p, q);
+    let end = at + p.B;
+    blocks::copy(block, &image[at..end]);
+}
+
+// 01, Read: zeros, a copy or the decoded block.
+fn fill_found(
+    p: Params,
+    image: &[u8],
+    pointers: &[u8],
+    gone: u8,
+    compact: &[u8],
+    f: Found,
+    block: &mut [u8],
+) -> Answer
+    requires { ⌜ inRange p ≡ true ⌝ }
+    requires { ⌜ Whole p (mkDisk (now image) (now pointers)) ⌝ }
+    requires { ⌜ (length (now compact) ≡ compactLen p) × (length (now block) ≡ p .B) × placedAt p (foundOf f) ⌝ }
+    ensures { λ r. ⌜ mkFill r (now (block .exit)) ≡ filling p (viewOf p (now (image .entry)) (now (pointers .entry))) gone (now (compact .entry)) (foundOf f) (now (block .entry)) ⌝ }
+{
+    match f {
+        Found::Nowhere => {
+            blocks::clear(block);
+            Answer::Filled
+        }
+        Found::Here(q) => {
+            fill_here(p, image, q, block);
+            Answer::Filled
+        }
+        Found::Away(q) => fill_lost(p, image, pointers, gone, compact, q, block),
+    }
+}
+
+// The second read, into a lent block.
+pub fn fill(
+    p: Params,
+    image: &[u8],
+    pointers: &[u8],
+    addresses: &[u8],
+    compact: &[u8],
+    inflight: &[u8],
+    state: State,
+    address: Address,
+    block: &mut [u8],
+) -> Answer
+    ensures { λ r. ⌜ mkAfter r (mkDisk (now (image .entry)) (now (pointers .entry))) (mkMemory state (now (addresses .entry)) (now (compact .entry)) (now (inflight .entry))) (now (block .exit)) ≡ callDisk p (mkDisk (now (image .entry)) (now (pointers .entry))) (mkMemory state (now (addresses .entry)) (now (compact .entry)) (now (inflight .entry))) (fill (address .0) (now (block .entry))) ⌝ }
+{
+    let n = block.len();
+    let c = checks(
+        p,
+        image,
+        pointers,
+        addresses,
+        compact,
+        inflight,
+        state,
+        address,
+        n,
+    );
+    if let Check::Fail(answer) = c {
+        return answer;
+    }
+    let source = lookup::lookup(p, state.missing, addresses, address.0 as usize);
+    fill_found(p, image, pointers, state.missing, compact, source, block)
+}

@@ -1,0 +1,96 @@
+use Prim.Native.Nat.{ℕ, _≤_}
+use Rattle.defs.specs.Bytes.{part}
+use Rattle.defs.specs.Calls.{Plan, outcome}
+use Rattle.defs.specs.Calls.Verdict.{due}
+use Rattle.defs.specs.Drives.{viewOf, Disk, mkDisk, storeDisk}
+use Rattle.defs.specs.Layout.{Rec}
+use Rattle.defs.specs.Memory.{Memory, mkMemory}
+use Rattle.laws.specs.Geometry.{ranged}
+use Rattle.reclaim.specs.Copying.{copy-sent, block-at}
+use borrow.Author.Needs.{needs}
+use lib.ListN.{length, take, replicate, length-replicate}
+use lib.Seq.{length-take-le}
+use mathlib.Core.List.{[]}
+use mathlib.Core.Path.{_≡_, sym, ap, _∙_, subst}
+use native.Mathlib.Omega.{arith}
+use Rattle.reclaim.proofs.copy_block.Statement.{statement}
+use Rattle.reclaim.proofs.copy_block.Tie as tie
+
+-- the buffer is as long as a block may be
+buffer-long : length {A = ℕ} (replicate 4096 0) ≡ 4096
+buffer-long = length-replicate {A = ℕ} 4096 0
+
+record-of-requires : tie.Need-record-of-requires
+record-of-requires c κs =
+    let w = c .before .before .before .before .before .before .before .pre .0 in
+    (w .in-range, (w .whole, c .before .before .before .before .before .before .before .pre .1))
+
+slice-aggregate-take-block : tie.Need-slice-aggregate-take-block
+slice-aggregate-take-block c = search needs
+
+take-block-requires : tie.Need-take-block-requires
+take-block-requires c κs =
+    let w = c .before .before .before .before .before .before .before .before .before .before .before .before .pre .0 in
+    let a = c .before .before .before .before .before .before .before .before .before .before .before .before .args in
+    (w .in-range, (w .whole .image-long, c .before .before .before .before .before .before .before .before .before .before .before .before .pre .1 .0, subst (λ (x : ℕ). a .p .B ≤ x) (sym buffer-long) (ranged (a .p) (w .in-range) .block-high)))
+
+array-share-prefix-block : tie.Need-array-share-prefix-block
+array-share-prefix-block c = omega (arith, ranged (c .before .before .before .before .before .before .before .before .before .before .before .before .before .before .before .before .before .before .before .args .p) (c .before .before .before .before .before .before .before .before .before .before .before .before .before .before .before .before .before .before .before .pre .0 .in-range) .block-high)
+
+slice-aggregate-send-copy : tie.Need-slice-aggregate-send-copy
+slice-aggregate-send-copy c =
+    let a = c .before .before .before .before .before .before .before .before .before .before .before .before .before .before .before .before .before .before .before .before .args in
+    let t = c .before .before .before .before .before .before .before .take-block in
+    sym (length-take-le (a .p .B) (t .last .1 .1 .1 .0) (omega (arith, t .kept .1 .1 .1 .0 ∙ buffer-long, ranged (a .p) (c .before .before .before .before .before .before .before .before .before .before .before .before .before .before .before .before .before .before .before .before .pre .0 .in-range) .block-high)))
+
+send-copy-requires : tie.Need-send-copy-requires
+send-copy-requires c κs =
+    let a = c .before .before .before .before .before .before .before .before .before .before .before .before .before .before .before .before .before .before .before .before .args in
+    let t = c .before .before .before .before .before .before .before .take-block in
+    (c .before .before .before .before .before .before .before .before .before .before .before .before .before .before .before .before .before .before .before .before .pre .0, length-take-le (a .p .B) (t .last .1 .1 .1 .0) (omega (arith, t .kept .1 .1 .1 .0 ∙ buffer-long, ranged (a .p) (c .before .before .before .before .before .before .before .before .before .before .before .before .before .before .before .before .before .before .before .before .pre .0 .in-range) .block-high)))
+
+same-length : tie.Need-same-length
+same-length c = search needs
+
+same-length-2 : tie.Need-same-length-2
+same-length-2 c = search needs
+
+same-length-3 : tie.Need-same-length-3
+same-length-3 c = search needs
+
+same-length-4 : tie.Need-same-length-4
+same-length-4 c = search needs
+
+same-length-5 : tie.Need-same-length-5
+same-length-5 c = search needs
+
+returns : tie.Need-returns
+unfolding part
+returns c =
+    let a = c .before .before .before .before .before .before .before .before .before .before .before .before .before .before .before .before .before .before .before .before .before .before .before .before .before .before .before .before .before .before .before .args in
+    let k : Disk = mkDisk (a .image .now) (a .pointers .now) in
+    let m : Memory = mkMemory (a .state) (a .addresses .now) (a .compact .now) (a .inflight .now) in
+    let v = viewOf (a .p) (a .image .now) (a .pointers .now) in
+    let w = c .before .before .before .before .before .before .before .before .before .before .before .before .before .before .before .before .before .before .before .before .before .before .before .before .before .before .before .before .before .before .before .pre .0 in
+    let r = c .before .before .before .before .before .before .before .before .before .before .before .before .before .before .before .before .before .before .before .before .before .before .before .record-of in
+    let t = c .before .before .before .before .before .before .before .before .before .before .before .before .before .before .before .before .before .before .take-block in
+    let e = copy-sent (a .p) v m (a .q .0) (r .result .address .0) (r .result .stamp .0) (take (a .p .B) (t .last .1 .1 .1 .0)) (ap (λ (x : Rec). x .address) (r .ensures)) (ap (λ (x : Rec). x .stamp) (r .ensures))
+    (t .ensures ∙ sym (block-at (a .p) (ranged (a .p) (w .in-range)) k (w .whole) (a .q .0) (c .before .before .before .before .before .before .before .before .before .before .before .before .before .before .before .before .before .before .before .before .before .before .before .before .before .before .before .before .before .before .before .pre .1 .0))) in
+    c .before .before .before .before .before .before .before .before .before .before .send-copy .ensures ∙ ap (λ (x : Plan). outcome (a .p) (storeDisk (a .p)) (a .count) k m [] (due x)) e
+
+pub copy-block-spec : {M : Type 1} → statement M
+copy-block-spec =
+    tie.close
+    (tie.spec
+    record-of-requires
+    slice-aggregate-take-block
+    take-block-requires
+    array-share-prefix-block
+    slice-aggregate-send-copy
+    send-copy-requires
+    same-length
+    same-length-2
+    same-length-3
+    same-length-4
+    same-length-5
+    returns)

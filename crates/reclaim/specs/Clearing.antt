@@ -1,0 +1,62 @@
+-- A segment's rows of the compact table zeroed, and its zones reset (01, Reclaim; What a zone holds). Assumes nothing.
+use Prim.Native.Nat.{ℕ, _+_, _-_, _*_, _≤_, _<_}
+use Rattle.calls.specs.Left.{after}
+use Rattle.calls.specs.declared.Done.{Done}
+use Rattle.defs.specs.Bytes.{splice}
+use Rattle.defs.specs.Calls.{mkAfter, cutMemory, outcome}
+use Rattle.defs.specs.Calls.Verdict.{due}
+use Rattle.defs.specs.Drives.{Disk, mkDisk, storeDisk, zoneOn, resetStores}
+use Rattle.defs.specs.Lists.{upFrom}
+use Rattle.defs.specs.Memory.{Memory, mkMemory, zeroState, compactAt}
+use Rattle.defs.specs.Params.{addressesLen, compactLen, drivesOf}
+use Rattle.defs.specs.Reclaim.{clearedRow, cleared, resetPlan}
+use Rattle.defs.specs.declared.Answer.the-variants.{Cut, Reset}
+use Rattle.defs.specs.declared.Params.{Params}
+use Rattle.laws.specs.Geometry.{item, zone-index-lt}
+use Rattle.laws.specs.Ranges.{upFrom-step, upFrom-end, below-start}
+use Rattle.laws.specs.Stores.{done-all, cut-prefix}
+use Rattle.write.specs.Ends.{cut-memory}
+use Rattle.zones.specs.Made.{Storing, storing-cut, storing-done, storing-all}
+use Rattle.zones.specs.declared.Made.{Made}
+use lib.ListN.{length, replicate}
+use mathlib.Core.Bool.{true, false}
+use mathlib.Core.List.{List, []}
+use mathlib.Core.Path.{_≡_, sym, ap, _∙_}
+use native.Mathlib.Omega.{arith}
+
+module _ (p : Params) (g : ℕ) where
+  pub rows-start : (cs : List ℕ) → cleared p g (upFrom 0 (p .N - 0)) cs ≡ cleared p g (drivesOf p) cs
+  unfolding drivesOf
+  rows-start cs = ap (λ (l : List ℕ). cleared p g l cs) (sym (below-start (p .N)))
+
+  pub rows-turn : (d : ℕ) (cs cs′ : List ℕ) → d < p .N → cs′ ≡ splice cs (compactAt p d (zoneOn g d) 0) (replicate (p .S) 0)
+      → cleared p g (upFrom (d + 1) (p .N - (d + 1))) cs′ ≡ cleared p g (upFrom d (p .N - d)) cs
+  unfolding cleared clearedRow
+  rows-turn d cs cs′ h e = ap (cleared p g (upFrom (d + 1) (p .N - (d + 1)))) e ∙ sym (ap (λ (l : List ℕ). cleared p g l cs) (upFrom-step d (p .N) h))
+
+  pub rows-end : (d : ℕ) (cs : List ℕ) → p .N ≤ d → cs ≡ cleared p g (upFrom d (p .N - d)) cs
+  unfolding cleared
+  rows-end d cs h = sym (ap (λ (l : List ℕ). cleared p g l cs) (upFrom-end d (p .N) h))
+
+-- a row lies within the table
+pub row-within : (p : Params) (d z : ℕ) → d < p .N → z < p .Z → compactAt p d z 0 + p .S ≤ compactLen p
+unfolding compactAt compactLen
+row-within p d z hd hz = omega (arith, item (d * p .Z + z) (p .N * p .Z) (p .S) (zone-index-lt p d z hd hz))
+
+-- ---- the two ends of a reset
+
+module _ (p : Params) (n g : ℕ) (k k′ : Disk) (m : Memory) (r : Made) (h : Storing p n (resetStores p g) k r k′) where
+  pub reset-cut : length (m .addresses) ≡ addressesLen p → length (m .compact) ≡ compactLen p → r .cut ≡ true → (o : Done) (ad co : List ℕ) → o .answer ≡ Cut → o .state ≡ zeroState
+      → ad ≡ replicate (length (m .addresses)) 0 → co ≡ replicate (length (m .compact)) 0
+      → after o (k′ .image) (k′ .pointers) ad co (m .inflight) [] ≡ outcome p (storeDisk p) n k m [] (due (resetPlan p m g))
+  unfolding resetPlan
+  reset-cut la lc c o ad co e s f q =
+      let w : mkMemory (o .state) ad co (m .inflight) ≡ cutMemory p m = cut-memory p m (o .state) ad co la lc s f q in
+      (λ j. mkAfter (e j) (h .disk j) (w j) []) ∙ sym (cut-prefix p (storeDisk p) n k m [] (resetPlan p m g) (storing-cut p n (resetStores p g) k r k′ h c))
+
+  pub reset-done : r .cut ≡ false → (co : List ℕ) → co ≡ cleared p g (drivesOf p) (m .compact)
+      → mkAfter (Reset g) (mkDisk (k′ .image) (k′ .pointers)) (mkMemory (m .state) (m .addresses) co (m .inflight)) [] ≡ outcome p (storeDisk p) n k m [] (due (resetPlan p m g))
+  unfolding resetPlan
+  reset-done c co e =
+      (λ j. mkAfter (Reset g) (storing-all p n (resetStores p g) k r k′ h c j) (mkMemory (m .state) (m .addresses) (e j) (m .inflight)) [])
+      ∙ sym (done-all p (storeDisk p) n k m [] (resetPlan p m g) (storing-done p n (resetStores p g) k r k′ h c))

@@ -1,0 +1,4 @@
+pub mod Choosing
+pub mod Clearing
+pub mod Copying
+pub mod Ends

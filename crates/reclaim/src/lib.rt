@@ -1,0 +1,298 @@
+// Reclaim (01, Reclaim).
+ghost use mathlib.Core.Path.{_≡_};
+ghost use mathlib.Core.Bool.{true, false, cond};
+ghost use mathlib.Core.List.{List, [], _∷_, _++_};
+ghost use Prim.Native.Nat.{ℕ, _*_, _≤_, _<_};
+ghost use lib.ListN.{length};
+ghost use Rattle.calls.specs.Left.{checked, after};
+ghost use Rattle.defs.specs.declared.Answer.the-variants.{BadZone};
+ghost use Rattle.defs.specs.Bytes.{part};
+ghost use Rattle.defs.specs.Calls.{firstRefusal, outcome};
+ghost use Rattle.defs.specs.Calls.Check.{zones};
+ghost use Rattle.defs.specs.Calls.Verdict.{due};
+ghost use Rattle.defs.specs.Drives.{viewOf, mkDisk, storeDisk};
+ghost use Rattle.defs.specs.Engine.{callDisk};
+ghost use Rattle.defs.specs.Engine.Call.{reclaim};
+ghost use Rattle.defs.specs.Lists.Opt.{some};
+ghost use Rattle.defs.specs.Memory.{mkMemory, stateFaults};
+ghost use Rattle.defs.specs.Params.{inRange, capacity, imageLen, pointersLen, addressesLen, compactLen, drivesOf, placeByte};
+ghost use Rattle.defs.specs.Reclaim.{tableFaults, victim, cleared, resetPlan, copyPlan};
+ghost use Rattle.reclaim.specs.Choosing.{copyRules, laterChecks, Chose, refusal};
+ghost use Rattle.reclaim.specs.Copying.{sentPlan, CopyReady};
+ghost use Rattle.victim.specs.Looked.{Looked};
+ghost use Rattle.victim.specs.Waiting.{isOdd};
+ghost use Rattle.views.specs.Views.{Whole};
+use calls::Check;
+use calls::Done;
+use defs::Address;
+use defs::Answer;
+use defs::Params;
+use defs::Place;
+use defs::Stamp;
+use defs::State;
+use victim::Chosen;
+
+// ---- checks
+
+// 01, Refusals, 6 to 8, of a copy.
+fn copy_rules(p: Params, pointers: &[u8], state: State) -> Check
+    requires { ⌜ inRange p ≡ true ⌝ }
+    requires { ⌜ length (now pointers) ≡ pointersLen p ⌝ }
+    ensures { λ r. ⌜ ((im : List ℕ) → length im ≡ imageLen p → checked r ≡ firstRefusal (copyRules p (viewOf p im (now (pointers .entry))) state)) ⌝ }
+{
+    if filling::no_serial(p, state) {
+        return Check::Fail(Answer::Refused(6));
+    }
+    if filling::must_wait(p, state) {
+        return Check::Fail(Answer::Refused(7));
+    }
+    if !filling::opens(p, state) {
+        return Check::Pass;
+    }
+    if filling::scarce(p, pointers, 1) {
+        return Check::Fail(Answer::Refused(8));
+    }
+    Check::Pass
+}
+
+// 01, Refusals, 9: a state number out of range, or a place outside the image; both name zone 0.
+fn has_fault(p: Params, addresses: &[u8], state: State) -> bool
+    requires { ⌜ inRange p ≡ true ⌝ }
+    requires { ⌜ length (now addresses) ≡ addressesLen p ⌝ }
+    ensures { λ r. ⌜ ((zs : List ℕ) → firstRefusal (zones (stateFaults p state ++ tableFaults p (now (addresses .entry)) ++ zs) ∷ []) ≡ cond r (some (BadZone 0)) (firstRefusal (zones zs ∷ []))) ⌝ }
+{
+    if !memory::state_ok(p, state) {
+        return true;
+    }
+    victim::any_outside(p, addresses)
+}
+
+// What reclaim does: refuse, reset a segment, or copy the block at a place.
+pub enum Choice {
+    Refuse(Answer),
+    Clear(usize),
+    Copy(Place),
+}
+
+// The checks from 5 on, of a segment with live blocks.
+fn choose_copy(
+    p: Params,
+    image: &[u8],
+    pointers: &[u8],
+    addresses: &[u8],
+    state: State,
+    seen: Chosen,
+) -> Choice
+    requires { ⌜ inRange p ≡ true ⌝ }
+    requires { ⌜ Whole p (mkDisk (now image) (now pointers)) ⌝ }
+    requires { ⌜ length (now addresses) ≡ addressesLen p ⌝ }
+    requires { ⌜ (Looked p (viewOf p (now image) (now pointers)) (now addresses) state seen) × (seen .segment < p .Z) × (0 < seen .live) ⌝ }
+    ensures { λ r. ⌜ Chose p (viewOf p (now (image .entry)) (now (pointers .entry))) state (victim p (viewOf p (now (image .entry)) (now (pointers .entry))) (now (addresses .entry))) (firstRefusal (laterChecks p (viewOf p (now (image .entry)) (now (pointers .entry))) state (now (addresses .entry)) (victim p (viewOf p (now (image .entry)) (now (pointers .entry))) (now (addresses .entry))))) r ⌝ }
+{
+    let none = Place::NEVER;
+    let first = seen.first;
+    if first.0 == none.0 {
+        return Choice::Refuse(Answer::Refused(5));
+    }
+    let c = copy_rules(p, pointers, state);
+    if let Check::Fail(answer) = c {
+        return Choice::Refuse(answer);
+    }
+    if has_fault(p, addresses, state) {
+        return Choice::Refuse(Answer::BadZone(0));
+    }
+    if seen.odd {
+        return Choice::Refuse(Answer::BadZone(seen.segment as u64));
+    }
+    Choice::Copy(first)
+}
+
+// 01, Refusals: the checks of reclaim in order, and which plan it is.
+fn choose(
+    p: Params,
+    image: &[u8],
+    pointers: &[u8],
+    addresses: &[u8],
+    compact: &[u8],
+    inflight: &[u8],
+    state: State,
+) -> Choice
+    ensures { λ r. ⌜ Chose p (viewOf p (now (image .entry)) (now (pointers .entry))) state (victim p (viewOf p (now (image .entry)) (now (pointers .entry))) (now (addresses .entry))) (refusal p (mkDisk (now (image .entry)) (now (pointers .entry))) (mkMemory state (now (addresses .entry)) (now (compact .entry)) (now (inflight .entry)))) r ⌝ }
+{
+    if !shape::in_range(p) {
+        return Choice::Refuse(Answer::Refused(1));
+    }
+    if !calls::lent_ok(p, image, pointers, addresses, compact, inflight) {
+        return Choice::Refuse(Answer::Refused(2));
+    }
+    if state.missing != 0 {
+        return Choice::Refuse(Answer::Refused(3));
+    }
+    let seen = victim::look(p, image, pointers, addresses, state);
+    if p.Z <= seen.segment {
+        return Choice::Refuse(Answer::Refused(5));
+    }
+    if 0 < seen.live {
+        return choose_copy(p, image, pointers, addresses, state, seen);
+    }
+    if has_fault(p, addresses, state) {
+        return Choice::Refuse(Answer::BadZone(0));
+    }
+    Choice::Clear(seen.segment)
+}
+
+// ---- with none live
+
+// 01, What a zone holds: the compact table is 0 where no chunk is stored.
+fn clear_rows(p: Params, compact: &mut [u8], segment: usize)
+    requires { ⌜ inRange p ≡ true ⌝ }
+    requires { ⌜ (length (now compact) ≡ compactLen p) × (segment < p .Z) ⌝ }
+    ensures { λ _. ⌜ now (compact .exit) ≡ cleared p segment (drivesOf p) (now (compact .entry)) ⌝ }
+{
+    let mut d = 0;
+    while d < p.N {
+        let zone = shape::zone_on(segment, d);
+        let at = shape::compact_at(p, d, zone, 0);
+        blocks::clear_part(compact, at, p.S);
+        d += 1;
+    }
+}
+
+// 01, Reclaim: with none live it resets its zones.
+fn reset_segment(
+    p: Params,
+    pointers: &mut [u8],
+    addresses: &mut [u8],
+    compact: &mut [u8],
+    state: State,
+    g: usize,
+    count: u64,
+) -> Done
+    requires { ⌜ inRange p ≡ true ⌝ }
+    requires { ⌜ (length (now pointers) ≡ pointersLen p) × (length (now addresses) ≡ addressesLen p) × (length (now compact) ≡ compactLen p) × (g < p .Z) ⌝ }
+    ensures { λ r. ⌜ ((im fl : List ℕ) → after r im (now (pointers .exit)) (now (addresses .exit)) (now (compact .exit)) fl [] ≡ outcome p (storeDisk p) count (mkDisk im (now (pointers .entry))) (mkMemory state (now (addresses .entry)) (now (compact .entry)) fl) [] (due (resetPlan p (mkMemory state (now (addresses .entry)) (now (compact .entry)) fl) g))) ⌝ }
+{
+    let made = zones::reset_stores(p, pointers, g, count);
+    if made.cut {
+        return calls::cut(addresses, compact);
+    }
+    clear_rows(p, compact, g);
+    Done {
+        answer: Answer::Reset(g as u64),
+        state,
+    }
+}
+
+// ---- with some live
+
+// 01, Reclaim: the block goes into the filling stripe with its old stamp, once a segment is open for it.
+fn send_copy(
+    p: Params,
+    image: &mut [u8],
+    pointers: &mut [u8],
+    addresses: &mut [u8],
+    compact: &mut [u8],
+    inflight: &mut [u8],
+    state: State,
+    address: Address,
+    stamp: Stamp,
+    block: &[u8],
+    count: u64,
+) -> Done
+    requires { ⌜ CopyReady p (mkDisk (now image) (now pointers)) (mkMemory state (now addresses) (now compact) (now inflight)) ⌝ }
+    requires { ⌜ length (now block) ≡ p .B ⌝ }
+    ensures { λ r. ⌜ after r (now (image .exit)) (now (pointers .exit)) (now (addresses .exit)) (now (compact .exit)) (now (inflight .exit)) [] ≡ outcome p (storeDisk p) count (mkDisk (now (image .entry)) (now (pointers .entry))) (mkMemory state (now (addresses .entry)) (now (compact .entry)) (now (inflight .entry))) [] (due (sentPlan p (viewOf p (now (image .entry)) (now (pointers .entry))) (mkMemory state (now (addresses .entry)) (now (compact .entry)) (now (inflight .entry))) (address .0) (stamp .0) (now (block .entry)))) ⌝ }
+{
+    let o = filling::open(p, image, pointers, state, count);
+    if o.cut {
+        return calls::cut(addresses, compact);
+    }
+    let opened = o.state;
+    let w = filling::send(p, inflight, opened, address, stamp, false, block);
+    let sent = w.state;
+    Done {
+        answer: Answer::Copied(stamp, w.stripe as u64, w.drive as u64),
+        state: sent,
+    }
+}
+
+// The block at place q, at the front of a buffer.
+fn take_block(p: Params, image: &[u8], q: Place, block: &mut [u8])
+    requires { ⌜ inRange p ≡ true ⌝ }
+    requires { ⌜ (length (now image) ≡ imageLen p) × (q .0 < p .N * p .Z * capacity p) × (p .B ≤ length (now block)) ⌝ }
+    ensures { λ _. ⌜ part 0 (p .B) (now (block .exit)) ≡ part (placeByte p (q .0)) (p .B) (now (image .entry)) ⌝ }
+{
+    let at = shape::place_byte(p, q);
+    let end = at + p.B;
+    blocks::copy_part(block, 0, &image[at..end]);
+}
+
+// 01, Reclaim: the copy of the block at place q. It is read before a segment is opened, so headers cannot touch it.
+fn copy_block(
+    p: Params,
+    image: &mut [u8],
+    pointers: &mut [u8],
+    addresses: &mut [u8],
+    compact: &mut [u8],
+    inflight: &mut [u8],
+    state: State,
+    q: Place,
+    count: u64,
+) -> Done
+    requires { ⌜ CopyReady p (mkDisk (now image) (now pointers)) (mkMemory state (now addresses) (now compact) (now inflight)) ⌝ }
+    requires { ⌜ (q .0 < p .N * p .Z * capacity p) × (isOdd p (q .0) ≡ false) ⌝ }
+    ensures { λ r. ⌜ after r (now (image .exit)) (now (pointers .exit)) (now (addresses .exit)) (now (compact .exit)) (now (inflight .exit)) [] ≡ outcome p (storeDisk p) count (mkDisk (now (image .entry)) (now (pointers .entry))) (mkMemory state (now (addresses .entry)) (now (compact .entry)) (now (inflight .entry))) [] (due (copyPlan p (viewOf p (now (image .entry)) (now (pointers .entry))) (mkMemory state (now (addresses .entry)) (now (compact .entry)) (now (inflight .entry))) (q .0))) ⌝ }
+{
+    let r = victim::record_of(p, image, pointers, q);
+    let address = r.address;
+    let stamp = r.stamp;
+    let mut block = [0u8; 4096];
+    take_block(p, image, q, &mut block);
+    let b = p.B;
+    send_copy(
+        p,
+        image,
+        pointers,
+        addresses,
+        compact,
+        inflight,
+        state,
+        address,
+        stamp,
+        &block[..b],
+        count,
+    )
+}
+
+// ---- the call
+
+// A reclaim: refused, cut or done, it leaves what the definition says.
+pub fn reclaim(
+    p: Params,
+    image: &mut [u8],
+    pointers: &mut [u8],
+    addresses: &mut [u8],
+    compact: &mut [u8],
+    inflight: &mut [u8],
+    state: State,
+    count: u64,
+) -> Done
+    ensures { λ r. ⌜ after r (now (image .exit)) (now (pointers .exit)) (now (addresses .exit)) (now (compact .exit)) (now (inflight .exit)) [] ≡ callDisk p (mkDisk (now (image .entry)) (now (pointers .entry))) (mkMemory state (now (addresses .entry)) (now (compact .entry)) (now (inflight .entry))) (reclaim count) ⌝ }
+{
+    let c = choose(p, image, pointers, addresses, compact, inflight, state);
+    match c {
+        Choice::Refuse(answer) => Done { answer, state },
+        Choice::Clear(g) => reset_segment(p, pointers, addresses, compact, state, g, count),
+        Choice::Copy(q) => copy_block(
+            p,
+            image,
+            pointers,
+            addresses,
+            compact,
+            inflight,
+            state,
+            q,
+            count,
+        ),
+    }
+}

@@ -1,0 +1,57 @@
+use mathlib.Core.Path.{sym, ap, _∙_}
+use Prim.Native.Nat.{ℕ}
+use native.Mathlib.Omega.{arith}
+use borrow.Author.Needs.{needs}
+use Rattle.defs.specs.Bytes.{part}
+use Rattle.defs.specs.History.{before}
+use Rattle.defs.specs.Layout.{headerCopied}
+use Rattle.defs.specs.Params.{placeOf, placeByte}
+use Rattle.laws.specs.Geometry.{ranged, capacity-low, zone-on-lt}
+use Rattle.laws.specs.Splice.{length-part, part-lent}
+use Rattle.remains.specs.Kept.{block-in-unit, header-bytes}
+use borrow.Author.Needs.{needs}
+use Rattle.remains.proofs.copied_on.Statement.{statement}
+use Rattle.remains.proofs.copied_on.Tie as tie
+
+zone-on-requires : tie.Need-zone-on-requires
+zone-on-requires c κs = search needs
+
+block-byte-requires : tie.Need-block-byte-requires
+block-byte-requires c κs = (c .before .before .pre .0, (c .before .before .pre .1 .1, rw (c .zone-on .ensures) (zone-on-lt (c .before .before .args .p) (c .before .before .args .segment) (c .before .before .args .drive) (c .before .before .pre .1 .2)), (let x = capacity-low (c .before .before .args .p) (ranged (c .before .before .args .p) (c .before .before .pre .0)) in omega (arith, x))))
+
+add-e : tie.Need-add-e
+add-e c = omega (arith, c .before .block-byte .ensures .2, ranged (c .before .before .before .before .args .p) (c .before .before .before .before .pre .0) .block-high)
+
+sub-header-copied : tie.Need-sub-header-copied
+sub-header-copied c = search needs
+
+part-header-copied-start : tie.Need-part-header-copied-start
+part-header-copied-start c = search needs
+
+part-header-copied-end : tie.Need-part-header-copied-end
+part-header-copied-end c = omega (arith, c .before .block-byte .ensures .1, c .before .before .before .before .pre .1 .0, block-in-unit (c .before .before .before .before .args .p))
+
+header-copied-requires : tie.Need-header-copied-requires
+header-copied-requires c κs = let l = length-part (c .before .before .block-byte .result) (c .before .before .before .before .before .args .p .B) (c .before .before .before .before .before .args .image .now) (omega (arith, c .before .before .block-byte .ensures .1, c .before .before .before .before .before .pre .1 .0, block-in-unit (c .before .before .before .before .before .args .p))) in rw (part-lent (c .before .before .block-byte .result) (c .before .before .before .before .before .args .p .B) (c .before .before .before .before .before .args .image .now)) (omega (arith, l, ranged (c .before .before .before .before .before .args .p) (c .before .before .before .before .before .pre .0) .block-low))
+
+returns : tie.Need-returns
+returns c =
+    let p = c .before .before .before .before .before .before .args .p in
+    let im = c .before .before .before .before .before .before .args .image .now in
+    λ ps h. c .header-copied .ensures
+    ∙ ap headerCopied (part-lent (c .before .before .before .block-byte .result) (p .B) im
+    ∙ ap (λ (x : ℕ). part x (p .B) im) (c .before .before .before .block-byte .ensures .0 ∙ ap (λ (x : ℕ). placeByte p (placeOf p (c .before .before .before .before .before .before .args .drive) x 0)) (c .before .before .before .before .zone-on .ensures))
+    ∙ sym (header-bytes p im ps (c .before .before .before .before .before .before .pre .1 .0) h (ranged p (c .before .before .before .before .before .before .pre .0)) (c .before .before .before .before .before .before .args .drive) (c .before .before .before .before .before .before .args .segment) (c .before .before .before .before .before .before .pre .1 .1) (c .before .before .before .before .before .before .pre .1 .2)))
+
+pub copied-on-spec : {M : Type 1} → statement M
+copied-on-spec =
+    tie.close
+    (tie.spec
+    zone-on-requires
+    block-byte-requires
+    add-e
+    sub-header-copied
+    part-header-copied-start
+    part-header-copied-end
+    header-copied-requires
+    returns)

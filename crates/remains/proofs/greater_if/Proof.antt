@@ -1,0 +1,20 @@
+use mathlib.Core.Path.{_≡_, sym, _∙_}
+use Prim.Native.Nat.{max}
+use borrow.Author.Tests.{not-true, not-false}
+use native.Mathlib.Omega.{arith}
+use Rattle.defs.specs.History.{before}
+use Rattle.tablesay.specs.Tests.{cond-true, cond-false}
+use Rattle.remains.proofs.greater_if.Statement.{statement}
+use Rattle.remains.proofs.greater_if.Tie as tie
+
+returns : tie.Need-returns
+returns c = sym (cond-false (c .before .args .flag) (max (c .before .args .a .0) (c .before .args .b .0)) (c .before .args .a .0) (not-true (c .before .args .flag) (c .if1 .taken)))
+
+returns-2 : tie.Need-returns-2
+returns-2 c = sym (cond-true (c .before .before .before .before .args .flag) (max (c .before .before .before .before .args .a .0) (c .before .before .before .before .args .b .0)) (c .before .before .before .before .args .a .0) (not-false (c .before .before .before .before .args .flag) (c .before .before .before .if1 .left)) ∙ (let q : max (c .before .before .before .before .args .a .0) (c .before .before .before .before .args .b .0) ≡ c .before .before .before .before .args .b .0 = omega (arith, c .if2 .taken) in q))
+
+returns-3 : tie.Need-returns-3
+returns-3 c = sym (cond-true (c .before .before .before .before .args .flag) (max (c .before .before .before .before .args .a .0) (c .before .before .before .before .args .b .0)) (c .before .before .before .before .args .a .0) (not-false (c .before .before .before .before .args .flag) (c .before .before .before .if1 .left)) ∙ (let q : max (c .before .before .before .before .args .a .0) (c .before .before .before .before .args .b .0) ≡ c .before .before .before .before .args .a .0 = omega (arith, c .if2 .left) in q))
+
+pub greater-if-spec : {M : Type 1} → statement M
+greater-if-spec = tie.close (tie.spec returns returns-2 returns-3)

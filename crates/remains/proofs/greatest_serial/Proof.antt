@@ -1,0 +1,58 @@
+use mathlib.Core.Path.{_≡_, sym, ap, _∙_}
+use mathlib.Core.Bool.{false, cond}
+use Prim.Native.Nat.{ℕ, _-_, max, _≤_}
+use native.Mathlib.Omega.{arith}
+use lib.ListN.{getD}
+use Rattle.defs.specs.History.{before}
+use Rattle.remains.specs.Kept.{greatestIn, greatest-first, greatest-next, greatest-all}
+use Rattle.remains.proofs.greatest_serial.Statement.{statement}
+use Rattle.remains.proofs.greatest_serial.Tie as tie
+
+abbrev Inv-loop : tie.InvT-loop
+Inv-loop p kept serials most₀ g₀ most g = (g ≤ p .Z) × (most .0 ≡ greatestIn g kept serials)
+
+abbrev μ-loop : tie.MeasureT-loop
+μ-loop p kept serials most₀ g₀ most g = p .Z - g
+
+loop-holds : tie.Need-loop-holds Inv-loop μ-loop
+loop-holds c = (omega arith, sym (greatest-first (c .before .before .args .kept .now) (c .before .before .args .serials .now)))
+
+shared-slice-read-greater-if : tie.Need-shared-slice-read-greater-if Inv-loop μ-loop
+shared-slice-read-greater-if c = omega arith
+
+mul-t8 : tie.Need-mul-t8 Inv-loop μ-loop
+mul-t8 c = omega arith
+
+shared-slice-read-t10 : tie.Need-shared-slice-read-t10 Inv-loop μ-loop
+shared-slice-read-t10 c = omega arith
+
+greater-if-requires : tie.Need-greater-if-requires Inv-loop μ-loop
+greater-if-requires c κs = tt
+
+add-g : tie.Need-add-g Inv-loop μ-loop
+add-g c = omega arith
+
+loop-less : tie.Need-loop-less Inv-loop μ-loop
+loop-less c = omega arith
+
+loop-again : tie.Need-loop-again Inv-loop μ-loop
+loop-again c = (omega (arith, c .before .before .before .if1 .taken), c .greater-if .ensures ∙ ap (λ (x : ℕ). cond (getD (c .before .before .before .before .before .before .before .before .args .kept .now) (c .before .before .before .before .before .loop .g) false) (max x (getD (c .before .before .before .before .before .before .before .before .args .serials .now) (c .before .before .before .before .before .loop .g) 0)) x) (c .before .before .before .before .before .loop .inv .1) ∙ sym (greatest-next (c .before .before .before .before .before .loop .g) (c .before .before .before .before .before .before .before .before .args .kept .now) (c .before .before .before .before .before .before .before .before .args .serials .now)))
+
+returns : tie.Need-returns Inv-loop μ-loop
+returns c = λ v gone a b. c .before .before .loop .inv .1 ∙ ap (λ (x : ℕ). greatestIn x (c .before .before .before .before .before .args .kept .now) (c .before .before .before .before .before .args .serials .now)) (let q : c .before .before .loop .g ≡ c .before .before .before .before .before .args .p .Z = omega (arith, c .if1 .left, c .before .before .loop .inv .0) in q) ∙ greatest-all (c .before .before .before .before .before .args .p) v gone (c .before .before .before .before .before .args .kept .now) (c .before .before .before .before .before .args .serials .now) a b
+
+pub greatest-serial-spec : {M : Type 1} → statement M
+greatest-serial-spec =
+    tie.close
+    (tie.spec
+    Inv-loop
+    μ-loop
+    loop-holds
+    shared-slice-read-greater-if
+    mul-t8
+    shared-slice-read-t10
+    greater-if-requires
+    add-g
+    loop-less
+    loop-again
+    returns)

@@ -1,0 +1,25 @@
+use mathlib.Core.Path.{sym, ap, _∙_}
+use mathlib.Core.Bool.{Bool, false, not, _&&_}
+use borrow.Author.Tests.{not-true, not-false}
+use lib.ListN.{getD}
+use borrow.Author.Needs.{needs}
+use Rattle.defs.specs.Drives.{viewOf, sealedIn}
+use Rattle.defs.specs.History.{before}
+use borrow.Author.Needs.{needs}
+use Rattle.remains.proofs.is_unsealed.Statement.{statement}
+use Rattle.remains.proofs.is_unsealed.Tie as tie
+
+shared-slice-read-if1 : tie.Need-shared-slice-read-if1
+shared-slice-read-if1 c = search needs
+
+returns : tie.Need-returns
+returns c = λ im h. sym (ap (λ (b : Bool). b && not (sealedIn (c .before .before .before .before .args .p) (viewOf (c .before .before .before .before .args .p) im (c .before .before .before .before .args .pointers .now)) (c .before .before .before .before .args .gone) (c .before .before .before .before .args .g))) (not-true (getD (c .before .before .before .before .args .kept .now) (c .before .before .before .before .args .g) false) (c .if1 .taken)))
+
+is-sealed-requires : tie.Need-is-sealed-requires
+is-sealed-requires c κs = search needs
+
+returns-2 : tie.Need-returns-2
+returns-2 c = λ im h. ap not (c .is-sealed .ensures im h) ∙ sym (ap (λ (b : Bool). b && not (sealedIn (c .before .before .before .before .before .args .p) (viewOf (c .before .before .before .before .before .args .p) im (c .before .before .before .before .before .args .pointers .now)) (c .before .before .before .before .before .args .gone) (c .before .before .before .before .before .args .g))) (not-false (getD (c .before .before .before .before .before .args .kept .now) (c .before .before .before .before .before .args .g) false) (c .before .if1 .left)))
+
+pub is-unsealed-spec : {M : Type 1} → statement M
+is-unsealed-spec = tie.close (tie.spec shared-slice-read-if1 returns is-sealed-requires returns-2)

@@ -1,0 +1,70 @@
+use mathlib.Core.Path.{_≡_, ap, _∙_}
+use mathlib.Core.List.{List}
+use Prim.Native.Nat.{ℕ, _-_, _≤_, _<_}
+use native.Mathlib.Omega.{arith}
+use lib.ListN.{length, getD, length-set, length-replicate}
+use Rattle.defs.specs.Drives.{viewOf}
+use Rattle.defs.specs.History.{before}
+use Rattle.defs.specs.Layout.{headerSerial}
+use Rattle.defs.specs.Params.{pointersLen}
+use Rattle.defs.specs.Segments.{headerAt}
+use Rattle.laws.specs.Geometry.{ranged}
+use Rattle.remains.specs.Kept.{set-more}
+use Rattle.remains.specs.Remains.{serialOf}
+use Rattle.remains.proofs.serials.Statement.{statement}
+use Rattle.remains.proofs.serials.Tie as tie
+
+abbrev Inv-loop : tie.InvT-loop
+Inv-loop p image gone low out₀ g₀ out g = (g ≤ p .Z) × (length out ≡ 1024) × ((ps : List ℕ) → length ps ≡ pointersLen p → (j : ℕ) → j < g → getD out j 0 ≡ serialOf p (viewOf p image ps) gone j)
+
+abbrev μ-loop : tie.MeasureT-loop
+μ-loop p image gone low out₀ g₀ out g = p .Z - g
+
+low-drive-requires : tie.Need-low-drive-requires Inv-loop μ-loop
+low-drive-requires c κs = c .before .pre .0
+
+loop-holds : tie.Need-loop-holds Inv-loop μ-loop
+loop-holds c = (omega arith, length-replicate {A = ℕ} 1024 0, λ ps h j l. absurd (let q : ⊥ = omega (arith, l) in q))
+
+serial-on-requires : tie.Need-serial-on-requires Inv-loop μ-loop
+serial-on-requires c κs = (c .before .before .before .before .before .pre .0, (c .before .before .before .before .before .pre .1, c .before .before .before .low-drive .ensures .1, c .if1 .taken))
+
+mul-out : tie.Need-mul-out Inv-loop μ-loop
+mul-out c = omega (arith, c .before .before .before .loop .inv .1, c .before .if1 .taken, ranged (c .before .before .before .before .before .before .args .p) (c .before .before .before .before .before .before .pre .0) .zones-high)
+
+array-write-out : tie.Need-array-write-out Inv-loop μ-loop
+array-write-out c = omega (arith, c .before .before .before .loop .inv .1, c .before .if1 .taken, ranged (c .before .before .before .before .before .before .args .p) (c .before .before .before .before .before .before .pre .0) .zones-high)
+
+add-g : tie.Need-add-g Inv-loop μ-loop
+add-g c = omega arith
+
+loop-less : tie.Need-loop-less Inv-loop μ-loop
+loop-less c = omega arith
+
+loop-again : tie.Need-loop-again Inv-loop μ-loop
+unfolding serialOf
+loop-again c = (
+  omega (arith, c .before .if1 .taken),
+  length-set (c .before .before .before .loop .out) (c .before .before .before .loop .g) (c .serial-on .result .0) ∙ c .before .before .before .loop .inv .1,
+  λ ps h. set-more (c .before .before .before .loop .out) (c .before .before .before .loop .g) (c .serial-on .result .0) 0 (serialOf (c .before .before .before .before .before .before .args .p) (viewOf (c .before .before .before .before .before .before .args .p) (c .before .before .before .before .before .before .args .image .now) ps) (c .before .before .before .before .before .before .args .gone)) (omega (arith, c .before .before .before .loop .inv .1, c .before .if1 .taken, ranged (c .before .before .before .before .before .before .args .p) (c .before .before .before .before .before .before .pre .0) .zones-high)) (c .before .before .before .loop .inv .2 ps h)
+      (c .serial-on .ensures ps h ∙ ap (λ (d : ℕ). headerSerial (headerAt (viewOf (c .before .before .before .before .before .before .args .p) (c .before .before .before .before .before .before .args .image .now) ps) d (c .before .before .before .loop .g))) (c .before .before .before .before .low-drive .ensures .0)),
+)
+
+returns : tie.Need-returns Inv-loop μ-loop
+returns c = λ ps h. (c .before .before .loop .inv .1, λ j l. c .before .before .loop .inv .2 ps h j (omega (arith, l, c .if1 .left)))
+
+pub serials-spec : {M : Type 1} → statement M
+serials-spec =
+    tie.close
+    (tie.spec
+    Inv-loop
+    μ-loop
+    low-drive-requires
+    loop-holds
+    serial-on-requires
+    mul-out
+    array-write-out
+    add-g
+    loop-less
+    loop-again
+    returns)

@@ -1,0 +1,2 @@
+pub mod Remains
+pub mod Kept

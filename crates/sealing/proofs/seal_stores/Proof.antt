@@ -1,0 +1,120 @@
+use Prim.Native.Nat.{ℕ, _+_, _-_, _≤_, _<_}
+use Rattle.defs.specs.Drives.{Disk, mkDisk, zoneAt, zoneOn, pointerOf, footerStores}
+use Rattle.defs.specs.Params.{footers, capacity}
+use Rattle.laws.specs.Geometry.{ranged, zone-on-lt}
+use Rattle.sealing.specs.Feet.{Sealing, sealing-start, sealing-done, sealing-room, sealing-turn, sealing-cut}
+use Rattle.views.specs.Views.{seen}
+use Rattle.zones.specs.Made.{Storing}
+use mathlib.Core.Path.{_≡_, sym, _∙_, subst}
+use native.Mathlib.Omega.{arith}
+use Rattle.sealing.proofs.seal_stores.Statement.{statement}
+use Rattle.sealing.proofs.seal_stores.Tie as tie
+
+abbrev Inv-loop : tie.InvT-loop
+Inv-loop p image₀ pointers₀ segment count n left₀ d₀ image pointers left d = (n ≡ footers p) × Sealing p (mkDisk image₀ pointers₀) segment count d left (mkDisk image pointers)
+
+abbrev μ-loop : tie.MeasureT-loop
+μ-loop p image₀ pointers₀ segment count n left₀ d₀ image pointers left d = p .N - d
+
+footers-requires : tie.Need-footers-requires Inv-loop μ-loop
+footers-requires c κs = c .before .before .pre .0
+
+loop-holds : tie.Need-loop-holds Inv-loop μ-loop
+loop-holds c =
+    let a = c .before .before .before .args in
+    (c .footers .ensures .0, sealing-start (a .p) (mkDisk (a .image .now) (a .pointers .now)) (a .segment) (a .count) (c .before .before .before .pre .1 .0))
+
+zone-on-requires : tie.Need-zone-on-requires Inv-loop μ-loop
+zone-on-requires c κs = tt
+
+-- the room that is left on the drive
+room : (c : tie.After-footer-stores-arg2 Inv-loop μ-loop) → pointerOf (c .before .before .before .before .before .before .before .before .before .args .p) (c .before .before .before .before .before .loop .pointers) (c .before .before .before .before .before .loop .d) (zoneOn (c .before .before .before .before .before .before .before .before .before .args .segment) (c .before .before .before .before .before .loop .d)) + footers (c .before .before .before .before .before .before .before .before .before .args .p) ≤ capacity (c .before .before .before .before .before .before .before .before .before .args .p)
+room c =
+    let a = c .before .before .before .before .before .before .before .before .before .args in
+    let l = c .before .before .before .before .before .loop in
+    let q = c .before .before .before .before .before .before .before .before .before .pre .1 in
+    sealing-room (a .p) (mkDisk (a .image .now) (a .pointers .now)) (a .segment) (a .count) (l .d) (l .left) (mkDisk (l .image) (l .pointers)) (l .inv .1) (c .before .before .before .if1 .taken) (q .1 .0) (q .0) (q .1 .1 (l .d) (c .before .before .before .if1 .taken))
+
+footer-stores-requires : tie.Need-footer-stores-requires Inv-loop μ-loop
+footer-stores-requires c κs =
+    let a = c .before .before .before .before .before .before .before .before .before .args in
+    let p = a .p in
+    let l = c .before .before .before .before .before .loop in
+    let q = c .before .before .before .before .before .before .before .before .before .pre in
+    let z = c .before .before .zone-on .ensures in
+    let n : c .before .before .before .before .before .before .footers .result ≡ footers p = c .before .before .before .before .before .before .footers .ensures .0 in
+    let h : pointerOf p (l .pointers) (l .d) (c .before .before .zone-on .result) + footers p ≤ capacity p = subst (λ (x : ℕ). pointerOf p (l .pointers) (l .d) x + footers p ≤ capacity p) (sym z) (room c) in
+    (q .0, (l .inv .1 .whole, (c .before .before .before .if1 .taken, omega (arith, z, zone-on-lt p (a .segment) (l .d) (q .1 .1 .0)), omega (arith, n), omega (arith, n, h))))
+
+-- what the call leaves, with the zone and the number named
+left-by : (c : tie.After-slice-known4 Inv-loop μ-loop)
+    → Storing (c .before .before .before .before .before .before .before .before .before .before .before .before .before .before .args .p) (c .before .before .before .before .before .before .before .before .before .before .loop .left) (footerStores (c .before .before .before .before .before .before .before .before .before .before .before .before .before .before .args .p) (c .before .before .before .before .before .before .before .before .before .before .loop .d) (zoneOn (c .before .before .before .before .before .before .before .before .before .before .before .before .before .before .args .segment) (c .before .before .before .before .before .before .before .before .before .before .loop .d)) (zoneAt (seen (c .before .before .before .before .before .before .before .before .before .before .before .before .before .before .args .p) (mkDisk (c .before .before .before .before .before .before .before .before .before .before .loop .image) (c .before .before .before .before .before .before .before .before .before .before .loop .pointers))) (c .before .before .before .before .before .before .before .before .before .before .loop .d) (zoneOn (c .before .before .before .before .before .before .before .before .before .before .before .before .before .before .args .segment) (c .before .before .before .before .before .before .before .before .before .before .loop .d))) 0 (footers (c .before .before .before .before .before .before .before .before .before .before .before .before .before .before .args .p)))
+    (mkDisk (c .before .before .before .before .before .before .before .before .before .before .loop .image) (c .before .before .before .before .before .before .before .before .before .before .loop .pointers)) (c .before .before .before .before .footer-stores .result) (mkDisk (c .before .before .before .before .footer-stores .last .1 .0) (c .before .before .before .before .footer-stores .last .1 .1 .0))
+left-by c =
+    let a = c .before .before .before .before .before .before .before .before .before .before .before .before .before .before .args in
+    let p = a .p in
+    let l = c .before .before .before .before .before .before .before .before .before .before .loop in
+    let k : Disk = mkDisk (l .image) (l .pointers) in
+    let k′ : Disk = mkDisk (c .before .before .before .before .footer-stores .last .1 .0) (c .before .before .before .before .footer-stores .last .1 .1 .0) in
+    let r = c .before .before .before .before .footer-stores .result in
+    let g = zoneOn (a .segment) (l .d) in
+    subst (λ (x : ℕ). Storing p (l .left) (footerStores p (l .d) g (zoneAt (seen p k) (l .d) g) 0 x) k r k′) (c .before .before .before .before .before .before .before .before .before .before .before .footers .ensures .0)
+    (subst (λ (x : ℕ). Storing p (l .left) (footerStores p (l .d) x (zoneAt (seen p k) (l .d) x) 0 (c .before .before .before .before .before .before .before .before .before .before .before .footers .result)) k r k′) (c .before .before .before .before .before .before .before .zone-on .ensures) (c .before .before .before .before .footer-stores .ensures))
+
+same-length : tie.Need-same-length Inv-loop μ-loop
+same-length c = c .before .before .before .before .before .footer-stores .kept .1 .0 ∙ c .before .before .before .before .before .before .before .before .before .before .before .loop .inv .1 .whole .image-long ∙ sym (c .before .before .before .before .before .before .before .before .before .before .before .before .before .before .before .pre .1 .0 .image-long)
+
+same-length-2 : tie.Need-same-length-2 Inv-loop μ-loop
+same-length-2 c = c .before .before .before .before .before .footer-stores .kept .1 .1 .0 ∙ c .before .before .before .before .before .before .before .before .before .before .before .loop .inv .1 .whole .pointers-long ∙ sym (c .before .before .before .before .before .before .before .before .before .before .before .before .before .before .before .pre .1 .0 .pointers-long)
+
+returns : tie.Need-returns Inv-loop μ-loop
+returns c =
+    let a = c .before .before .before .before .before .before .before .before .before .before .before .before .before .before .before .args in
+    let l = c .before .before .before .before .before .before .before .before .before .before .before .loop in
+    let q = c .before .before .before .before .before .before .before .before .before .before .before .before .before .before .before .pre .1 in
+    sealing-cut (a .p) (mkDisk (a .image .now) (a .pointers .now)) (a .segment) (a .count) (l .d) (l .left) (mkDisk (l .image) (l .pointers)) (l .inv .1) (c .before .before .before .before .before .before .before .before .before .if1 .taken) (q .1 .0) (c .before .before .before .before .before .footer-stores .result) (mkDisk (c .before .before .before .before .before .footer-stores .last .1 .0) (c .before .before .before .before .before .footer-stores .last .1 .1 .0)) (left-by (c .before)) (c .if2 .taken)
+
+add-d : tie.Need-add-d Inv-loop μ-loop
+add-d c = omega arith
+
+loop-less : tie.Need-loop-less Inv-loop μ-loop
+loop-less c = omega arith
+
+loop-again : tie.Need-loop-again Inv-loop μ-loop
+loop-again c =
+    let a = c .before .before .before .before .before .before .before .before .before .before .before .before .before .before .before .args in
+    let l = c .before .before .before .before .before .before .before .before .before .before .before .loop in
+    let q = c .before .before .before .before .before .before .before .before .before .before .before .before .before .before .before .pre .1 in
+    (l .inv .0, sealing-turn (a .p) (mkDisk (a .image .now) (a .pointers .now)) (a .segment) (a .count) (l .d) (l .left) (mkDisk (l .image) (l .pointers)) (l .inv .1) (c .before .before .before .before .before .before .before .before .before .if1 .taken) (q .1 .0) (c .before .before .before .before .before .footer-stores .result) (mkDisk (c .before .before .before .before .before .footer-stores .last .1 .0) (c .before .before .before .before .before .footer-stores .last .1 .1 .0)) (left-by (c .before)) (ranged (a .p) (c .before .before .before .before .before .before .before .before .before .before .before .before .before .before .before .pre .0)) (room (c .before .before .before .before .before .before)) (c .if2 .left))
+
+same-length-3 : tie.Need-same-length-3 Inv-loop μ-loop
+same-length-3 c = c .before .before .loop .inv .1 .whole .image-long ∙ sym (c .before .before .before .before .before .before .pre .1 .0 .image-long)
+
+same-length-4 : tie.Need-same-length-4 Inv-loop μ-loop
+same-length-4 c = c .before .before .loop .inv .1 .whole .pointers-long ∙ sym (c .before .before .before .before .before .before .pre .1 .0 .pointers-long)
+
+returns-2 : tie.Need-returns-2 Inv-loop μ-loop
+returns-2 c =
+    let a = c .before .before .before .before .before .before .args in
+    let l = c .before .before .loop in
+    sealing-done (a .p) (mkDisk (a .image .now) (a .pointers .now)) (a .segment) (a .count) (l .d) (l .left) (mkDisk (l .image) (l .pointers)) (l .inv .1) (omega (arith, c .if1 .left))
+
+pub seal-stores-spec : {M : Type 1} → statement M
+seal-stores-spec =
+    tie.close
+    (tie.spec
+    Inv-loop
+    μ-loop
+    footers-requires
+    loop-holds
+    zone-on-requires
+    footer-stores-requires
+    same-length
+    same-length-2
+    returns
+    add-d
+    loop-less
+    loop-again
+    same-length-3
+    same-length-4
+    returns-2)

@@ -1,0 +1,4 @@
+pub mod Stripes
+pub mod Feet
+pub mod Settled
+pub mod Frames

@@ -1,0 +1,26 @@
+use Prim.Native.Nat.{ℕ}
+use Rattle.defs.specs.Engine.Call.{close}
+use Rattle.defs.specs.History.{before}
+use Rattle.laws.specs.Geometry.{place-block}
+use Rattle.victim.specs.Waiting.{odd-low, odd-high}
+use borrow.Author.Needs.{needs}
+use lib.Dec.{ltb}
+use mathlib.Core.Path.{sym, ap, _∙_}
+use native.Mathlib.Omega.{arith}
+use Rattle.victim.proofs.is_odd.Statement.{statement}
+use Rattle.victim.proofs.is_odd.Tie as tie
+
+place-block-requires : tie.Need-place-block-requires
+place-block-requires c κs = search needs
+
+returns : tie.Need-returns
+returns c = sym (odd-low (c .before .before .args .p) (c .before .before .args .place .0) (omega (arith, c .if1 .taken, c .before .place-block .ensures .0)))
+
+returns-2 : tie.Need-returns-2
+returns-2 c =
+    let a = c .before .before .before .args in
+    let e = c .before .before .place-block .ensures .0 in
+    ap (λ (x : ℕ). ltb (a .p .S) x) e ∙ sym (odd-high (a .p) (a .place .0) (omega (arith, c .before .if1 .left, e)))
+
+pub is-odd-spec : {M : Type 1} → statement M
+is-odd-spec = tie.close (tie.spec place-block-requires returns returns-2)

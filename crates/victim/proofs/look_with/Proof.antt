@@ -1,0 +1,105 @@
+use Prim.Native.Nat.{ℕ, _≤_}
+use Rattle.counts.specs.Live.{counted-none}
+use Rattle.defs.specs.Drives.{viewOf}
+use Rattle.defs.specs.Engine.Call.{close}
+use Rattle.defs.specs.History.{before}
+use Rattle.defs.specs.Reclaim.{fewest}
+use Rattle.laws.specs.Geometry.{ranged}
+use Rattle.victim.specs.Looked.{looked-none, looked-some}
+use borrow.Author.Needs.{needs}
+use lib.ListN.{length, getD, replicate, length-replicate, getD-replicate}
+use mathlib.Core.Bool.{false}
+use mathlib.Core.Path.{_≡_, refl, sym, _∙_, subst}
+use native.Mathlib.Omega.{arith}
+use Rattle.victim.proofs.look_with.Statement.{statement}
+use Rattle.victim.proofs.look_with.Tie as tie
+
+slice-aggregate-count-windows : tie.Need-slice-aggregate-count-windows
+slice-aggregate-count-windows c = search needs
+
+-- antt refused `count-windows-requires` as it was built: the module's report says why
+count-windows-requires : tie.Need-count-windows-requires
+count-windows-requires c κs =
+    let a = c .before .before .before .before .before .before .args in
+    let r = ranged (a .p) (c .before .before .before .before .before .before .pre .0) in
+    let h = c .before .before .before .before .before .before .pre .1 .1 in
+    let n : length {A = ℕ} (replicate 1024 0) ≡ 1024 = length-replicate {A = ℕ} 1024 0 in (
+      c .before .before .before .before .before .before .pre .0,
+      (
+        (h .0, h .1, h .2, subst (λ (x : ℕ). a .p .Z ≤ x) (sym n) (r .zones-high)),
+        counted-none (a .p) (a .addresses .now) (replicate 1024 0) (λ g l. getD-replicate 1024 g 0 0 (omega (arith, l, r .zones-high))),
+      ),
+    )
+
+slice-aggregate-fewest : tie.Need-slice-aggregate-fewest
+slice-aggregate-fewest c = search needs
+
+-- antt refused `fewest-requires` as it was built: the module's report says why
+fewest-requires : tie.Need-fewest-requires
+fewest-requires c κs =
+    let a = c .before .before .before .before .before .before .before .before .before .before .before .args in
+    let r = ranged (a .p) (c .before .before .before .before .before .before .before .before .before .before .before .pre .0) in
+    let n : length {A = ℕ} (replicate 1024 0) ≡ 1024 = length-replicate {A = ℕ} 1024 0 in
+    (c .before .before .before .before .before .before .before .before .before .before .before .pre .0, (c .before .before .before .before .before .before .before .before .before .before .before .pre .1 .0 .pointers-long, subst (λ (x : ℕ). a .p .Z ≤ x) (sym (c .before .before .before .before .count-windows .kept .1 .1 .1 .0 ∙ n)) (r .zones-high)))
+
+same-length : tie.Need-same-length
+same-length c = search needs
+
+-- antt refused `returns` as it was built: the module's report says why
+returns : tie.Need-returns
+returns c =
+    let a = c .before .before .before .before .before .before .before .before .before .before .before .before .before .before .args in
+    let p = a .p in
+    let tb = a .addresses .now in
+    let w = c .before .before .before .before .before .before .before .before .before .before .before .before .before .before .pre .1 .0 in
+    looked-none p (viewOf p (a .image .now) (a .pointers .now)) tb (a .state) (c .before .before .fewest .result) (c .before .before .fewest .ensures (a .image .now) tb (w .image-long) (c .before .before .before .before .before .before .before .count-windows .ensures .0)) (c .if1 .taken)
+    (record { segment = c .before .before .fewest .result; live = 0; first = record { 0 = 4294967295 }; odd = false }) refl refl refl refl
+
+-- antt refused `mul-n` as it was built: the module's report says why
+mul-n : tie.Need-mul-n
+mul-n c = omega (arith, c .if1 .left, ranged (c .before .before .before .before .before .before .before .before .before .before .before .before .before .before .args .p) (c .before .before .before .before .before .before .before .before .before .before .before .before .before .before .pre .0) .zones-high)
+
+-- antt refused `array-read-n` as it was built: the module's report says why
+array-read-n : tie.Need-array-read-n
+array-read-n c = omega (arith, c .if1 .left, ranged (c .before .before .before .before .before .before .before .before .before .before .before .before .before .before .args .p) (c .before .before .before .before .before .before .before .before .before .before .before .before .before .before .pre .0) .zones-high)
+
+-- antt refused `idle-of-requires` as it was built: the module's report says why
+idle-of-requires : tie.Need-idle-of-requires
+idle-of-requires c κs =
+    let h = c .before .before .before .before .before .before .before .before .before .before .before .before .before .before .before .pre .1 .1 in
+    let k = c .before .before .before .before .before .before .before .before .count-windows .kept .1 .1 .0 in
+    (c .before .before .before .before .before .before .before .before .before .before .before .before .before .before .before .pre .0, (c .before .before .before .before .before .before .before .before .before .before .before .before .before .before .before .pre .1 .0, ((h .0, omega (arith, h .1, k), omega (arith, h .2, k)), λ x. c .before .before .before .before .before .before .before .before .count-windows .ensures .1 (omega (arith, x, k)))))
+
+same-length-2 : tie.Need-same-length-2
+same-length-2 c = search needs
+
+-- antt refused `returns-2` as it was built: the module's report says why
+returns-2 : tie.Need-returns-2
+returns-2 c =
+    let a = c .before .before .before .before .before .before .before .before .before .before .before .before .before .before .before .before .before .before .before .args in
+    let p = a .p in
+    let tb = a .addresses .now in
+    let w = c .before .before .before .before .before .before .before .before .before .before .before .before .before .before .before .before .before .before .before .pre .1 .0 in
+    let g = c .before .before .before .before .before .before .before .fewest .result in
+    let i = c .before .before .before .idle-of .result in
+    let so = c .before .before .before .before .before .before .before .before .before .before .before .before .count-windows .ensures .0 in
+    looked-some p (viewOf p (a .image .now) (a .pointers .now)) tb (a .state) g (c .before .before .before .before .before .before .before .fewest .ensures (a .image .now) tb (w .image-long) so) (ranged p (c .before .before .before .before .before .before .before .before .before .before .before .before .before .before .before .before .before .before .before .pre .0)) (omega (arith, c .before .before .before .before .before .if1 .left))
+    (c .before .before .before .before .before .before .before .before .before .before .before .before .count-windows .last .1 .1 .1 .0) so i (c .before .before .before .idle-of .ensures)
+    (record { segment = g; live = getD (c .before .before .before .before .before .before .before .before .before .before .before .before .count-windows .last .1 .1 .1 .0) g 0; first = i .first; odd = i .odd }) refl refl refl refl
+
+-- antt refused `look-with-spec` as it was built: the module's report says why
+pub look-with-spec : {M : Type 1} → statement M
+look-with-spec =
+    tie.close
+    (tie.spec
+    slice-aggregate-count-windows
+    count-windows-requires
+    slice-aggregate-fewest
+    fewest-requires
+    same-length
+    returns
+    mul-n
+    array-read-n
+    idle-of-requires
+    same-length-2
+    returns-2)

@@ -1,0 +1,15 @@
+use Rattle.defs.specs.Engine.Call.{close}
+use Rattle.defs.specs.History.{before}
+use Rattle.victim.specs.Waiting.{else-first, else-kept}
+use mathlib.Core.Path.{sym}
+use Rattle.victim.proofs.or_else.Statement.{statement}
+use Rattle.victim.proofs.or_else.Tie as tie
+
+returns : tie.Need-returns
+returns c = sym (else-first (c .before .before .before .args .a .0) (c .before .before .before .args .b .0) (c .if1 .taken))
+
+returns-2 : tie.Need-returns-2
+returns-2 c = sym (else-kept (c .before .before .before .args .a .0) (c .before .before .before .args .b .0) (c .if1 .left))
+
+pub or-else-spec : {M : Type 1} → statement M
+or-else-spec = tie.close (tie.spec returns returns-2)

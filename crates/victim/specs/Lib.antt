@@ -1,0 +1,3 @@
+pub mod Looked
+pub mod Waiting
+pub mod Outside
