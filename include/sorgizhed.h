@@ -46,31 +46,122 @@ typedef struct {
 } sorgizhed_answer;
 
 /* Kinds. */
-#define SORGIZHED_REFUSED 0  /* first: the refusal's number, 1 to 8 */
-#define SORGIZHED_BAD_ZONE 1 /* refusal 9; first: 9, second: the lowest bad zone */
-#define SORGIZHED_CUT 2      /* the store count was reached: image and pointers are as after that many stores, state and tables are all zeros,
-                                other buffers as they came; the run is over, the next call is a restart */
-#define SORGIZHED_SENT 3     /* first: stamp, second: stripe, third: drive */
+#define SORGIZHED_REFUSED 0    /* first: the refusal's number, 1 to 8 */
+#define SORGIZHED_BAD_ZONE 1   /* refusal 9; first: 9, second: the lowest bad zone */
+#define SORGIZHED_CUT 2        /* the store count was reached: image and pointers are as after that many stores, state and tables are all zeros,
+                                  other buffers as they came; the run is over, the next call is a restart */
+#define SORGIZHED_SENT 3       /* a write; first: stamp, second: stripe, third: drive */
+#define SORGIZHED_LANDED 4     /* a landing; first: how many writes it acknowledges, 0 while the stripe is not complete */
+#define SORGIZHED_CLOSED 5     /* a closing; first: stripe */
+#define SORGIZHED_COPIED 6     /* a reclaim that copied a block; first: its stamp, second: stripe, third: drive */
+#define SORGIZHED_RESET 7      /* a reclaim that freed a segment; first: zone */
+#define SORGIZHED_PART 8       /* a read; first: the byte of the image at which the block of b bytes begins */
+#define SORGIZHED_NEVER 9      /* a read of an address that was never written */
+#define SORGIZHED_LOST 10      /* a read of a block on the missing drive: sorgizhed_fill decodes it */
+#define SORGIZHED_FILLED 11    /* the lent block is filled */
+#define SORGIZHED_RESTARTED 12 /* a restart; first: stripes that some drive had begun to store, and whose writes no landing acknowledged */
+#define SORGIZHED_REBUILT 13   /* a rebuild */
 
-/* Refusals, in the order in which they are looked for. */
-#define SORGIZHED_BAD_PARAMETER 1   /* a parameter outside its range */
+/* Refusals, in the order in which they are looked for (restart and rebuild look for 9 before 6 and 8). A refusal changes no byte. */
+#define SORGIZHED_BAD_PARAMETER 1   /* a parameter outside its range; restart: missing neither below n nor 255; rebuild: a drive that the last
+                                       restart did not name missing */
 #define SORGIZHED_BAD_LENGTH 2      /* a lent buffer's length differs from what the parameters give */
-#define SORGIZHED_READ_ONLY 3       /* a drive is missing */
+#define SORGIZHED_READ_ONLY 3       /* write, landing, closing or reclaim while a drive is missing */
 #define SORGIZHED_BAD_ADDRESS 4     /* address at or above l */
+#define SORGIZHED_NOTHING_TO_DO 5   /* landing: that chunk does not wait; closing: no stripe is filling, or space is so short that reclaim must go
+                                       first; reclaim: no sealed segment, or all live blocks of the one that it takes are in flight */
 #define SORGIZHED_NO_COUNT_LEFT 6   /* no next stamp, or no next serial where a segment must be opened */
-#define SORGIZHED_WAIT 7            /* a stripe must begin and eight are in flight, or it is in the next group or segment and any is in flight */
-#define SORGIZHED_NO_ZONE_LEFT 8    /* too few zones are empty on all drives */
+#define SORGIZHED_WAIT 7            /* a stripe must begin and eight are in flight, or it is in the next group or segment and any is in flight:
+                                       land what waits, then try again */
+#define SORGIZHED_NO_ZONE_LEFT 8    /* too few zones are empty on all drives: reclaim */
 #define SORGIZHED_DAMAGED 9         /* state out of range, or drives or tables not as the engine left them; comes as SORGIZHED_BAD_ZONE */
+
+/* The number that names no drive. */
+#define SORGIZHED_NO_DRIVE 255
+
+/* No limit on the stores. */
+#define SORGIZHED_NO_LIMIT UINT64_MAX
+
+/* The length of each buffer in bytes; 0 where a parameter is outside its range. */
+size_t sorgizhed_image_length(size_t n, size_t b, size_t z, size_t s, size_t g, size_t l);
+size_t sorgizhed_pointers_length(size_t n, size_t b, size_t z, size_t s, size_t g, size_t l);
+size_t sorgizhed_addresses_length(size_t n, size_t b, size_t z, size_t s, size_t g, size_t l);
+size_t sorgizhed_compact_length(size_t n, size_t b, size_t z, size_t s, size_t g, size_t l);
+size_t sorgizhed_inflight_length(size_t n, size_t b, size_t z, size_t s, size_t g, size_t l);
+size_t sorgizhed_state_length(void);
+
+/* In every call that can store, count says how many stores may be made before the power is taken to be cut; SORGIZHED_NO_LIMIT for a host that
+ * does not play power cuts. A store puts one block with its spare at a zone's write pointer and raises the pointer by 1, or sets a pointer to 0.
+ * If more are due than count, the call makes just that many and answers SORGIZHED_CUT. */
 
 /* Takes the block of b bytes for an address below l. It goes into the in-flight buffer; it is on the drives once its stripe's chunks have
  * landed. Where no segment is open, headers are stored first in the lowest zone that is empty on all drives, one store for each drive.
- * count: how many stores may be made before the power is taken to be cut; UINT64_MAX for no limit.
  * Answers SORGIZHED_SENT with the block's stamp and the stripe and drive that it goes to, SORGIZHED_CUT, or a refusal: 1, 2, 3, 4, 6, 7, 8, 9. */
 sorgizhed_answer sorgizhed_write(size_t n, size_t b, size_t z, size_t s, size_t g, size_t l,
                                  uint8_t *image, size_t image_length, uint8_t *pointers, size_t pointers_length,
                                  uint8_t *addresses, size_t addresses_length, uint8_t *compact, size_t compact_length,
                                  uint8_t *inflight, size_t inflight_length, uint8_t *state, size_t state_length,
                                  uint64_t address, const uint8_t *block, size_t block_length, uint64_t count);
+
+/* Stores the chunk of a stripe in flight on a drive, at that drive's write pointer. A data chunk waits once it is filled, the parity chunk once all
+ * data chunks are; they may land in any order. The landing that completes the stripe acknowledges its writes and points the address table at them;
+ * the landing that completes the segment's last stripe also stores the footers.
+ * Answers SORGIZHED_LANDED with the number of writes acknowledged, SORGIZHED_CUT, or a refusal: 1, 2, 3, 5, 9. */
+sorgizhed_answer sorgizhed_land(size_t n, size_t b, size_t z, size_t s, size_t g, size_t l,
+                                uint8_t *image, size_t image_length, uint8_t *pointers, size_t pointers_length,
+                                uint8_t *addresses, size_t addresses_length, uint8_t *compact, size_t compact_length,
+                                const uint8_t *inflight, size_t inflight_length, uint8_t *state, size_t state_length,
+                                size_t drive, size_t stripe, uint64_t count);
+
+/* Fills the filling stripe with zero blocks that stand for no address, so that all its chunks can land. It stores nothing.
+ * Answers SORGIZHED_CLOSED with the stripe, or a refusal: 1, 2, 3, 5, 9. */
+sorgizhed_answer sorgizhed_close(size_t n, size_t b, size_t z, size_t s, size_t g, size_t l,
+                                 const uint8_t *image, size_t image_length, const uint8_t *pointers, size_t pointers_length,
+                                 const uint8_t *addresses, size_t addresses_length, const uint8_t *compact, size_t compact_length,
+                                 uint8_t *inflight, size_t inflight_length, uint8_t *state, size_t state_length);
+
+/* One step towards an empty zone: takes the sealed segment with fewest live blocks; copies its first live block that is not in flight into the
+ * filling stripe (which then lands as after a write), or, where none is live, resets its zones.
+ * Answers SORGIZHED_COPIED, SORGIZHED_RESET, SORGIZHED_CUT, or a refusal: 1, 2, 3, 5, 6, 7, 8, 9. */
+sorgizhed_answer sorgizhed_reclaim(size_t n, size_t b, size_t z, size_t s, size_t g, size_t l,
+                                   uint8_t *image, size_t image_length, uint8_t *pointers, size_t pointers_length,
+                                   uint8_t *addresses, size_t addresses_length, uint8_t *compact, size_t compact_length,
+                                   uint8_t *inflight, size_t inflight_length, uint8_t *state, size_t state_length,
+                                   uint64_t count);
+
+/* Says where the block of an address lies. Changes nothing.
+ * Answers SORGIZHED_PART with its place in the image, SORGIZHED_NEVER, SORGIZHED_LOST, or a refusal: 1, 2, 4, 9. */
+sorgizhed_answer sorgizhed_read(size_t n, size_t b, size_t z, size_t s, size_t g, size_t l,
+                                const uint8_t *image, size_t image_length, const uint8_t *pointers, size_t pointers_length,
+                                const uint8_t *addresses, size_t addresses_length, const uint8_t *compact, size_t compact_length,
+                                const uint8_t *inflight, size_t inflight_length, const uint8_t *state, size_t state_length,
+                                uint64_t address);
+
+/* Fills the lent block of b bytes: with zeros if the address was never written, with a copy of the block, or with the block decoded from the other
+ * drives if its drive is missing. Changes nothing else.
+ * Answers SORGIZHED_FILLED, or a refusal: 1, 2, 4, 9. */
+sorgizhed_answer sorgizhed_fill(size_t n, size_t b, size_t z, size_t s, size_t g, size_t l,
+                                const uint8_t *image, size_t image_length, const uint8_t *pointers, size_t pointers_length,
+                                const uint8_t *addresses, size_t addresses_length, const uint8_t *compact, size_t compact_length,
+                                const uint8_t *inflight, size_t inflight_length, const uint8_t *state, size_t state_length,
+                                uint64_t address, uint8_t *block, size_t block_length);
+
+/* ---- The same calls on one struct */
+
+/* An array's parameters and the buffers that the host lends; the host sets all of it. */
+typedef struct {
+    size_t n, b, z, s, g, l;
+    uint8_t *image, *pointers, *addresses, *compact, *inflight, *state;
+    size_t image_length, pointers_length, addresses_length, compact_length, inflight_length, state_length;
+} sorgizhed_box;
+
+/* its parameters, as the length functions take them; its parameters and buffers, as every call does */
+#define SORGIZHED_PARAMETERS(x) (x)->n, (x)->b, (x)->z, (x)->s, (x)->g, (x)->l
+#define SORGIZHED_LENT(x)                                                                                                                        \
+    SORGIZHED_PARAMETERS(x), (x)->image, (x)->image_length, (x)->pointers, (x)->pointers_length, (x)->addresses, (x)->addresses_length,          \
+        (x)->compact, (x)->compact_length, (x)->inflight, (x)->inflight_length, (x)->state, (x)->state_length
+
+/* For example sorgizhed_land(SORGIZHED_LENT(&box), drive, stripe, SORGIZHED_NO_LIMIT). */
 
 #ifdef __cplusplus
 }

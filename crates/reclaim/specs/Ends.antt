@@ -17,7 +17,7 @@ use Rattle.defs.specs.declared.Params.{Params}
 use Rattle.laws.specs.Ranges.{and-both, not-both}
 use Rattle.plans.specs.Refusals.{rule-free, zones-free, state-free, call-refused}
 use Rattle.reclaim.specs.Choosing.{refusal}
-use Rattle.reclaim.specs.Copying.{CopyReady}
+use Rattle.copies.specs.Copying.{CopyReady}
 use Rattle.views.specs.Views.{Whole, seen}
 use Rattle.write.specs.Ready.{lent-long, next-low}
 use borrow.Author.Tests.{eq-eqb, leb-false, not-false}

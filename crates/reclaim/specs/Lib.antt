@@ -1,4 +1,3 @@
 pub mod Choosing
 pub mod Clearing
-pub mod Copying
 pub mod Ends

@@ -1,6 +1,4 @@
 use Rattle.counts.specs.Fewest.{pickOf, pick-new, pick-less, pick-old}
-use Rattle.defs.specs.Engine.Call.{close}
-use Rattle.defs.specs.History.{before}
 use borrow.Author.Needs.{needs}
 use borrow.Author.Tests.{not-true, not-false}
 use mathlib.Core.Bool.{Bool, cond}

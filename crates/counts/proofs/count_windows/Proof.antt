@@ -1,6 +1,5 @@
 use Prim.Native.Nat.{ℕ, _-_, _*_, _≤_, _<_}
 use Rattle.counts.specs.Live.{liveBelow, Counted, counted-le, only-window, left-marks, window-nearer}
-use Rattle.defs.specs.Engine.Call.{close}
 use Rattle.defs.specs.History.{before, step}
 use Rattle.defs.specs.Lists.{all}
 use Rattle.defs.specs.Params.{addressesLen}

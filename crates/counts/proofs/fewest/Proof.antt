@@ -2,8 +2,6 @@ use Prim.Native.Nat.{ℕ, _-_, _*_, _≤_}
 use Rattle.counts.specs.Fewest.{takenAs, taken-none, turn-best, onward, onward-start, onward-end}
 use Rattle.counts.specs.Live.{Counted}
 use Rattle.defs.specs.Drives.{viewOf}
-use Rattle.defs.specs.Engine.Call.{close}
-use Rattle.defs.specs.History.{before}
 use Rattle.defs.specs.Lists.{Opt}
 use Rattle.defs.specs.Params.{capacity, imageLen}
 use Rattle.defs.specs.Rank.{better}

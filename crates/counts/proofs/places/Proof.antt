@@ -1,6 +1,4 @@
 use Prim.Native.Nat.{ℕ, _*_}
-use Rattle.defs.specs.Engine.Call.{close}
-use Rattle.defs.specs.History.{before}
 use Rattle.defs.specs.Params.{capacity}
 use Rattle.laws.specs.Geometry.{prod-le, ranged, zones-all}
 use borrow.Author.Needs.{needs}

@@ -1,6 +1,4 @@
 use Prim.Native.Nat.{_/_}
-use Rattle.defs.specs.Engine.Call.{close}
-use Rattle.defs.specs.History.{before}
 use Rattle.marks.specs.Marks.{withMark}
 use borrow.Author.Needs.{needs}
 use lib.ListN.{set}

@@ -1,6 +1,4 @@
 use Prim.Native.Nat.{ℕ, _+_, _-_, _*_, _≤_}
-use Rattle.defs.specs.Engine.Call.{close}
-use Rattle.defs.specs.History.{before}
 use Rattle.defs.specs.Lists.{upFrom, keep}
 use Rattle.marks.specs.Marks.{marked, kept-nothing, byte-more}
 use lib.ListN.{length}

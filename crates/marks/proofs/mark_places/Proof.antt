@@ -1,6 +1,4 @@
 use Prim.Native.Nat.{ℕ, _-_, _≤_, _<_}
-use Rattle.defs.specs.Engine.Call.{close}
-use Rattle.defs.specs.History.{before}
 use Rattle.marks.specs.Marks.{marked, withMark, isPointed, pointed-none, turned}
 use Rattle.tables.specs.Tables.{isWithin}
 use lib.ListN.{length}

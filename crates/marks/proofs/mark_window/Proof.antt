@@ -1,6 +1,4 @@
 use Prim.Native.Nat.{ℕ, _-_}
-use Rattle.defs.specs.Engine.Call.{close}
-use Rattle.defs.specs.History.{before}
 use Rattle.marks.specs.Marks.{marked, isPointed, marked-none}
 use borrow.Author.Needs.{needs}
 use lib.ListN.{length}

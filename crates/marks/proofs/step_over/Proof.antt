@@ -1,5 +1,3 @@
-use Rattle.defs.specs.Engine.Call.{close}
-use Rattle.defs.specs.History.{before}
 use Rattle.marks.specs.Marks.{byte-empty, alone}
 use borrow.Author.Needs.{needs}
 use native.Mathlib.Omega.{arith}

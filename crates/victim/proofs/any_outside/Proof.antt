@@ -1,7 +1,5 @@
 use Prim.Native.Nat.{ℕ}
 use Rattle.defs.specs.Counts.{neverPlace}
-use Rattle.defs.specs.Engine.Call.{close}
-use Rattle.defs.specs.History.{before}
 use Rattle.defs.specs.Lists.{consIf}
 use Rattle.defs.specs.Params.{addressesLen}
 use Rattle.laws.specs.Geometry.{ranged}

@@ -1,7 +1,5 @@
 use Prim.Native.Nat.{_*_, _≤_}
 use Rattle.defs.specs.Drives.{viewOf}
-use Rattle.defs.specs.Engine.Call.{close}
-use Rattle.defs.specs.History.{before}
 use Rattle.defs.specs.Params.{capacity}
 use Rattle.victim.specs.Waiting.{waiting-at, waiting-none}
 use borrow.Author.Needs.{needs}

@@ -1,8 +1,6 @@
 use Prim.Native.Nat.{ℕ, _+_, _-_, _≤_, _<_}
 use Rattle.counts.specs.Live.{places-high}
 use Rattle.defs.specs.Drives.{viewOf}
-use Rattle.defs.specs.Engine.Call.{close}
-use Rattle.defs.specs.History.{before}
 use Rattle.defs.specs.Params.{placeZone}
 use Rattle.defs.specs.Reclaim.{idle}
 use Rattle.laws.specs.Geometry.{ranged}

@@ -1,6 +1,4 @@
 use Rattle.defs.specs.Drives.{viewOf}
-use Rattle.defs.specs.Engine.Call.{close}
-use Rattle.defs.specs.History.{before}
 use Rattle.defs.specs.Reclaim.{idle}
 use Rattle.victim.specs.Waiting.{step-odd, step-kept, step-flying, step-new}
 use borrow.Author.Needs.{needs}

@@ -1,7 +1,6 @@
 use Prim.Native.Nat.{_-_, _*_, _≤_}
 use Rattle.counts.specs.Live.{window-nearer}
 use Rattle.defs.specs.Drives.{viewOf}
-use Rattle.defs.specs.Engine.Call.{close}
 use Rattle.defs.specs.History.{before, step}
 use Rattle.defs.specs.Lists.{all}
 use Rattle.defs.specs.Params.{capacity, addressesLen}

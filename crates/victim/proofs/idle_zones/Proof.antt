@@ -1,8 +1,6 @@
 use Prim.Native.Nat.{ℕ, _+_, _-_, min, max, _≤_, _<_}
 use Rattle.counts.specs.Live.{nearer, places-high, zone-first, zone-same, next-starts, zone-next}
 use Rattle.defs.specs.Drives.{viewOf}
-use Rattle.defs.specs.Engine.Call.{close}
-use Rattle.defs.specs.History.{before}
 use Rattle.defs.specs.Params.{capacity, placeBlock, placeZone}
 use Rattle.laws.specs.Geometry.{ranged}
 use Rattle.marks.specs.Marks.{Marks}

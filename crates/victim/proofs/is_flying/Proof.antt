@@ -1,6 +1,4 @@
 use Rattle.defs.specs.Drives.{viewOf}
-use Rattle.defs.specs.Engine.Call.{close}
-use Rattle.defs.specs.History.{before}
 use Rattle.defs.specs.Memory.{holds}
 use Rattle.records.specs.Record.{recOf}
 use Rattle.victim.specs.Waiting.{flying-is}

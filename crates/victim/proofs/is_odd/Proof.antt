@@ -1,6 +1,4 @@
 use Prim.Native.Nat.{ℕ}
-use Rattle.defs.specs.Engine.Call.{close}
-use Rattle.defs.specs.History.{before}
 use Rattle.laws.specs.Geometry.{place-block}
 use Rattle.victim.specs.Waiting.{odd-low, odd-high}
 use borrow.Author.Needs.{needs}

@@ -1,4 +1,3 @@
-use Rattle.defs.specs.Engine.Call.{close}
 use borrow.Author.Needs.{needs}
 use Rattle.victim.proofs.look.Statement.{statement}
 use Rattle.victim.proofs.look.Tie as tie

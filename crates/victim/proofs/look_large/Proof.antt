@@ -1,6 +1,4 @@
 use Prim.Native.Nat.{ℕ, _<_}
-use Rattle.defs.specs.Engine.Call.{close}
-use Rattle.defs.specs.History.{before}
 use borrow.Author.Needs.{needs}
 use lib.ListN.{length, replicate, length-replicate}
 use mathlib.Core.Path.{_≡_, sym, subst}

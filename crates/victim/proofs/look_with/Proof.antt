@@ -1,8 +1,6 @@
 use Prim.Native.Nat.{ℕ, _≤_}
 use Rattle.counts.specs.Live.{counted-none}
 use Rattle.defs.specs.Drives.{viewOf}
-use Rattle.defs.specs.Engine.Call.{close}
-use Rattle.defs.specs.History.{before}
 use Rattle.defs.specs.Reclaim.{fewest}
 use Rattle.laws.specs.Geometry.{ranged}
 use Rattle.victim.specs.Looked.{looked-none, looked-some}

@@ -1,5 +1,3 @@
-use Rattle.defs.specs.Engine.Call.{close}
-use Rattle.defs.specs.History.{before}
 use Rattle.victim.specs.Waiting.{else-first, else-kept}
 use mathlib.Core.Path.{sym}
 use Rattle.victim.proofs.or_else.Statement.{statement}

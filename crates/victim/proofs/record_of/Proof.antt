@@ -1,8 +1,6 @@
 use Prim.Native.Nat.{_-_}
 use Rattle.counts.specs.Live.{drive-low}
 use Rattle.defs.specs.Drives.{viewOf, recordAt}
-use Rattle.defs.specs.Engine.Call.{close}
-use Rattle.defs.specs.History.{before}
 use Rattle.defs.specs.Params.{placeBlock}
 use Rattle.laws.specs.Geometry.{between-low, between-high, ranged, place-block, place-zone, place-drive}
 use Rattle.victim.specs.Waiting.{data-block}

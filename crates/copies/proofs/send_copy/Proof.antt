@@ -3,12 +3,12 @@ use Rattle.defs.specs.Counts.{lastCount}
 use Rattle.defs.specs.Drives.{Disk, mkDisk}
 use Rattle.defs.specs.Memory.{Memory, mkMemory}
 use Rattle.defs.specs.declared.Answer.the-variants.{Copied}
-use Rattle.reclaim.specs.Copying.{sent-ready, sent-cut, sent-done}
+use Rattle.copies.specs.Copying.{sent-ready, sent-cut, sent-done}
 use borrow.Author.Needs.{needs}
 use lib.Arith.{lt-of-le-ne}
 use native.Mathlib.Omega.{arith}
-use Rattle.reclaim.proofs.send_copy.Statement.{statement}
-use Rattle.reclaim.proofs.send_copy.Tie as tie
+use Rattle.copies.proofs.send_copy.Statement.{statement}
+use Rattle.copies.proofs.send_copy.Tie as tie
 
 -- a serial fits 64 bits
 serial-fits : (c : tie.Start) → c .args .state .serial .0 ≤ lastCount

@@ -3,13 +3,13 @@ use Rattle.defs.specs.Bytes.{part}
 use Rattle.defs.specs.Params.{unitLen}
 use Rattle.laws.specs.Geometry.{place-within}
 use Rattle.laws.specs.Splice.{part-lent}
-use Rattle.reclaim.specs.Copying.{front-part}
+use Rattle.copies.specs.Copying.{front-part}
 use borrow.Author.Needs.{needs}
 use lib.ListN.{take, drop}
 use mathlib.Core.Path.{ap, _∙_}
 use native.Mathlib.Omega.{arith}
-use Rattle.reclaim.proofs.take_block.Statement.{statement}
-use Rattle.reclaim.proofs.take_block.Tie as tie
+use Rattle.copies.proofs.take_block.Statement.{statement}
+use Rattle.copies.proofs.take_block.Tie as tie
 
 place-byte-requires : tie.Need-place-byte-requires
 place-byte-requires c κs = search needs

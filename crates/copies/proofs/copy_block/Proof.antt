@@ -6,15 +6,15 @@ use Rattle.defs.specs.Drives.{viewOf, Disk, mkDisk, storeDisk}
 use Rattle.defs.specs.Layout.{Rec}
 use Rattle.defs.specs.Memory.{Memory, mkMemory}
 use Rattle.laws.specs.Geometry.{ranged}
-use Rattle.reclaim.specs.Copying.{copy-sent, block-at}
+use Rattle.copies.specs.Copying.{copy-sent, block-at}
 use borrow.Author.Needs.{needs}
 use lib.ListN.{length, take, replicate, length-replicate}
 use lib.Seq.{length-take-le}
 use mathlib.Core.List.{[]}
 use mathlib.Core.Path.{_≡_, sym, ap, _∙_, subst}
 use native.Mathlib.Omega.{arith}
-use Rattle.reclaim.proofs.copy_block.Statement.{statement}
-use Rattle.reclaim.proofs.copy_block.Tie as tie
+use Rattle.copies.proofs.copy_block.Statement.{statement}
+use Rattle.copies.proofs.copy_block.Tie as tie
 
 -- the buffer is as long as a block may be
 buffer-long : length {A = ℕ} (replicate 4096 0) ≡ 4096

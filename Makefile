@@ -1,0 +1,46 @@
+# make            the archive target/c/libsorgizhed.a: proves the crates that it is made of, and compiles them
+# make demo       builds the archive and the example host and shows the engine at work
+# make test       all tests (the same as .ci/run)
+# make install    header, archive and pkg-config file under PREFIX (DESTDIR is put before it)
+PREFIX ?= /usr/local
+DESTDIR ?=
+VERSION = 1.0
+OUT = target/c
+CC ?= gcc
+CFLAGS ?= -O2 -g
+STRICT = -std=c99 -Wall -Wextra -Wpedantic -Werror -Iinclude
+SANE = -fsanitize=address,undefined -fno-sanitize-recover=all
+
+all: $(OUT)/libsorgizhed.a
+
+$(OUT)/libsorgizhed.a: crates.txt $(shell find crates -type f)
+	@mkdir -p $(OUT)
+	@rt staticlib cabi >$(OUT)/staticlib.log 2>&1 || { cat $(OUT)/staticlib.log; exit 1; }
+	@cp target/staticlib/libcabi.a $@
+
+# the example host
+$(OUT)/box: host/main.c host/run.c host/run.h host/array.c host/array.h include/sorgizhed.h $(OUT)/libsorgizhed.a
+	$(CC) $(CFLAGS) $(STRICT) host/main.c host/run.c host/array.c $(OUT)/libsorgizhed.a -o $@
+
+# tests/c/NAME.c with the archive, and the same with the sanitizers
+$(OUT)/%: tests/c/%.c include/sorgizhed.h $(OUT)/libsorgizhed.a
+	$(CC) $(CFLAGS) $(STRICT) $< $(OUT)/libsorgizhed.a -o $@
+
+$(OUT)/%-sane: tests/c/%.c include/sorgizhed.h $(OUT)/libsorgizhed.a
+	$(CC) -O1 -g $(SANE) $(STRICT) $< $(OUT)/libsorgizhed.a -o $@
+
+$(OUT)/order $(OUT)/order-sane: host/run.c host/run.h host/array.c host/array.h
+
+demo: $(OUT)/box
+	host/demo $(OUT)/box
+
+test:
+	.ci/run
+
+install: $(OUT)/libsorgizhed.a
+	install -d $(DESTDIR)$(PREFIX)/include $(DESTDIR)$(PREFIX)/lib/pkgconfig
+	install -m 644 include/sorgizhed.h $(DESTDIR)$(PREFIX)/include/sorgizhed.h
+	install -m 644 $(OUT)/libsorgizhed.a $(DESTDIR)$(PREFIX)/lib/libsorgizhed.a
+	sed -e 's|@PREFIX@|$(PREFIX)|' -e 's|@VERSION@|$(VERSION)|' sorgizhed.pc.in >$(DESTDIR)$(PREFIX)/lib/pkgconfig/sorgizhed.pc
+
+.PHONY: all demo test install

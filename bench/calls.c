@@ -1,0 +1,284 @@
+/* The speed of the calls against the same work in plain C (plain.c), in one run. Each figure is the better of several turns, ours and C's in turn. */
+#define _POSIX_C_SOURCE 199309L
+#include <inttypes.h>
+#include <stdio.h>
+#include <stdlib.h>
+#include <string.h>
+#include <time.h>
+
+#include "plain.h"
+
+/* decodes a state and encodes it again (crates/leafbench) */
+void leaf_state(uint8_t *to, size_t to_length, const uint8_t *from, size_t from_length, size_t k, uint32_t v);
+
+static const size_t small[6] = {3, 64, 4, 4, 2, 8};
+static sorgizhed_box box;
+static uint8_t data[8 * 4096];
+static uint8_t other[SORGIZHED_STATE_LENGTH];
+static uint64_t noise = 1;
+
+static double now(void) {
+    struct timespec t;
+    clock_gettime(CLOCK_MONOTONIC, &t);
+    return (double)t.tv_sec * 1e9 + (double)t.tv_nsec;
+}
+
+static uint64_t random_below(uint64_t n) {
+    noise = noise * UINT64_C(6364136223846793005) + UINT64_C(1442695040888963407);
+    return (noise >> 33) % n;
+}
+
+static void *room(size_t n) {
+    void *p = malloc(n);
+    if (p == NULL) { fprintf(stderr, "not enough memory\n"); exit(2); }
+    memset(p, 0, n);
+    return p;
+}
+
+static void must(const char *call, sorgizhed_answer r, uint64_t kind) {
+    if (r.kind != kind) { fprintf(stderr, "%s: kind %d, %d %d\n", call, (int)r.kind, (int)r.first, (int)r.second); exit(1); }
+}
+
+static void lend(const size_t v[6]) {
+    free(box.image), free(box.pointers), free(box.addresses), free(box.compact), free(box.inflight), free(box.state);
+    box.n = v[0], box.b = v[1], box.z = v[2], box.s = v[3], box.g = v[4], box.l = v[5];
+    box.image = room(box.image_length = sorgizhed_image_length(SORGIZHED_PARAMETERS(&box)));
+    box.pointers = room(box.pointers_length = sorgizhed_pointers_length(SORGIZHED_PARAMETERS(&box)));
+    box.addresses = room(box.addresses_length = sorgizhed_addresses_length(SORGIZHED_PARAMETERS(&box)));
+    box.compact = room(box.compact_length = sorgizhed_compact_length(SORGIZHED_PARAMETERS(&box)));
+    box.inflight = room(box.inflight_length = sorgizhed_inflight_length(SORGIZHED_PARAMETERS(&box)));
+    box.state = room(box.state_length = sorgizhed_state_length());
+}
+
+static void restart(size_t missing) { must("restart", sorgizhed_restart(SORGIZHED_LENT(&box), missing, SORGIZHED_NO_LIMIT), SORGIZHED_RESTARTED); }
+
+/* the time of some stripes: n - 1 writes and n landings each, footers where a segment ends */
+static double stripes(size_t count, const uint64_t *addresses) {
+    double t = now();
+    for (size_t i = 0; i < count; i++) {
+        size_t stripe = 0;
+        for (size_t k = 0; k + 1 < box.n; k++) {
+            sorgizhed_answer r = sorgizhed_write(SORGIZHED_LENT(&box), addresses[(i * (box.n - 1) + k) % box.l], data + k * box.b, box.b, SORGIZHED_NO_LIMIT);
+            must("write", r, SORGIZHED_SENT);
+            stripe = (size_t)r.second;
+        }
+        for (size_t d = 0; d < box.n; d++) must("land", sorgizhed_land(SORGIZHED_LENT(&box), d, stripe, SORGIZHED_NO_LIMIT), SORGIZHED_LANDED);
+    }
+    return now() - t;
+}
+
+static double plain_stripes(size_t count, const uint64_t *addresses) {
+    uint64_t some[8];
+    double t = now();
+    for (size_t i = 0; i < count; i++) {
+        for (size_t k = 0; k + 1 < box.n; k++) some[k] = addresses[(i * (box.n - 1) + k) % box.l];
+        plain_stripe(&box, i / box.s % box.z, i % box.s, i * (box.n - 1) + 1, some, data);
+    }
+    return now() - t;
+}
+
+static uint64_t *some_addresses(void) {
+    uint64_t *p = room(box.l * sizeof *p);
+    for (size_t i = 0; i < box.l; i++) p[i] = i;
+    for (size_t i = box.l; i-- > 1;) { size_t j = (size_t)random_below(i + 1); uint64_t x = p[i]; p[i] = p[j], p[j] = x; }
+    return p;
+}
+
+static double least(double a, double b) { return a < b ? a : b; }
+
+static void line(const char *name, double ours, double plain, double target) {
+    printf("  %-44s %12.0f ns %12.0f ns   %.2f%s\n", name, ours, plain, plain / ours, target == 0 ? "" : plain / ours >= target ? "  (target met)" : "  (BELOW THE TARGET)");
+    fflush(stdout);
+}
+
+static void empty(void) {
+    memset(box.pointers, 0, box.pointers_length);
+    restart(SORGIZHED_NO_DRIVE);
+}
+
+/* per stripe: n - 1 writes, n landings; beside it what the state's bytes cost in so many calls */
+static void writes(const char *name, const size_t v[6]) {
+    double ours = 1e18, plain = 1e18, bytes = 1e18;
+    char text[80];
+    lend(v);
+    uint64_t *a = some_addresses();
+    size_t count = (box.z - 2) * box.s, turns = box.l < 100 ? 2000 : 5;
+    for (size_t i = 0; i < turns; i++) {
+        empty();
+        plain = least(plain, plain_stripes(count, a));
+        empty();
+        ours = least(ours, stripes(count, a));
+        double t = now();
+        for (size_t k = 0; k < 2 * box.n - 1; k++) leaf_state(other, box.state_length, box.state, box.state_length, k, 1);
+        bytes = least(bytes, now() - t);
+    }
+    ours /= (double)count, plain /= (double)count;
+    snprintf(text, sizeof text, "%s: write with its landings, a stripe", name);
+    line(text, ours, plain, 0.4);
+    snprintf(text, sizeof text, "%s: without the state's bytes", name);
+    line(text, ours - bytes, plain, 0);
+    free(a);
+}
+
+/* all addresses written once, in random order; then some again */
+static void fill(void) {
+    empty();
+    uint64_t *a = some_addresses();
+    stripes((box.z - 3) * box.s, a);
+    free(a);
+}
+
+static void reads(const char *name, const size_t v[6]) {
+    double ours = 1e18, plain = 1e18, healthy = 1e18, copy = 1e18;
+    uint8_t block[4096];
+    char text[80];
+    size_t c, n = 0, gone = 1;
+    lend(v);
+    fill();
+    c = box.image_length / (box.n * box.z * (box.b + 20));
+    for (size_t turn = 0; turn < 5; turn++) {
+        size_t count = box.l < 100 ? 20000 : 4000;
+        double t = now();
+        for (size_t i = 0; i < count; i++) must("read", sorgizhed_read(SORGIZHED_LENT(&box), i % box.l), SORGIZHED_PART);
+        healthy = least(healthy, (now() - t) / (double)count);
+        t = now();
+        for (size_t i = 0; i < count; i++) plain_copy(block, box.image + random_below(box.l) * (box.b + 20), box.b);
+        copy = least(copy, (now() - t) / (double)count);
+    }
+    restart(gone);
+    uint64_t *lost = room(box.l * sizeof *lost);
+    for (size_t i = 0; i < box.l; i++)
+        if (sorgizhed_read(SORGIZHED_LENT(&box), i).kind == SORGIZHED_LOST) lost[n++] = i;
+    for (size_t turn = 0; turn < 5 && n > 0; turn++) {
+        size_t count = box.l < 100 ? 20000 : 2000;
+        double t = now();
+        for (size_t i = 0; i < count; i++) must("fill", sorgizhed_fill(SORGIZHED_LENT(&box), lost[i % n], block, box.b), SORGIZHED_FILLED);
+        ours = least(ours, (now() - t) / (double)count);
+        t = now();
+        for (size_t i = 0; i < count; i++) {
+            const uint8_t *e = box.addresses + 4 * lost[i % n];
+            uint32_t q = (uint32_t)e[0] << 24 | (uint32_t)e[1] << 16 | (uint32_t)e[2] << 8 | e[3];
+            plain_decode(&box, q / c % box.z, q % c - 1, gone, block);
+        }
+        plain = least(plain, (now() - t) / (double)count);
+    }
+    free(lost);
+    snprintf(text, sizeof text, "%s: healthy read (C: copy of a block)", name);
+    line(text, healthy, copy, 0);
+    snprintf(text, sizeof text, "%s: degraded read", name);
+    line(text, ours, plain, 0.5);
+}
+
+static void rebuilds(const char *name, const size_t v[6]) {
+    double ours = 1e18, plain = 1e18;
+    char text[80];
+    lend(v);
+    fill();
+    for (size_t turn = 0; turn < (box.l < 100 ? 2000 : 5); turn++) {
+        restart(1);
+        double t = now();
+        must("rebuild", sorgizhed_rebuild(SORGIZHED_LENT(&box), 1, SORGIZHED_NO_LIMIT), SORGIZHED_REBUILT);
+        ours = least(ours, now() - t);
+        t = now();
+        plain_rebuild(&box, 1);
+        plain = least(plain, now() - t);
+        restart(1);
+        must("rebuild", sorgizhed_rebuild(SORGIZHED_LENT(&box), 1, SORGIZHED_NO_LIMIT), SORGIZHED_REBUILT);
+    }
+    snprintf(text, sizeof text, "%s: rebuild", name);
+    line(text, ours, plain, 0.5);
+}
+
+static void restarts(const char *name, const size_t v[6]) {
+    double ours = 1e18, plain = 1e18;
+    char text[80];
+    lend(v);
+    fill();
+    size_t blocks = box.n * box.z * box.s;
+    for (size_t turn = 0; turn < (box.l < 100 ? 2000 : 4); turn++) {
+        double t = now();
+        restart(SORGIZHED_NO_DRIVE);
+        ours = least(ours, now() - t);
+        t = now();
+        if (plain_restart(&box) == 0) { fprintf(stderr, "the plain restart found nothing\n"); exit(1); }
+        plain = least(plain, now() - t);
+    }
+    snprintf(text, sizeof text, "%s: restart, %zu blocks", name, blocks);
+    line(text, ours, plain, 0.4);
+    printf("  %-44s %12.1f ns a block\n", "", ours / (double)blocks);
+}
+
+static void reclaims(const char *name, const size_t v[6]) {
+    static uint32_t live[1024];
+    double ours = 1e18, plain = 1e18;
+    char text[80];
+    lend(v);
+    fill();
+    uint8_t *state = room(box.state_length), *pointers = room(box.pointers_length), *inflight = room(box.inflight_length);
+    memcpy(state, box.state, box.state_length), memcpy(pointers, box.pointers, box.pointers_length), memcpy(inflight, box.inflight, box.inflight_length);
+    size_t found = 0;
+    for (size_t turn = 0; turn < (box.l < 100 ? 2000 : 6); turn++) {
+        double t = now();
+        must("reclaim", sorgizhed_reclaim(SORGIZHED_LENT(&box), SORGIZHED_NO_LIMIT), SORGIZHED_COPIED);
+        ours = least(ours, now() - t);
+        memcpy(box.state, state, box.state_length), memcpy(box.pointers, pointers, box.pointers_length), memcpy(box.inflight, inflight, box.inflight_length);
+        t = now();
+        found += plain_scan(&box, live);
+        plain = least(plain, now() - t);
+    }
+    free(state), free(pointers), free(inflight);
+    snprintf(text, sizeof text, "%s: reclaim, a table of %zu%s", name, box.l, found == 1 ? " " : "");
+    line(text, ours, plain, 0.4);
+}
+
+/* what must not grow with Z, S or L */
+static void growth(void) {
+    static const size_t shapes[4][6] = {{4, 64, 4, 4, 2, 12}, {4, 64, 8, 320, 16, 4800}, {4, 64, 16, 1600, 16, 62400}, {4, 64, 64, 4096, 16, 749568}};
+    printf("\nwhat does not grow with Z, S or L (N = 4, B = 64)\n");
+    for (size_t i = 0; i < 4; i++) {
+        double write = 1e18, land = 1e18, read = 1e18;
+        lend(shapes[i]);
+        uint64_t *a = some_addresses();
+        for (size_t turn = 0; turn < (i == 0 ? 2000 : 4); turn++) {
+            double w = 0, l = 0, t;
+            size_t writes = 0, lands = 0;
+            empty();
+            /* stripes of one segment but for its last: no footers */
+            for (size_t s = 0; s + 1 < box.s; s++) {
+                t = now();
+                for (size_t k = 0; k + 1 < box.n; k++) must("write", sorgizhed_write(SORGIZHED_LENT(&box), a[(s * 3 + k) % box.l], data, box.b, SORGIZHED_NO_LIMIT), SORGIZHED_SENT);
+                w += now() - t, writes += box.n - 1;
+                t = now();
+                for (size_t d = 0; d < box.n; d++) must("land", sorgizhed_land(SORGIZHED_LENT(&box), d, s, SORGIZHED_NO_LIMIT), SORGIZHED_LANDED);
+                l += now() - t, lands += box.n;
+            }
+            write = least(write, w / (double)writes), land = least(land, l / (double)lands);
+            t = now();
+            for (size_t k = 0; k < 3 * (box.s - 1); k++) must("read", sorgizhed_read(SORGIZHED_LENT(&box), a[k % box.l]), SORGIZHED_PART);
+            read = least(read, (now() - t) / (double)(3 * (box.s - 1)));
+        }
+        free(a);
+        printf("  %8zu blocks   write %6.0f ns   landing %6.0f ns   healthy read %6.0f ns\n", box.n * box.z * box.s, write, land, read);
+        fflush(stdout);
+    }
+}
+
+int main(void) {
+    static const size_t large[6] = {4, 4096, 16, 256, 16, 9984}, many[3][6] = {{4, 64, 8, 320, 16, 4800}, {4, 64, 16, 1600, 16, 62400}, {4, 64, 64, 4096, 16, 749568}};
+    for (size_t i = 0; i < sizeof data; i++) data[i] = (uint8_t)random_below(256);
+    printf("  %-44s %15s %15s   %s\n", "", "ours", "plain C", "C / ours");
+    writes("N 4, B 4096", large);
+    writes("small box", small);
+    reads("N 4, B 4096", large);
+    reads("small box", small);
+    rebuilds("N 4, B 4096", large);
+    rebuilds("small box", small);
+    restarts("N 4, B 4096", large);
+    restarts("small box", small);
+    for (int i = 0; i < 3; i++) restarts("N 4, B 64", many[i]);
+    reclaims("N 4, B 4096", large);
+    reclaims("small box", small);
+    reclaims("N 4, B 64", many[2]);
+    growth();
+    return 0;
+}

@@ -1,0 +1,162 @@
+use mathlib.Core.Path.{_≡_, sym, ap, _∙_, subst}
+use mathlib.Core.Bool.{true}
+use Prim.Native.Nat.{ℕ, _+_, _≤_, _<_}
+use borrow.Author.Tests.{not-true, not-false}
+use borrow.Author.Needs.{needs}
+use native.Mathlib.Omega.{arith}
+use Rattle.defs.specs.Drives.{zoneAt, viewOf, mkDisk, pointerOf, sealedIn, footerStores}
+use Rattle.defs.specs.Engine.Call.{close}
+use Rattle.defs.specs.History.{before}
+use Rattle.defs.specs.Lists.{below}
+use Rattle.defs.specs.Params.{footers, capacity, named}
+use Rattle.defs.specs.Segments.{segmentOf}
+use Rattle.laws.specs.Geometry.{ranged, zone-on-lt}
+use Rattle.views.specs.Views.{AllFit}
+use Rattle.tablesay.specs.Reclaiming.{taken}
+use Rattle.zones.specs.Made.{Storing}
+use Rattle.groups.specs.Groups.{recsFault}
+use Rattle.restoring.specs.Lost.{lostStores}
+use Rattle.decoding.specs.Moving.{Lacks, lacks-named}
+use Rattle.reviving.specs.Zone.{chunks-fit, chunks-cut, chunks-only, whole-now, room-now, feet-made}
+use Rattle.reviving.proofs.rebuild_data.Statement.{statement}
+use Rattle.reviving.proofs.rebuild_data.Tie as tie
+
+put-groups-requires : tie.Need-put-groups-requires
+put-groups-requires c κs =
+    let a = c .before .before .before .before .args in
+    let q = c .before .before .before .before .pre in
+    let p = a .p in
+    let r = ranged p (q .0) in
+    let h = q .1 .1 .0 in
+    let d = a .drive in
+    let v = viewOf p (a .image .now) (a .pointers .now) in
+    let e = sym (h .0) in (
+      q .0,
+      (
+        q .1 .0,
+        (
+          subst (λ (x : ℕ). Lacks p x d) e (lacks-named p r d (h .1)),
+          (
+            h .2,
+            (
+              q .1 .1 .1 .0 ∙ ap (λ (x : ℕ). sealedIn p v x (a .seg)) e,
+              (
+                ap (λ (x : ℕ). recsFault p x (segmentOf p v x (a .seg))) (h .0) ∙ q .1 .1 .1 .1 .0,
+                subst (λ (x : ℕ). AllFit p v (lostStores p x d (segmentOf p v x (a .seg)) (below (p .S)))) e
+                    (chunks-fit p r d (a .seg) (a .count) (h .1) (h .2) (mkDisk (a .image .now) (a .pointers .now)) (q .1 .0) (q .1 .1 .1 .1 .1)),
+              ),
+            ),
+          ),
+        ),
+      ),
+    )
+
+same-length : tie.Need-same-length
+same-length c = search needs
+
+same-length-2 : tie.Need-same-length-2
+same-length-2 c = search needs
+
+returns : tie.Need-returns
+returns c =
+    let a = c .before .before .before .before .before .before .before .before .before .before .args in
+    let q = c .before .before .before .before .before .before .before .before .before .before .pre in
+    let p = a .p in
+    let r = ranged p (q .0) in
+    let h = q .1 .1 .0 in
+    let d = a .drive in
+    let v = viewOf p (a .image .now) (a .pointers .now) in
+    let k₀ = mkDisk (a .image .now) (a .pointers .now) in
+    let m = c .before .before .before .before .before .put-groups .result in
+    let k = mkDisk (c .before .before .before .before .before .put-groups .last .1 .0) (c .before .before .before .before .before .put-groups .last .1 .1 .0) in
+    let s : Storing p (a .count) (lostStores p (named d) d (segmentOf p v (named d) (a .seg)) (below (p .S))) k₀ m k =
+    subst (λ (x : ℕ). Storing p (a .count) (lostStores p x d (segmentOf p v x (a .seg)) (below (p .S))) k₀ m k) (h .0) (c .before .before .before .before .before .put-groups .ensures) in
+    chunks-cut p r d (a .seg) (a .count) (h .1) (h .2) k₀ (q .1 .0) (q .1 .1 .1 .1 .1) m k s (c .if1 .taken)
+
+same-length-3 : tie.Need-same-length-3
+same-length-3 c = search needs
+
+same-length-4 : tie.Need-same-length-4
+same-length-4 c = search needs
+
+returns-2 : tie.Need-returns-2
+returns-2 c =
+    let a = c .before .before .before .before .before .before .before .before .before .before .before .args in
+    let q = c .before .before .before .before .before .before .before .before .before .before .before .pre in
+    let p = a .p in
+    let r = ranged p (q .0) in
+    let h = q .1 .1 .0 in
+    let d = a .drive in
+    let v = viewOf p (a .image .now) (a .pointers .now) in
+    let k₀ = mkDisk (a .image .now) (a .pointers .now) in
+    let m = c .before .before .before .before .before .before .put-groups .result in
+    let k = mkDisk (c .before .before .before .before .before .before .put-groups .last .1 .0) (c .before .before .before .before .before .before .put-groups .last .1 .1 .0) in
+    let s : Storing p (a .count) (lostStores p (named d) d (segmentOf p v (named d) (a .seg)) (below (p .S))) k₀ m k =
+    subst (λ (x : ℕ). Storing p (a .count) (lostStores p x d (segmentOf p v x (a .seg)) (below (p .S))) k₀ m k) (h .0) (c .before .before .before .before .before .before .put-groups .ensures) in
+    chunks-only p r d (a .seg) (a .count) (h .1) (h .2) k₀ (q .1 .0) (q .1 .1 .1 .1 .1) m k s (c .before .if1 .left) (sym (q .1 .1 .1 .0) ∙ not-true (a .full) (c .if2 .taken))
+
+zone-on-requires : tie.Need-zone-on-requires
+zone-on-requires c κs = tt
+
+footers-requires : tie.Need-footers-requires
+footers-requires c κs = c .before .before .before .before .before .before .before .before .before .before .before .before .pre .0
+
+footer-stores-requires : tie.Need-footer-stores-requires
+footer-stores-requires c κs =
+    let a = c .before .before .before .before .before .before .before .before .before .before .before .before .before .before .before .args in
+    let q = c .before .before .before .before .before .before .before .before .before .before .before .before .before .before .before .pre in
+    let p = a .p in
+    let r = ranged p (q .0) in
+    let h = q .1 .1 .0 in
+    let d = a .drive in
+    let v = viewOf p (a .image .now) (a .pointers .now) in
+    let k₀ = mkDisk (a .image .now) (a .pointers .now) in
+    let m = c .before .before .before .before .before .before .before .before .before .before .put-groups .result in
+    let k = mkDisk (c .before .before .before .before .before .before .before .before .before .before .put-groups .last .1 .0) (c .before .before .before .before .before .before .before .before .before .before .put-groups .last .1 .1 .0) in
+    let s : Storing p (a .count) (lostStores p (named d) d (segmentOf p v (named d) (a .seg)) (below (p .S))) k₀ m k =
+    subst (λ (x : ℕ). Storing p (a .count) (lostStores p x d (segmentOf p v x (a .seg)) (below (p .S))) k₀ m k) (h .0) (c .before .before .before .before .before .before .before .before .before .before .put-groups .ensures) in
+    let f : sealedIn p v (named d) (a .seg) ≡ true = sym (q .1 .1 .1 .0) ∙ not-false (a .full) (c .before .before .before .before .if2 .left) in
+    let n = c .before .before .footers .ensures .0 in
+    let z = c .before .before .before .zone-on .ensures in
+    let t = room-now p r d (a .seg) (a .count) (h .1) (h .2) k₀ (q .1 .0) (q .1 .1 .1 .1 .1) m k s (c .before .before .before .before .before .if1 .left) f (q .1 .1 .1 .1 .0) (q .0) (h .3) in (
+      q .0,
+      (
+        whole-now p r d (a .seg) (a .count) (h .1) (h .2) k₀ (q .1 .0) (q .1 .1 .1 .1 .1) m k s (c .before .before .before .before .before .if1 .left) f (q .1 .1 .1 .1 .0) (q .0) (h .3),
+        (
+          h .1,
+          subst (λ (x : ℕ). x < p .Z) (sym z) (zone-on-lt p (a .seg) d (h .2)),
+          omega (arith, n),
+          subst (λ (x : ℕ). pointerOf p (k .pointers) d x + c .before .before .footers .result ≤ capacity p) (sym z) (omega (arith, t, n)),
+        ),
+      ),
+    )
+
+same-length-5 : tie.Need-same-length-5
+same-length-5 c = search needs
+
+same-length-6 : tie.Need-same-length-6
+same-length-6 c = search needs
+
+returns-3 : tie.Need-returns-3
+returns-3 c =
+    let a = c .before .before .before .before .before .before .before .before .before .before .before .before .before .before .before .before .before .before .before .before .args in
+    let q = c .before .before .before .before .before .before .before .before .before .before .before .before .before .before .before .before .before .before .before .before .pre in
+    let p = a .p in
+    let r = ranged p (q .0) in
+    let h = q .1 .1 .0 in
+    let d = a .drive in
+    let v = viewOf p (a .image .now) (a .pointers .now) in
+    let k₀ = mkDisk (a .image .now) (a .pointers .now) in
+    let m = c .before .before .before .before .before .before .before .before .before .before .before .before .before .before .before .put-groups .result in
+    let k = mkDisk (c .before .before .before .before .before .before .before .before .before .before .before .before .before .before .before .put-groups .last .1 .0) (c .before .before .before .before .before .before .before .before .before .before .before .before .before .before .before .put-groups .last .1 .1 .0) in
+    let s : Storing p (a .count) (lostStores p (named d) d (segmentOf p v (named d) (a .seg)) (below (p .S))) k₀ m k =
+    subst (λ (x : ℕ). Storing p (a .count) (lostStores p x d (segmentOf p v x (a .seg)) (below (p .S))) k₀ m k) (h .0) (c .before .before .before .before .before .before .before .before .before .before .before .before .before .before .before .put-groups .ensures) in
+    let f : sealedIn p v (named d) (a .seg) ≡ true = sym (q .1 .1 .1 .0) ∙ not-false (a .full) (c .before .before .before .before .before .before .before .before .before .if2 .left) in
+    let k′ = mkDisk (c .before .before .before .before .footer-stores .last .1 .0) (c .before .before .before .before .footer-stores .last .1 .1 .0) in
+    let m′ = c .before .before .before .before .footer-stores .result in
+    feet-made p r d (a .seg) (a .count) (h .1) (h .2) k₀ (q .1 .0) (q .1 .1 .1 .1 .1) m k s (c .before .before .before .before .before .before .before .before .before .before .if1 .left) f (q .1 .1 .1 .1 .0) (q .0) (h .3) m′ k′
+    (subst (λ (x : ℕ). Storing p (m .left) (footerStores p d x (zoneAt (viewOf p (k .image) (k .pointers)) d x) 0 (footers p)) k m′ k′) (c .before .before .before .before .before .before .before .before .zone-on .ensures)
+    (subst (λ (x : ℕ). Storing p (m .left) (footerStores p d (c .before .before .before .before .before .before .before .before .zone-on .result) (zoneAt (viewOf p (k .image) (k .pointers)) d (c .before .before .before .before .before .before .before .before .zone-on .result)) 0 x) k m′ k′) (c .before .before .before .before .before .before .before .footers .ensures .0) (c .before .before .before .before .footer-stores .ensures)))
+
+pub rebuild-data-spec : {M : Type 1} → statement M
+rebuild-data-spec = tie.close (tie.spec put-groups-requires same-length same-length-2 returns same-length-3 same-length-4 returns-2 zone-on-requires footers-requires footer-stores-requires same-length-5 same-length-6 returns-3)

@@ -1,0 +1,173 @@
+/* Every call with bad parameters, lengths off by one, zero-length and NULL buffers, and huge numbers. Every lent buffer ends at a page that may
+ * not be touched; a refusal leaves every byte. */
+#define _DEFAULT_SOURCE
+#include <stdio.h>
+#include <stdlib.h>
+#include <string.h>
+#include <sys/mman.h>
+#include <unistd.h>
+#include "sorgizhed.h"
+
+enum { N = 3, B = 64, Z = 4, S = 4, G = 2, L = 8 };
+enum { WRITE, LAND, CLOSE, RECLAIM, READ, FILL, RESTART, REBUILD, CALLS };
+enum { IMAGE, POINTERS, ADDRESSES, COMPACT, INFLIGHT, STATE, BLOCK, BUFFERS };
+static const char *const names[CALLS] = {"write", "land", "close", "reclaim", "read", "fill", "restart", "rebuild"};
+static const char *const buffers[BUFFERS] = {"image", "pointers", "addresses", "compact", "inflight", "state", "block"};
+static const size_t good[6] = {N, B, Z, S, G, L};
+static size_t par[6], length[BUFFERS], lent[BUFFERS];
+static uint8_t *bytes[BUFFERS], *at[BUFFERS], *kept[BUFFERS];
+static uint64_t address, count;
+static size_t drive, stripe, missing;
+static int passed, failed;
+
+static void expect(int ok, const char *call, const char *what, uint64_t n) {
+    if (ok) passed++;
+    else { failed++; printf("not so: %s, %s %llu\n", call, what, (unsigned long long)n); }
+}
+
+static uint8_t *fenced(size_t n) {
+    size_t page = (size_t)sysconf(_SC_PAGESIZE), size = (n + page - 1) / page * page;
+    uint8_t *p = mmap(NULL, size + page, PROT_READ | PROT_WRITE, MAP_PRIVATE | MAP_ANONYMOUS, -1, 0);
+    if (p == MAP_FAILED || mprotect(p + size, page, PROT_NONE) != 0) { perror("mmap"); exit(2); }
+    return p + size - n;
+}
+
+/* parameters, lengths and numbers as they should be */
+static void usual(void) {
+    memcpy(par, good, sizeof par);
+    for (int i = 0; i < BUFFERS; i++) lent[i] = length[i], at[i] = bytes[i];
+    address = 1, count = SORGIZHED_NO_LIMIT, drive = 0, stripe = 0, missing = SORGIZHED_NO_DRIVE;
+}
+
+static void keep(void) { for (int i = 0; i < BUFFERS; i++) memcpy(kept[i], bytes[i], length[i]); }
+
+static int unchanged(void) {
+    for (int i = 0; i < BUFFERS; i++) if (memcmp(kept[i], bytes[i], length[i]) != 0) return 0;
+    return 1;
+}
+
+static sorgizhed_answer call(int k) {
+    sorgizhed_box x = {par[0], par[1], par[2], par[3], par[4], par[5], at[0], at[1], at[2], at[3], at[4], at[5],
+                       lent[0], lent[1], lent[2], lent[3], lent[4], lent[5]};
+    switch (k) {
+    case WRITE: return sorgizhed_write(SORGIZHED_LENT(&x), address, at[BLOCK], lent[BLOCK], count);
+    case LAND: return sorgizhed_land(SORGIZHED_LENT(&x), drive, stripe, count);
+    case CLOSE: return sorgizhed_close(SORGIZHED_LENT(&x));
+    case RECLAIM: return sorgizhed_reclaim(SORGIZHED_LENT(&x), count);
+    case READ: return sorgizhed_read(SORGIZHED_LENT(&x), address);
+    case FILL: return sorgizhed_fill(SORGIZHED_LENT(&x), address, at[BLOCK], lent[BLOCK]);
+    case RESTART: return sorgizhed_restart(SORGIZHED_LENT(&x), missing, count);
+    default: return sorgizhed_rebuild(SORGIZHED_LENT(&x), drive, count);
+    }
+}
+
+/* the call is refused with the number and changes nothing */
+static void refused(int k, uint64_t number, const char *what, uint64_t n) {
+    keep();
+    sorgizhed_answer r = call(k);
+    expect(r.kind == (number == 9 ? SORGIZHED_BAD_ZONE : SORGIZHED_REFUSED) && r.first == number && unchanged(), names[k], what, n);
+    usual();
+}
+
+/* an array with one block written and a stripe in flight; degraded: drive 2 is missing then */
+static void prepare(int degraded) {
+    for (int i = 0; i < BUFFERS; i++) memset(bytes[i], 0, length[i]);
+    usual();
+    expect(call(RESTART).kind == SORGIZHED_RESTARTED, "restart", "of empty drives", 0);
+    for (address = 1; address < 3; address++) expect(call(WRITE).kind == SORGIZHED_SENT, "write", "address", address);
+    for (drive = 0; drive < N; drive++) expect(call(LAND).kind == SORGIZHED_LANDED, "land", "drive", drive);
+    usual();
+    expect(call(WRITE).kind == SORGIZHED_SENT, "write", "into the next stripe", 1);
+    if (!degraded) return;
+    missing = 2;
+    expect(call(RESTART).kind == SORGIZHED_RESTARTED, "restart", "without drive", 2);
+    usual();
+}
+
+static void parameters(int k) {
+    static const size_t bad[6][6] = {{0, 1, 2, 9, 255, SIZE_MAX}, {0, 63, 65, 96, 8192, SIZE_MAX}, {0, 3, 1025, 65536, SIZE_MAX / 2, SIZE_MAX},
+                                     {0, 65536, 65537, 1u << 31, SIZE_MAX / 2, SIZE_MAX}, {0, 257, 258, 65536, SIZE_MAX / 2, SIZE_MAX},
+                                     {0, 9, 10, 1u << 31, SIZE_MAX / 2, SIZE_MAX}};
+    for (int i = 0; i < 6; i++)
+        for (int j = 0; j < 6; j++) {
+            par[i] = bad[i][j];
+            refused(k, SORGIZHED_BAD_PARAMETER, "a parameter of", bad[i][j]);
+        }
+}
+
+static void lengths(int k) {
+    int last = k == WRITE || k == FILL ? BLOCK : STATE;
+    if (k == REBUILD) drive = 2;
+    for (int i = 0; i <= last; i++) {
+        size_t wrong[5] = {length[i] - 1, length[i] + 1, 0, SIZE_MAX / 2, SIZE_MAX};
+        for (int j = 0; j < 5; j++) {
+            /* without its second byte the state names no drive missing, and a rebuild is of no drive */
+            uint64_t number = k == REBUILD && i == STATE && j == 2 ? SORGIZHED_BAD_PARAMETER : SORGIZHED_BAD_LENGTH;
+            lent[i] = wrong[j];
+            if (k == REBUILD) drive = 2;
+            refused(k, number, buffers[i], wrong[j]);
+        }
+        lent[i] = 0, at[i] = NULL;
+        if (k == REBUILD) drive = 2;
+        refused(k, k == REBUILD && i == STATE ? SORGIZHED_BAD_PARAMETER : SORGIZHED_BAD_LENGTH, "no buffer", (uint64_t)i);
+    }
+    for (int i = 0; i <= last; i++) lent[i] = 0, at[i] = NULL;
+    if (k == REBUILD) drive = 2;
+    refused(k, k == REBUILD ? SORGIZHED_BAD_PARAMETER : SORGIZHED_BAD_LENGTH, "no buffer at all", 0);
+}
+
+static void numbers(void) {
+    static const uint64_t high[4] = {L, UINT64_C(1) << 32, UINT64_MAX - 1, UINT64_MAX};
+    static const size_t drives[4] = {N, 8, 255, SIZE_MAX}, stripes[4] = {S, 65536, SIZE_MAX / 2, SIZE_MAX}, gone[4] = {N, 254, 256, SIZE_MAX};
+    prepare(0);
+    for (int j = 0; j < 4; j++) {
+        address = high[j], refused(WRITE, SORGIZHED_BAD_ADDRESS, "address", high[j]);
+        address = high[j], refused(READ, SORGIZHED_BAD_ADDRESS, "address", high[j]);
+        address = high[j], refused(FILL, SORGIZHED_BAD_ADDRESS, "address", high[j]);
+        drive = drives[j], refused(LAND, SORGIZHED_NOTHING_TO_DO, "drive", drives[j]);
+        stripe = stripes[j], refused(LAND, SORGIZHED_NOTHING_TO_DO, "stripe", stripes[j]);
+        missing = gone[j], refused(RESTART, SORGIZHED_BAD_PARAMETER, "missing drive", gone[j]);
+        drive = drives[j], refused(REBUILD, SORGIZHED_BAD_PARAMETER, "drive", drives[j]);
+    }
+    refused(REBUILD, SORGIZHED_BAD_PARAMETER, "a drive that is not missing", 0);
+    memset(bytes[STATE], 0xff, length[STATE]), bytes[STATE][1] = 0;
+    for (int k = 0; k < CALLS; k++)
+        if (k != RESTART && k != REBUILD && k != WRITE && k != CLOSE && k != RECLAIM && k != LAND) refused(k, SORGIZHED_DAMAGED, "a state of ones", 0);
+    prepare(1);
+    for (int k = 0; k <= RECLAIM; k++) refused(k, SORGIZHED_READ_ONLY, "a drive is missing", 2);
+    drive = 2, count = 0, keep();
+    expect(call(REBUILD).kind == SORGIZHED_CUT, "rebuild", "cut before the first store", 0);
+    usual();
+}
+
+/* a call without its buffers leaves as many bytes as one with them: the lengths of the header's functions are the calls' own */
+static void functions(void) {
+    expect(sorgizhed_state_length() == SORGIZHED_STATE_LENGTH, "length", "state", 0);
+    expect(sorgizhed_image_length(N, B, Z, S, G, L) == (size_t)N * Z * 7 * (B + 20), "length", "image", 0);
+    expect(sorgizhed_pointers_length(N, B, Z, S, G, L) == 4 * N * Z, "length", "pointers", 0);
+    expect(sorgizhed_addresses_length(N, B, Z, S, G, L) == 4 * L, "length", "addresses", 0);
+    expect(sorgizhed_compact_length(N, B, Z, S, G, L) == N * Z * S, "length", "compact", 0);
+    expect(sorgizhed_inflight_length(N, B, Z, S, G, L) == 8 * N * B, "length", "inflight", 0);
+    expect(sorgizhed_image_length(8, 4096, 1024, 65535, 256, 1021u * 65535 * 7) == (size_t)8 * 1024 * (1 + 65535 + 322) * 4116, "length", "the largest image", 0);
+    expect(sorgizhed_image_length(2, B, Z, S, G, L) + sorgizhed_pointers_length(N, 65, Z, S, G, L) + sorgizhed_addresses_length(N, B, 3, S, G, L) +
+               sorgizhed_compact_length(N, B, Z, 0, G, L) + sorgizhed_inflight_length(N, B, Z, S, 257, SIZE_MAX) == 0, "length", "of bad parameters", 0);
+}
+
+int main(void) {
+    size_t all[BUFFERS] = {sorgizhed_image_length(N, B, Z, S, G, L), sorgizhed_pointers_length(N, B, Z, S, G, L), sorgizhed_addresses_length(N, B, Z, S, G, L),
+                           sorgizhed_compact_length(N, B, Z, S, G, L), sorgizhed_inflight_length(N, B, Z, S, G, L), sorgizhed_state_length(), B};
+    for (int i = 0; i < BUFFERS; i++) {
+        length[i] = all[i];
+        bytes[i] = fenced(all[i]);
+        if ((kept[i] = malloc(all[i])) == NULL) return 2;
+    }
+    functions();
+    for (int k = 0; k < CALLS; k++) {
+        prepare(k == REBUILD);
+        parameters(k);
+        lengths(k);
+    }
+    numbers();
+    printf("%d passed, %d failed\n", passed, failed);
+    return failed != 0;
+}
