@@ -1,0 +1,28 @@
+use mathlib.Core.Path.{sym, ap, _∙_}
+use mathlib.Core.Bool.{not}
+use borrow.Author.Tests.{not-true, not-false}
+use Rattle.defs.specs.Engine.Call.{close}
+use Rattle.defs.specs.History.{before}
+use Rattle.tablesay.specs.Reclaiming.{taken}
+use Rattle.rebuild.specs.Order.{numbers-bad, numbers-named}
+use Rattle.rebuild.proofs.bad_numbers.Statement.{statement}
+use Rattle.rebuild.proofs.bad_numbers.Tie as tie
+
+in-range-requires : tie.Need-in-range-requires
+in-range-requires c κs = tt
+
+returns : tie.Need-returns
+returns c =
+    let a = c .before .before .args in
+    sym (numbers-bad (a .p) (a .missing) (a .drive) (sym (c .before .in-range .ensures) ∙ not-true (c .before .in-range .result) (c .if1 .taken)))
+
+names-missing-requires : tie.Need-names-missing-requires
+names-missing-requires c κs = tt
+
+returns-2 : tie.Need-returns-2
+returns-2 c =
+    let a = c .before .before .before .args in
+    ap not (c .names-missing .ensures) ∙ sym (numbers-named (a .p) (a .missing) (a .drive) (sym (c .before .before .in-range .ensures) ∙ not-false (c .before .before .in-range .result) (c .before .if1 .left)))
+
+pub bad-numbers-spec : {M : Type 1} → statement M
+bad-numbers-spec = tie.close (tie.spec in-range-requires returns names-missing-requires returns-2)

@@ -1,0 +1,86 @@
+use mathlib.Core.Path.{_≡_, sym, ap, _∙_}
+use Prim.Native.Nat.{ℕ}
+use borrow.Author.Tests.{not-true, not-false}
+use native.Mathlib.Omega.{arith}
+use Rattle.defs.specs.Drives.{viewOf, mkDisk}
+use Rattle.defs.specs.Engine.Call.{close}
+use Rattle.defs.specs.Faults.{pointerFaults}
+use Rattle.defs.specs.History.{before}
+use Rattle.defs.specs.Lists.{firstOr}
+use Rattle.defs.specs.Memory.{mkMemory}
+use Rattle.defs.specs.Params.{named}
+use Rattle.tablesay.specs.Idle.{whole-of}
+use Rattle.tablesay.specs.Reclaiming.{taken}
+use Rattle.rebuild.specs.Order.{lengths-fail, numbers-good, numbers-fail, pointers-fail, pointers-pass, only-named}
+use Rattle.rebuild.proofs.checks.Statement.{statement}
+use Rattle.rebuild.proofs.checks.Tie as tie
+
+bad-numbers-requires : tie.Need-bad-numbers-requires
+bad-numbers-requires c κs = tt
+
+returns : tie.Need-returns
+returns c =
+    let a = c .before .before .before .before .before .before .before .args in
+    let p = a .p in
+    let d = a .drive in
+    let k = mkDisk (a .image .now) (a .pointers .now) in
+    let m = mkMemory (a .state) (a .addresses .now) (a .compact .now) (a .inflight .now) in
+    numbers-fail p k m d (sym (c .before .bad-numbers .ensures) ∙ c .if1 .taken)
+
+lent-ok-requires : tie.Need-lent-ok-requires
+lent-ok-requires c κs =
+    let a = c .before .before .before .before .before .before .before .args in
+    numbers-good (a .p) (a .state .missing) (a .drive) (sym (c .before .bad-numbers .ensures) ∙ c .if1 .left) .0
+
+returns-2 : tie.Need-returns-2
+returns-2 c =
+    let a = c .before .before .before .before .before .before .before .before .before .args in
+    let p = a .p in
+    let d = a .drive in
+    let k = mkDisk (a .image .now) (a .pointers .now) in
+    let m = mkMemory (a .state) (a .addresses .now) (a .compact .now) (a .inflight .now) in
+    lengths-fail p k m d (sym (c .before .before .before .bad-numbers .ensures) ∙ c .before .before .if1 .left) (sym (c .before .lent-ok .ensures (a .state)) ∙ not-true (c .before .lent-ok .result) (c .if2 .taken))
+
+only-drive-requires : tie.Need-only-drive-requires
+only-drive-requires c κs = tt
+
+pointer-fault-requires : tie.Need-pointer-fault-requires
+pointer-fault-requires c κs =
+    let a = c .before .before .before .before .before .before .before .before .before .before .args in
+    let p = a .p in
+    let d = a .drive in
+    let k = mkDisk (a .image .now) (a .pointers .now) in
+    let m = mkMemory (a .state) (a .addresses .now) (a .compact .now) (a .inflight .now) in
+    (numbers-good p (a .state .missing) d (sym (c .before .before .before .before .bad-numbers .ensures) ∙ c .before .before .before .if1 .left) .0, whole-of p k m (sym (c .before .before .lent-ok .ensures (a .state)) ∙ not-false (c .before .before .lent-ok .result) (c .before .if2 .left)) .pointers-long)
+
+-- the zone that is found is the first of those above
+found : (c : tie.After-pointer-fault) → c .pointer-fault .result ≡ firstOr (c .before .before .before .before .before .before .before .before .before .before .before .args .p .Z) (pointerFaults (c .before .before .before .before .before .before .before .before .before .before .before .args .p) (viewOf (c .before .before .before .before .before .before .before .before .before .before .before .args .p) (c .before .before .before .before .before .before .before .before .before .before .before .args .image .now) (c .before .before .before .before .before .before .before .before .before .before .before .args .pointers .now)) (named (c .before .before .before .before .before .before .before .before .before .before .before .args .drive)))
+found c =
+    let a = c .before .before .before .before .before .before .before .before .before .before .before .args in
+    let p = a .p in
+    let d = a .drive in
+    let k = mkDisk (a .image .now) (a .pointers .now) in
+    let m = mkMemory (a .state) (a .addresses .now) (a .compact .now) (a .inflight .now) in
+    c .pointer-fault .ensures .1 (a .image .now) (whole-of p k m (sym (c .before .before .before .lent-ok .ensures (a .state)) ∙ not-false (c .before .before .before .lent-ok .result) (c .before .before .if2 .left)) .image-long) ∙ ap (λ (x : ℕ). firstOr (p .Z) (pointerFaults p (viewOf p (a .image .now) (a .pointers .now)) x)) (c .before .only-drive .ensures ∙ only-named d)
+
+returns-3 : tie.Need-returns-3
+returns-3 c =
+    let a = c .before .before .before .before .before .before .before .before .before .before .before .before .before .args in
+    let p = a .p in
+    let d = a .drive in
+    let k = mkDisk (a .image .now) (a .pointers .now) in
+    let m = mkMemory (a .state) (a .addresses .now) (a .compact .now) (a .inflight .now) in
+    pointers-fail p k m d (sym (c .before .before .before .before .before .before .before .bad-numbers .ensures) ∙ c .before .before .before .before .before .before .if1 .left) (sym (c .before .before .before .before .before .lent-ok .ensures (a .state)) ∙ not-false (c .before .before .before .before .before .lent-ok .result) (c .before .before .before .before .if2 .left)) (c .before .before .pointer-fault .result) (found (c .before .before)) (c .if3 .taken)
+
+returns-4 : tie.Need-returns-4
+returns-4 c =
+    let a = c .before .before .before .before .before .before .before .before .before .before .before .before .before .args in
+    let p = a .p in
+    let d = a .drive in
+    let k = mkDisk (a .image .now) (a .pointers .now) in
+    let m = mkMemory (a .state) (a .addresses .now) (a .compact .now) (a .inflight .now) in
+    let z : c .before .before .pointer-fault .result ≡ p .Z = omega (arith, c .if3 .left, c .before .before .pointer-fault .ensures .0) in
+    pointers-pass p k m d (sym (c .before .before .before .before .before .before .before .bad-numbers .ensures) ∙ c .before .before .before .before .before .before .if1 .left) (sym (c .before .before .before .before .before .lent-ok .ensures (a .state)) ∙ not-false (c .before .before .before .before .before .lent-ok .result) (c .before .before .before .before .if2 .left)) (sym (found (c .before .before)) ∙ z)
+
+pub checks-spec : {M : Type 1} → statement M
+checks-spec = tie.close (tie.spec bad-numbers-requires returns lent-ok-requires returns-2 only-drive-requires pointer-fault-requires returns-3 returns-4)

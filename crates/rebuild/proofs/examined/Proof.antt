@@ -1,0 +1,122 @@
+use mathlib.Core.Path.{_≡_, _∙_, subst}
+use mathlib.Core.List.{[]}
+use Prim.Native.Nat.{ℕ}
+use borrow.Author.Needs.{needs}
+use native.Mathlib.Omega.{arith}
+use Rattle.defs.specs.declared.Answer.the-variants.{BadZone}
+use Rattle.defs.specs.Drives.{viewOf, mkDisk}
+use Rattle.defs.specs.Engine.Call.{close}
+use Rattle.defs.specs.History.{before}
+use Rattle.rebuild.specs.Order.{ready, front-passed, only-named}
+use Rattle.defs.specs.Memory.{mkMemory}
+use Rattle.defs.specs.Params.{named}
+use Rattle.defs.specs.Segments.{segments}
+use Rattle.remains.specs.Remains.{Keeps}
+use Rattle.tablesay.specs.Idle.{whole-of}
+use Rattle.tablesay.specs.Reclaiming.{taken}
+use Rattle.faults.specs.Faults.{Examined}
+use Rattle.faults.specs.Mends.{no-faults, names-zone, zone-le}
+use Rattle.rebuild.specs.Ends.{ends-refused}
+use Rattle.rebuild.proofs.examined.Statement.{statement}
+use Rattle.rebuild.proofs.examined.Tie as tie
+
+only-drive-requires : tie.Need-only-drive-requires
+only-drive-requires c κs = tt
+
+serials-requires : tie.Need-serials-requires
+serials-requires c κs =
+    let a = c .before .before .before .before .before .before .before .args in
+    let p = a .p in
+    let d = a .drive in
+    let v = viewOf p (a .image .now) (a .pointers .now) in
+    let k = mkDisk (a .image .now) (a .pointers .now) in
+    let m = mkMemory (a .state) (a .addresses .now) (a .compact .now) (a .inflight .now) in
+    let rd = ready p k m d (c .before .before .before .before .before .before .before .pre) in
+    let w = whole-of p k m (rd .lent) in
+    (rd .in-range, w .image-long)
+
+slice-aggregate-kept : tie.Need-slice-aggregate-kept
+slice-aggregate-kept c = search needs
+
+kept-requires : tie.Need-kept-requires
+kept-requires c κs =
+    let a = c .before .before .before .before .before .before .before .before .before .before .before .args in
+    let p = a .p in
+    let d = a .drive in
+    let v = viewOf p (a .image .now) (a .pointers .now) in
+    let k = mkDisk (a .image .now) (a .pointers .now) in
+    let m = mkMemory (a .state) (a .addresses .now) (a .compact .now) (a .inflight .now) in
+    let rd = ready p k m d (c .before .before .before .before .before .before .before .before .before .before .before .pre) in
+    let w = whole-of p k m (rd .lent) in
+    (rd .in-range, (w, c .before .before .before .serials .ensures (a .pointers .now) (w .pointers-long)))
+
+slice-aggregate-examine : tie.Need-slice-aggregate-examine
+slice-aggregate-examine c = search needs
+
+slice-aggregate-examine-2 : tie.Need-slice-aggregate-examine-2
+slice-aggregate-examine-2 c = search needs
+
+examine-requires : tie.Need-examine-requires
+examine-requires c κs =
+    let a = c .before .before .before .before .before .before .before .before .before .before .before .before .before .before .before .before .args in
+    let p = a .p in
+    let d = a .drive in
+    let v = viewOf p (a .image .now) (a .pointers .now) in
+    let k = mkDisk (a .image .now) (a .pointers .now) in
+    let m = mkMemory (a .state) (a .addresses .now) (a .compact .now) (a .inflight .now) in
+    let rd = ready p k m d (c .before .before .before .before .before .before .before .before .before .before .before .before .before .before .before .before .pre) in
+    let w = whole-of p k m (rd .lent) in
+    (rd .in-range, (w, (c .before .before .before .before .kept .ensures, c .before .before .before .before .before .before .before .before .serials .ensures (a .pointers .now) (w .pointers-long))))
+
+same-length : tie.Need-same-length
+same-length c = search needs
+
+same-length-2 : tie.Need-same-length-2
+same-length-2 c = search needs
+
+returns : tie.Need-returns
+returns c =
+    let a = c .before .before .before .before .before .before .before .before .before .before .before .before .before .before .before .before .before .before .before .before .args in
+    let p = a .p in
+    let d = a .drive in
+    let v = viewOf p (a .image .now) (a .pointers .now) in
+    let k = mkDisk (a .image .now) (a .pointers .now) in
+    let m = mkMemory (a .state) (a .addresses .now) (a .compact .now) (a .inflight .now) in
+    let ex : Examined p (named d) (segments p v (named d)) (c .before .before .before .examine .result) =
+    subst (λ (x : ℕ). Examined p x (segments p v x) (c .before .before .before .examine .result)) (c .before .before .before .before .before .before .before .before .before .before .before .before .before .before .only-drive .ensures ∙ only-named d) (c .before .before .before .examine .ensures) in
+    ends-refused p k m d (a .count) (BadZone (c .before .before .before .examine .result .zone)) (front-passed p k m d (c .before .before .before .before .before .before .before .before .before .before .before .before .before .before .before .before .before .before .before .before .pre) ∙ names-zone p v (named d) (c .before .before .before .examine .result) [] ex (c .if1 .taken))
+
+slice-aggregate-restore : tie.Need-slice-aggregate-restore
+slice-aggregate-restore c = search needs
+
+restore-requires : tie.Need-restore-requires
+restore-requires c κs =
+    let a = c .before .before .before .before .before .before .before .before .before .before .before .before .before .before .before .before .before .before .before .before .before .before .before .before .before .args in
+    let p = a .p in
+    let d = a .drive in
+    let v = viewOf p (a .image .now) (a .pointers .now) in
+    let k = mkDisk (a .image .now) (a .pointers .now) in
+    let m = mkMemory (a .state) (a .addresses .now) (a .compact .now) (a .inflight .now) in
+    let e = c .before .before .before .before .before .before .before .before .before .before .before .before .before .before .before .before .before .before .before .only-drive .ensures ∙ only-named d in
+    let ex : Examined p (named d) (segments p v (named d)) (c .before .before .before .before .before .before .before .before .examine .result) = subst (λ (x : ℕ). Examined p x (segments p v x) (c .before .before .before .before .before .before .before .before .examine .result)) e (c .before .before .before .before .before .before .before .before .examine .ensures) in
+    let l = zone-le p v (named d) (c .before .before .before .before .before .before .before .before .examine .result) ex in
+    let z : c .before .before .before .before .before .before .before .before .examine .result .zone ≡ p .Z = omega (arith, c .before .before .before .before .before .if1 .left, l) in
+    (c .before .before .before .before .before .before .before .before .before .before .before .before .before .before .before .before .before .before .before .before .before .before .before .before .before .pre, (no-faults p v (named d) (c .before .before .before .before .before .before .before .before .examine .result) ex z, subst (λ (x : ℕ). Keeps p v x (c .before .before .before .before .before .before .before .before .before .before .before .before .before .kept .result)) e (c .before .before .before .before .before .before .before .before .before .before .before .before .before .kept .ensures)))
+
+same-length-3 : tie.Need-same-length-3
+same-length-3 c = search needs
+
+same-length-4 : tie.Need-same-length-4
+same-length-4 c = search needs
+
+same-length-5 : tie.Need-same-length-5
+same-length-5 c = search needs
+
+same-length-6 : tie.Need-same-length-6
+same-length-6 c = search needs
+
+returns-2 : tie.Need-returns-2
+returns-2 c = c .before .before .before .before .before .before .before .before .restore .ensures
+
+pub examined-spec : {M : Type 1} → statement M
+examined-spec = tie.close (tie.spec only-drive-requires serials-requires slice-aggregate-kept kept-requires slice-aggregate-examine slice-aggregate-examine-2 examine-requires same-length same-length-2 returns slice-aggregate-restore restore-requires same-length-3 same-length-4 same-length-5 same-length-6 returns-2)
