@@ -30,8 +30,8 @@ fn names_missing(p: Params, missing: u8, drive: usize) -> bool
     missing == masks::only_drive(drive)
 }
 
-// 01, Refusals, 1.
-fn bad_numbers(p: Params, missing: u8, drive: usize) -> bool
+// 01, Refusals, 1: the parameters, and the drive.
+pub fn bad_numbers(p: Params, missing: u8, drive: usize) -> bool
     ensures { λ r. ⌜ r ≡ badNumbers p missing drive ⌝ }
 {
     if !shape::in_range(p) {
