@@ -1,4 +1,4 @@
-# make            the archive target/c/libsorgizhed.a: proves the crates that it is made of, and compiles them
+# make            the archive target/c/libsorgizhed.a (proves the crates that it is made of, and compiles them) and the example host target/c/box
 # make demo       builds the archive and the example host and shows the engine at work
 # make test       all tests (the same as .ci/run)
 # make install    header, archive and pkg-config file under PREFIX (DESTDIR is put before it)
@@ -11,7 +11,7 @@ CFLAGS ?= -O2 -g
 STRICT = -std=c99 -Wall -Wextra -Wpedantic -Werror -Iinclude
 SANE = -fsanitize=address,undefined -fno-sanitize-recover=all
 
-all: $(OUT)/libsorgizhed.a
+all: $(OUT)/libsorgizhed.a $(OUT)/box
 
 $(OUT)/libsorgizhed.a: crates.txt $(shell find crates -type f)
 	@mkdir -p $(OUT)
@@ -37,7 +37,7 @@ demo: $(OUT)/box
 test:
 	.ci/run
 
-install: $(OUT)/libsorgizhed.a
+install: $(OUT)/libsorgizhed.a $(OUT)/box
 	install -d $(DESTDIR)$(PREFIX)/include $(DESTDIR)$(PREFIX)/lib/pkgconfig
 	install -m 644 include/sorgizhed.h $(DESTDIR)$(PREFIX)/include/sorgizhed.h
 	install -m 644 $(OUT)/libsorgizhed.a $(DESTDIR)$(PREFIX)/lib/libsorgizhed.a

@@ -146,6 +146,28 @@ sorgizhed_answer sorgizhed_fill(size_t n, size_t b, size_t z, size_t s, size_t g
                                 const uint8_t *inflight, size_t inflight_length, const uint8_t *state, size_t state_length,
                                 uint64_t address, uint8_t *block, size_t block_length);
 
+/* The first call on an array, and the first after a power cut: reads the drives, finishes or moves what a cut left half done, and fills both tables and
+ * the state, whatever they hold. missing is the number of a drive that is gone (its bytes are not looked at), or SORGIZHED_NO_DRIVE. With a drive
+ * missing it stores nothing, and the array only reads until that drive is rebuilt and a restart without a missing drive is made. An array whose write
+ * pointers are all 0 is a new one, and restarts too. It may be cut like any call, and then made again.
+ * Answers SORGIZHED_RESTARTED with the number of stripes that were begun and not acknowledged, SORGIZHED_CUT, or a refusal: 1, 2, 9, 6, 8, looked for
+ * in this order. */
+sorgizhed_answer sorgizhed_restart(size_t n, size_t b, size_t z, size_t s, size_t g, size_t l,
+                                   uint8_t *image, size_t image_length, uint8_t *pointers, size_t pointers_length,
+                                   uint8_t *addresses, size_t addresses_length, uint8_t *compact, size_t compact_length,
+                                   const uint8_t *inflight, size_t inflight_length, uint8_t *state, size_t state_length,
+                                   size_t missing, uint64_t count);
+
+/* Writes the drive that the last restart named missing anew, from the others: resets its zones, then stores each segment's header, chunks and footers
+ * in order. Tables and state stay as they are; the next call is a restart without a missing drive. If it is cut, restart with the drive missing and
+ * rebuild it again.
+ * Answers SORGIZHED_REBUILT, SORGIZHED_CUT, or a refusal: 1, 2, 9. */
+sorgizhed_answer sorgizhed_rebuild(size_t n, size_t b, size_t z, size_t s, size_t g, size_t l,
+                                   uint8_t *image, size_t image_length, uint8_t *pointers, size_t pointers_length,
+                                   uint8_t *addresses, size_t addresses_length, uint8_t *compact, size_t compact_length,
+                                   const uint8_t *inflight, size_t inflight_length, uint8_t *state, size_t state_length,
+                                   size_t drive, uint64_t count);
+
 /* ---- The same calls on one struct */
 
 /* An array's parameters and the buffers that the host lends; the host sets all of it. */

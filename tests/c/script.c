@@ -43,12 +43,29 @@ static void lend(void) {
     box.state = state, box.state_length = sizeof state;
 }
 
+/* parameters outside their ranges: "refused 1" if every call says so, else which one does not */
+static const char *bad_params(const uint64_t *v) {
+    static const char *const wrong[] = {"write not refused 1", "land not refused 1", "close not refused 1", "reclaim not refused 1",
+                                        "read not refused 1", "fill not refused 1", "restart not refused 1", "rebuild not refused 1"};
+    uint8_t block[4096] = {0};
+    sorgizhed_box x;
+    lend();
+    x = box, x.n = v[0], x.b = v[1], x.z = v[2], x.s = v[3], x.g = v[4], x.l = v[5];
+    sorgizhed_answer r[] = {sorgizhed_write(SORGIZHED_LENT(&x), 0, block, box.b, SORGIZHED_NO_LIMIT), sorgizhed_land(SORGIZHED_LENT(&x), 0, 0, SORGIZHED_NO_LIMIT),
+                            sorgizhed_close(SORGIZHED_LENT(&x)), sorgizhed_reclaim(SORGIZHED_LENT(&x), SORGIZHED_NO_LIMIT),
+                            sorgizhed_read(SORGIZHED_LENT(&x), 0), sorgizhed_fill(SORGIZHED_LENT(&x), 0, block, box.b),
+                            sorgizhed_restart(SORGIZHED_LENT(&x), SORGIZHED_NO_DRIVE, SORGIZHED_NO_LIMIT), sorgizhed_rebuild(SORGIZHED_LENT(&x), 0, SORGIZHED_NO_LIMIT)};
+    for (size_t i = 0; i < sizeof r / sizeof *r; i++)
+        if (r[i].kind != SORGIZHED_REFUSED || r[i].first != SORGIZHED_BAD_PARAMETER) return wrong[i];
+    return "refused 1";
+}
+
 static const char *params(const uint64_t *v) {
     size_t n = v[0], b = v[1], z = v[2], s = v[3], g = v[4], l = v[5], sum = 0;
     size_t lengths[BUFFERS] = {sorgizhed_image_length(n, b, z, s, g, l), sorgizhed_pointers_length(n, b, z, s, g, l),
                                sorgizhed_addresses_length(n, b, z, s, g, l), sorgizhed_compact_length(n, b, z, s, g, l),
                                sorgizhed_inflight_length(n, b, z, s, g, l)};
-    if (lengths[IMAGE] == 0) return "refused 1";
+    if (lengths[IMAGE] == 0) return bad_params(v);
     for (int i = 0; i < BUFFERS; i++) sum += lengths[i];
     if (sum > UINT64_C(1) << 32) return "error"; /* more than a test machine can lend */
     for (int i = 0; i < BUFFERS; i++) {

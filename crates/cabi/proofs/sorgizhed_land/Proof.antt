@@ -1,6 +1,6 @@
-use Rattle.cabi.specs.Told.{toldOf, lending, hears}
-use Rattle.cabi.specs.Hears.{hears-short, hears-call}
-use Rattle.cabi.specs.declared.Told.{Told}
+use Rattle.told.specs.Told.{toldOf, lending, hears}
+use Rattle.told.specs.Hears.{hears-short, hears-call}
+use Rattle.told.specs.declared.Told.{Told}
 use Rattle.calls.specs.Left.{after}
 use Rattle.defs.specs.Engine.{callDisk, Lent, lentDisk, lentMemory}
 use Rattle.defs.specs.Engine.Call.{land}

@@ -1,10 +1,10 @@
-use Rattle.cabi.specs.Told.{toldOf}
+use Rattle.told.specs.Told.{toldOf}
 use Rattle.defs.specs.declared.Answer.the-variants.{Refused}
 use borrow.Author.Needs.{needs}
 use mathlib.Core.Bool.{Bool, cond}
 use mathlib.Core.Path.{sym, ap, _∙_}
-use Rattle.cabi.proofs.short_of.Statement.{statement}
-use Rattle.cabi.proofs.short_of.Tie as tie
+use Rattle.told.proofs.short_of.Statement.{statement}
+use Rattle.told.proofs.short_of.Tie as tie
 
 told-of-requires : tie.Need-told-of-requires
 told-of-requires c κs = search needs

@@ -1,6 +1,6 @@
 -- What the host hears of a call: the answer's kind and values as numbers, and the six lent buffers (01, The array; Which form to use where). Assumes nothing.
 use Prim.Native.Nat.{ℕ}
-use Rattle.cabi.specs.declared.Told.{Told}
+use Rattle.told.specs.declared.Told.{Told}
 use Rattle.defs.specs.Answers.{kind, values}
 use Rattle.defs.specs.Engine.{Lent, Left}
 use Rattle.defs.specs.declared.Answer.{Answer}

@@ -1,4 +1,4 @@
-use Rattle.cabi.specs.Numbers.{out-of-reach, names-beyond, names-it}
+use Rattle.told.specs.Numbers.{out-of-reach, names-beyond, names-it}
 use Rattle.defs.specs.Memory.{stateOf}
 use Rattle.defs.specs.Params.{inRange}
 use borrow.Author.Needs.{needs}
@@ -7,8 +7,8 @@ use lib.Dec.{eqb}
 use mathlib.Core.Bool.{true, false}
 use mathlib.Core.Path.{_≡_, refl, sym, _∙_}
 use native.Mathlib.Omega.{arith}
-use Rattle.cabi.proofs.good_rebuild.Statement.{statement}
-use Rattle.cabi.proofs.good_rebuild.Tie as tie
+use Rattle.told.proofs.good_rebuild.Statement.{statement}
+use Rattle.told.proofs.good_rebuild.Tie as tie
 
 in-range-requires : tie.Need-in-range-requires
 in-range-requires c κs = search needs

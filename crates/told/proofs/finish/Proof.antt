@@ -1,4 +1,4 @@
-use Rattle.cabi.specs.declared.Told.{Told}
+use Rattle.told.specs.declared.Told.{Told}
 use Rattle.defs.specs.Answers.{kind, isRefused}
 use Rattle.defs.specs.Memory.{stateBytes}
 use borrow.Author.Needs.{needs}
@@ -6,8 +6,8 @@ use borrow.Author.Tests.{le-leb, lt-leb}
 use mathlib.Core.Bool.{Bool, true, false, cond}
 use mathlib.Core.Path.{_≡_, sym, ap, _∙_}
 use native.Mathlib.Omega.{arith}
-use Rattle.cabi.proofs.finish.Statement.{statement}
-use Rattle.cabi.proofs.finish.Tie as tie
+use Rattle.told.proofs.finish.Statement.{statement}
+use Rattle.told.proofs.finish.Tie as tie
 
 told-of-requires : tie.Need-told-of-requires
 told-of-requires c κs = search needs

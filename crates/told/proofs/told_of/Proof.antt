@@ -1,9 +1,9 @@
-use Rattle.cabi.specs.Told.{toldOf}
+use Rattle.told.specs.Told.{toldOf}
 use Rattle.defs.specs.Answers.{kind, values}
 use borrow.Author.Needs.{needs}
 use mathlib.Core.Path.{sym, ap, _∙_}
-use Rattle.cabi.proofs.told_of.Statement.{statement}
-use Rattle.cabi.proofs.told_of.Tie as tie
+use Rattle.told.proofs.told_of.Statement.{statement}
+use Rattle.told.proofs.told_of.Tie as tie
 
 enum-known-answer : tie.Need-enum-known-answer
 enum-known-answer c = search needs

@@ -1,7 +1,7 @@
 -- A call of the host, from the call on the decoded state, for any call (01, The array; Store count). Assumes nothing.
 use Prim.Native.Nat.{ℕ}
-use Rattle.cabi.specs.Told.{toldOf, heard, lending, hears}
-use Rattle.cabi.specs.declared.Told.{Told}
+use Rattle.told.specs.Told.{toldOf, heard, lending, hears}
+use Rattle.told.specs.declared.Told.{Told}
 use Rattle.calls.specs.Left.{after}
 use Rattle.calls.specs.declared.Done.{Done}
 use Rattle.defs.specs.Answers.{isRefused}

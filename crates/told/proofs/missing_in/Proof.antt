@@ -1,8 +1,8 @@
-use Rattle.cabi.specs.Numbers.{missing-short, missing-long}
+use Rattle.told.specs.Numbers.{missing-short, missing-long}
 use borrow.Author.Needs.{needs}
 use native.Mathlib.Omega.{arith}
-use Rattle.cabi.proofs.missing_in.Statement.{statement}
-use Rattle.cabi.proofs.missing_in.Tie as tie
+use Rattle.told.proofs.missing_in.Statement.{statement}
+use Rattle.told.proofs.missing_in.Tie as tie
 
 returns : tie.Need-returns
 returns c = missing-short (c .before .args .state .now) (c .if1 .taken)

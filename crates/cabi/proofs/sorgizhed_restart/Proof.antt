@@ -1,0 +1,91 @@
+use Rattle.told.specs.Told.{toldOf, lending, hears}
+use Rattle.told.specs.Hears.{hears-short, hears-call}
+use Rattle.told.specs.declared.Told.{Told}
+use Rattle.calls.specs.Left.{after}
+use Rattle.defs.specs.Engine.{callDisk, Lent, lentDisk, lentMemory}
+use Rattle.defs.specs.Engine.Call.{restart}
+use Rattle.defs.specs.Memory.{mkMemory}
+use Rattle.defs.specs.Params.{mkParams, inRange}
+use Rattle.defs.specs.declared.Params.{Params}
+use Rattle.defs.specs.declared.State.{State}
+use Rattle.defs.specs.Restart.{namesDrive}
+use Rattle.hosts.specs.Shorts.{shortAnswer, restart-short, restart-keeps}
+use borrow.Author.Needs.{needs}
+use mathlib.Core.Bool.{Bool, _&&_}
+use mathlib.Core.List.{[]}
+use mathlib.Core.Path.{_≡_, sym, ap, _∙_}
+use Rattle.cabi.proofs.sorgizhed_restart.Statement.{statement}
+use Rattle.cabi.proofs.sorgizhed_restart.Tie as tie
+
+state-len-requires : tie.Need-state-len-requires
+state-len-requires c κs = search needs
+
+good-restart-requires : tie.Need-good-restart-requires
+good-restart-requires c κs = search needs
+
+short-of-requires : tie.Need-short-of-requires
+short-of-requires c κs = search needs
+
+returns : tie.Need-returns
+returns c =
+    let a = c .before .before .before .before .before .before .before .before .before .before .args in
+    let p : Params = mkParams (a .n) (a .b) (a .z) (a .s) (a .g) (a .l) in
+    let l : Lent = lending (a .image .now) (a .pointers .now) (a .addresses .now) (a .compact .now) (a .inflight .now) (a .state .now) in
+    let d = lentDisk l in
+    let m = lentMemory l in
+    ap (λ (x : Told). hears x l []) (c .short-of .ensures ∙ ap (λ (x : Bool). toldOf (shortAnswer x)) (c .before .good-restart .ensures))
+    ∙ hears-short p l (restart (a .missing) (a .count)) [] (λ e. c .before .before .if1 .taken (e ∙ sym (c .before .before .before .state-len .ensures))) (inRange p && namesDrive p (a .missing)) (restart-short p d m (a .missing) (a .count))
+
+decode-requires : tie.Need-decode-requires
+decode-requires c κs = c .before .if1 .left ∙ c .before .before .state-len .ensures
+
+restart-requires : tie.Need-restart-requires
+restart-requires c κs = search needs
+
+finish-requires : tie.Need-finish-requires
+finish-requires c κs = c .before .before .before .before .before .before .before .before .before .before .before .before .before .before .before .before .if1 .left ∙ c .before .before .before .before .before .before .before .before .before .before .before .before .before .before .before .before .before .state-len .ensures
+
+same-length : tie.Need-same-length
+same-length c = search needs
+
+same-length-2 : tie.Need-same-length-2
+same-length-2 c = search needs
+
+same-length-3 : tie.Need-same-length-3
+same-length-3 c = search needs
+
+same-length-4 : tie.Need-same-length-4
+same-length-4 c = search needs
+
+same-length-5 : tie.Need-same-length-5
+same-length-5 c = search needs
+
+returns-2 : tie.Need-returns-2
+unfolding lentDisk lentMemory
+returns-2 c =
+    let a = c .before .before .before .before .before .before .before .before .before .before .before .before .before .before .before .before .before .before .before .before .before .before .before .before .before .before .before .args in
+    let p : Params = mkParams (a .n) (a .b) (a .z) (a .s) (a .g) (a .l) in
+    let l : Lent = lending (a .image .now) (a .pointers .now) (a .addresses .now) (a .compact .now) (a .inflight .now) (a .state .now) in
+    let w = c .before .before .before .before .before .before .before .before .before .before .before .before .restart .last in
+    let e : after (c .before .before .before .before .before .before .before .before .before .before .before .before .restart .result) (w .1 .0) (w .1 .1 .0) (w .1 .1 .1 .0) (w .1 .1 .1 .1 .0) (a .inflight .now) [] ≡ callDisk p (lentDisk l) (lentMemory l) (restart (a .missing) (a .count)) =
+    c .before .before .before .before .before .before .before .before .before .before .before .before .restart .ensures ∙ ap (λ (x : State). callDisk p (lentDisk l) (mkMemory x (a .addresses .now) (a .compact .now) (a .inflight .now)) (restart (a .missing) (a .count))) (c .before .before .before .before .before .before .before .before .before .before .before .before .before .before .before .before .before .decode .ensures) in
+    hears-call p l (restart (a .missing) (a .count)) [] (c .before .before .before .before .before .before .before .before .before .before .before .before .before .before .before .before .before .before .before .if1 .left ∙ c .before .before .before .before .before .before .before .before .before .before .before .before .before .before .before .before .before .before .before .before .state-len .ensures) (restart-keeps p (lentDisk l) (lentMemory l) (a .missing) (a .count))
+    (c .before .before .before .before .before .before .before .before .before .before .before .before .restart .result) (w .1 .0) (w .1 .1 .0) (w .1 .1 .1 .0) (w .1 .1 .1 .1 .0) (a .inflight .now) (c .before .before .finish .last .0) [] (c .before .before .finish .result) e (c .before .before .finish .ensures .0) (c .before .before .finish .ensures .1)
+
+pub sorgizhed-restart-spec : {M : Type 1} → statement M
+sorgizhed-restart-spec =
+    tie.close
+    (tie.spec
+    state-len-requires
+    good-restart-requires
+    short-of-requires
+    returns
+    decode-requires
+    restart-requires
+    finish-requires
+    same-length
+    same-length-2
+    same-length-3
+    same-length-4
+    same-length-5
+    returns-2)
