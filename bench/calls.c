@@ -84,6 +84,9 @@ static uint64_t *some_addresses(void) {
     return p;
 }
 
+/* how often a figure is taken */
+static size_t turns(void) { return box.l < 100 ? 2000 : box.l < 20000 ? 30 : 6; }
+
 static double least(double a, double b) { return a < b ? a : b; }
 
 static void line(const char *name, double ours, double plain, double target) {
@@ -102,8 +105,8 @@ static void writes(const char *name, const size_t v[6]) {
     char text[80];
     lend(v);
     uint64_t *a = some_addresses();
-    size_t count = (box.z - 2) * box.s, turns = box.l < 100 ? 2000 : 5;
-    for (size_t i = 0; i < turns; i++) {
+    size_t count = (box.z - 2) * box.s;
+    for (size_t i = 0; i < turns(); i++) {
         empty();
         plain = least(plain, plain_stripes(count, a));
         empty();
@@ -136,7 +139,7 @@ static void reads(const char *name, const size_t v[6]) {
     lend(v);
     fill();
     c = box.image_length / (box.n * box.z * (box.b + 20));
-    for (size_t turn = 0; turn < 5; turn++) {
+    for (size_t turn = 0; turn < 10; turn++) {
         size_t count = box.l < 100 ? 20000 : 4000;
         double t = now();
         for (size_t i = 0; i < count; i++) must("read", sorgizhed_read(SORGIZHED_LENT(&box), i % box.l), SORGIZHED_PART);
@@ -149,7 +152,7 @@ static void reads(const char *name, const size_t v[6]) {
     uint64_t *lost = room(box.l * sizeof *lost);
     for (size_t i = 0; i < box.l; i++)
         if (sorgizhed_read(SORGIZHED_LENT(&box), i).kind == SORGIZHED_LOST) lost[n++] = i;
-    for (size_t turn = 0; turn < 5 && n > 0; turn++) {
+    for (size_t turn = 0; turn < 10 && n > 0; turn++) {
         size_t count = box.l < 100 ? 20000 : 2000;
         double t = now();
         for (size_t i = 0; i < count; i++) must("fill", sorgizhed_fill(SORGIZHED_LENT(&box), lost[i % n], block, box.b), SORGIZHED_FILLED);
@@ -174,7 +177,7 @@ static void rebuilds(const char *name, const size_t v[6]) {
     char text[80];
     lend(v);
     fill();
-    for (size_t turn = 0; turn < (box.l < 100 ? 2000 : 5); turn++) {
+    for (size_t turn = 0; turn < turns(); turn++) {
         restart(1);
         double t = now();
         must("rebuild", sorgizhed_rebuild(SORGIZHED_LENT(&box), 1, SORGIZHED_NO_LIMIT), SORGIZHED_REBUILT);
@@ -195,7 +198,7 @@ static void restarts(const char *name, const size_t v[6]) {
     lend(v);
     fill();
     size_t blocks = box.n * box.z * box.s;
-    for (size_t turn = 0; turn < (box.l < 100 ? 2000 : 4); turn++) {
+    for (size_t turn = 0; turn < turns(); turn++) {
         double t = now();
         restart(SORGIZHED_NO_DRIVE);
         ours = least(ours, now() - t);
@@ -217,7 +220,7 @@ static void reclaims(const char *name, const size_t v[6]) {
     uint8_t *state = room(box.state_length), *pointers = room(box.pointers_length), *inflight = room(box.inflight_length);
     memcpy(state, box.state, box.state_length), memcpy(pointers, box.pointers, box.pointers_length), memcpy(inflight, box.inflight, box.inflight_length);
     size_t found = 0;
-    for (size_t turn = 0; turn < (box.l < 100 ? 2000 : 6); turn++) {
+    for (size_t turn = 0; turn < turns(); turn++) {
         double t = now();
         must("reclaim", sorgizhed_reclaim(SORGIZHED_LENT(&box), SORGIZHED_NO_LIMIT), SORGIZHED_COPIED);
         ours = least(ours, now() - t);

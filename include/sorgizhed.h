@@ -5,7 +5,7 @@
  *
  * What the host guarantees: for each buffer of length above 0 a valid pointer to that many bytes, at most 2^63 - 1 of them; no two buffers of
  * one call overlap; no two calls on one array at a time. A call keeps no memory of its own between calls, so different arrays may be used from
- * different threads.
+ * different threads. A call allocates nothing; 512 KiB of stack are enough for each.
  */
 #ifndef SORGIZHED_H
 #define SORGIZHED_H
@@ -59,7 +59,7 @@ typedef struct {
 #define SORGIZHED_NEVER 9      /* a read of an address that was never written */
 #define SORGIZHED_LOST 10      /* a read of a block on the missing drive: sorgizhed_fill decodes it */
 #define SORGIZHED_FILLED 11    /* the lent block is filled */
-#define SORGIZHED_RESTARTED 12 /* a restart; first: stripes that some drive had begun to store, and whose writes no landing acknowledged */
+#define SORGIZHED_RESTARTED 12 /* a restart; first: stripes that had a chunk on some present drive but not on every one: they do not count */
 #define SORGIZHED_REBUILT 13   /* a rebuild */
 
 /* Refusals, in the order in which they are looked for (restart and rebuild look for 9 before 6 and 8). A refusal changes no byte. */
@@ -150,8 +150,8 @@ sorgizhed_answer sorgizhed_fill(size_t n, size_t b, size_t z, size_t s, size_t g
  * the state, whatever they hold. missing is the number of a drive that is gone (its bytes are not looked at), or SORGIZHED_NO_DRIVE. With a drive
  * missing it stores nothing, and the array only reads until that drive is rebuilt and a restart without a missing drive is made. An array whose write
  * pointers are all 0 is a new one, and restarts too. It may be cut like any call, and then made again.
- * Answers SORGIZHED_RESTARTED with the number of stripes that were begun and not acknowledged, SORGIZHED_CUT, or a refusal: 1, 2, 9, 6, 8, looked for
- * in this order. */
+ * Answers SORGIZHED_RESTARTED with the number of stripes found with a chunk on some present drive but not on every one, SORGIZHED_CUT, or a refusal:
+ * 1, 2, 9, 6, 8, looked for in this order. */
 sorgizhed_answer sorgizhed_restart(size_t n, size_t b, size_t z, size_t s, size_t g, size_t l,
                                    uint8_t *image, size_t image_length, uint8_t *pointers, size_t pointers_length,
                                    uint8_t *addresses, size_t addresses_length, uint8_t *compact, size_t compact_length,

@@ -1,4 +1,4 @@
-//! What the engine remembers between calls (01, "The calls"; READINGS, "what the state holds").
+//! What the engine remembers between calls (01, "The calls"; `docs/DECISIONS.md` says how the state is coded).
 
 use crate::params::{FLIGHTS, PADDING};
 

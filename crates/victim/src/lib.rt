@@ -316,6 +316,17 @@ fn look_large(p: Params, image: &[u8], pointers: &[u8], addresses: &[u8], state:
     look_with(p, image, pointers, addresses, &mut marks, state)
 }
 
+// With marks for 2,097,152 places.
+fn look_huge(p: Params, image: &[u8], pointers: &[u8], addresses: &[u8], state: State) -> Chosen
+    requires { ⌜ inRange p ≡ true ⌝ }
+    requires { ⌜ Whole p (mkDisk (now image) (now pointers)) ⌝ }
+    requires { ⌜ length (now addresses) ≡ addressesLen p ⌝ }
+    ensures { λ r. ⌜ Looked p (viewOf p (now (image .entry)) (now (pointers .entry))) (now (addresses .entry)) state r ⌝ }
+{
+    let mut marks = [0u8; 262144];
+    look_with(p, image, pointers, addresses, &mut marks, state)
+}
+
 // 01, Reclaim: the sealed segment with fewest live blocks, lowest zone on a tie, and its first live block not in flight.
 pub fn look(p: Params, image: &[u8], pointers: &[u8], addresses: &[u8], state: State) -> Chosen
     requires { ⌜ inRange p ≡ true ⌝ }
@@ -323,10 +334,14 @@ pub fn look(p: Params, image: &[u8], pointers: &[u8], addresses: &[u8], state: S
     requires { ⌜ length (now addresses) ≡ addressesLen p ⌝ }
     ensures { λ r. ⌜ Looked p (viewOf p (now (image .entry)) (now (pointers .entry))) (now (addresses .entry)) state r ⌝ }
 {
-    if counts::places(p) <= 65536 {
+    let n = counts::places(p);
+    if n <= 65536 {
         return look_small(p, image, pointers, addresses, state);
     }
-    look_large(p, image, pointers, addresses, state)
+    if n <= 524288 {
+        return look_large(p, image, pointers, addresses, state);
+    }
+    look_huge(p, image, pointers, addresses, state)
 }
 
 // 01, Refusals, 9: some place of the table lies outside the image.

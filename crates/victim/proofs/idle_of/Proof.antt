@@ -25,7 +25,6 @@ same-length c = search needs
 returns : tie.Need-returns
 returns c = search needs
 
--- antt refused `idle-zones-requires` as it was built: the module's report says why
 idle-zones-requires : tie.Need-idle-zones-requires
 idle-zones-requires c κs =
     let s = c .before .before .places .ensures .0 in
@@ -34,7 +33,6 @@ idle-zones-requires c κs =
 same-length-2 : tie.Need-same-length-2
 same-length-2 c = search needs
 
--- antt refused `returns-2` as it was built: the module's report says why
 returns-2 : tie.Need-returns-2
 returns-2 c =
     let a = c .before .before .before .before .before .before .before .before .args in
@@ -47,7 +45,6 @@ returns-2 c =
     waiting-at p v (a .state) tb (a .g) n (p .N * p .Z * capacity p) (c .idle-zones .result) s
     (c .idle-zones .ensures tb (λ q x y. c .before .before .before .before .before .before .before .before .pre .1 .1 .1 h q x (omega (arith, y, s))) (waiting-none p v (a .state) tb (a .g) (record { first = record { 0 = 4294967295 }; odd = false }) refl refl))
 
--- antt refused `idle-of-spec` as it was built: the module's report says why
 pub idle-of-spec : {M : Type 1} → statement M
 idle-of-spec =
     tie.close

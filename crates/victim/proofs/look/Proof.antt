@@ -17,7 +17,12 @@ look-large-requires c κs = search needs
 returns-2 : tie.Need-returns-2
 returns-2 c = search needs
 
--- antt refused `look-spec` as it was built: the module's report says why
+look-huge-requires : tie.Need-look-huge-requires
+look-huge-requires c κs = search needs
+
+returns-3 : tie.Need-returns-3
+returns-3 c = search needs
+
 pub look-spec : {M : Type 1} → statement M
 look-spec =
-    tie.close (tie.spec places-requires look-small-requires returns look-large-requires returns-2)
+    tie.close (tie.spec places-requires look-small-requires returns look-large-requires returns-2 look-huge-requires returns-3)

@@ -9,7 +9,6 @@ use Rattle.victim.proofs.look_large.Tie as tie
 slice-aggregate-look-with : tie.Need-slice-aggregate-look-with
 slice-aggregate-look-with c = search needs
 
--- antt refused `look-with-requires` as it was built: the module's report says why
 look-with-requires : tie.Need-look-with-requires
 look-with-requires c κs =
     let n : length {A = ℕ} (replicate 65536 0) ≡ 65536 = length-replicate {A = ℕ} 65536 0 in
@@ -18,6 +17,5 @@ look-with-requires c κs =
 returns : tie.Need-returns
 returns c = search needs
 
--- antt refused `look-large-spec` as it was built: the module's report says why
 pub look-large-spec : {M : Type 1} → statement M
 look-large-spec = tie.close (tie.spec slice-aggregate-look-with look-with-requires returns)

@@ -9,7 +9,6 @@ use Rattle.victim.proofs.look_small.Tie as tie
 slice-aggregate-look-with : tie.Need-slice-aggregate-look-with
 slice-aggregate-look-with c = search needs
 
--- antt refused `look-with-requires` as it was built: the module's report says why
 look-with-requires : tie.Need-look-with-requires
 look-with-requires c κs =
     let n : length {A = ℕ} (replicate 8192 0) ≡ 8192 = length-replicate {A = ℕ} 8192 0 in
@@ -18,6 +17,5 @@ look-with-requires c κs =
 returns : tie.Need-returns
 returns c = search needs
 
--- antt refused `look-small-spec` as it was built: the module's report says why
 pub look-small-spec : {M : Type 1} → statement M
 look-small-spec = tie.close (tie.spec slice-aggregate-look-with look-with-requires returns)

@@ -15,7 +15,6 @@ use Rattle.victim.proofs.look_with.Tie as tie
 slice-aggregate-count-windows : tie.Need-slice-aggregate-count-windows
 slice-aggregate-count-windows c = search needs
 
--- antt refused `count-windows-requires` as it was built: the module's report says why
 count-windows-requires : tie.Need-count-windows-requires
 count-windows-requires c κs =
     let a = c .before .before .before .before .before .before .args in
@@ -32,7 +31,6 @@ count-windows-requires c κs =
 slice-aggregate-fewest : tie.Need-slice-aggregate-fewest
 slice-aggregate-fewest c = search needs
 
--- antt refused `fewest-requires` as it was built: the module's report says why
 fewest-requires : tie.Need-fewest-requires
 fewest-requires c κs =
     let a = c .before .before .before .before .before .before .before .before .before .before .before .args in
@@ -43,7 +41,6 @@ fewest-requires c κs =
 same-length : tie.Need-same-length
 same-length c = search needs
 
--- antt refused `returns` as it was built: the module's report says why
 returns : tie.Need-returns
 returns c =
     let a = c .before .before .before .before .before .before .before .before .before .before .before .before .before .before .args in
@@ -53,15 +50,12 @@ returns c =
     looked-none p (viewOf p (a .image .now) (a .pointers .now)) tb (a .state) (c .before .before .fewest .result) (c .before .before .fewest .ensures (a .image .now) tb (w .image-long) (c .before .before .before .before .before .before .before .count-windows .ensures .0)) (c .if1 .taken)
     (record { segment = c .before .before .fewest .result; live = 0; first = record { 0 = 4294967295 }; odd = false }) refl refl refl refl
 
--- antt refused `mul-n` as it was built: the module's report says why
 mul-n : tie.Need-mul-n
 mul-n c = omega (arith, c .if1 .left, ranged (c .before .before .before .before .before .before .before .before .before .before .before .before .before .before .args .p) (c .before .before .before .before .before .before .before .before .before .before .before .before .before .before .pre .0) .zones-high)
 
--- antt refused `array-read-n` as it was built: the module's report says why
 array-read-n : tie.Need-array-read-n
 array-read-n c = omega (arith, c .if1 .left, ranged (c .before .before .before .before .before .before .before .before .before .before .before .before .before .before .args .p) (c .before .before .before .before .before .before .before .before .before .before .before .before .before .before .pre .0) .zones-high)
 
--- antt refused `idle-of-requires` as it was built: the module's report says why
 idle-of-requires : tie.Need-idle-of-requires
 idle-of-requires c κs =
     let h = c .before .before .before .before .before .before .before .before .before .before .before .before .before .before .before .pre .1 .1 in
@@ -71,7 +65,6 @@ idle-of-requires c κs =
 same-length-2 : tie.Need-same-length-2
 same-length-2 c = search needs
 
--- antt refused `returns-2` as it was built: the module's report says why
 returns-2 : tie.Need-returns-2
 returns-2 c =
     let a = c .before .before .before .before .before .before .before .before .before .before .before .before .before .before .before .before .before .before .before .args in
@@ -85,7 +78,6 @@ returns-2 c =
     (c .before .before .before .before .before .before .before .before .before .before .before .before .count-windows .last .1 .1 .1 .0) so i (c .before .before .before .idle-of .ensures)
     (record { segment = g; live = getD (c .before .before .before .before .before .before .before .before .before .before .before .before .count-windows .last .1 .1 .1 .0) g 0; first = i .first; odd = i .odd }) refl refl refl refl
 
--- antt refused `look-with-spec` as it was built: the module's report says why
 pub look-with-spec : {M : Type 1} → statement M
 look-with-spec =
     tie.close
