@@ -1,4 +1,4 @@
-"""Edits of text, as tests/bend and tests/wrong read them: lines `file:`, `old:`, `new:`, and others that a reader asks for by name."""
+"""Edits of text, as tests/bend and tests/wrong read them: lines `file:`, `old:`, `new:`, for tests/wrong also `in:`, a function, and others that a reader asks for."""
 import re
 
 # errors that say that a text does not fit, and not that a fact fails
@@ -12,7 +12,9 @@ def groups_of(path, others=None):
         key, _, value = line.partition(": ")
         if key == "file":
             groups.append({"file": value})
-        elif key in ("old", "new"):
+        elif key == "old" and "old" in groups[-1]:
+            groups.append({"file": groups[-1]["file"], "old": value})
+        elif key in ("old", "new", "in"):
             groups[-1][key] = value
         elif others is not None:
             others[key] = value
