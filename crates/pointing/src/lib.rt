@@ -119,10 +119,11 @@ fn compete(
     requires { ⌜ (i < 8) × (k < dataCount p) × ((d : ℕ) → d < p .N → offsetIn state i d < p .S) ⌝ }
     ensures { λ r. ⌜ ((ps : List ℕ) (cs : List CandOf) → length ps ≡ pointersLen p → best (rankedBest r) (candsOf (address .0) cs) ≡ best (rankedBest b) (candsOf (address .0) (landedCand p (viewOf p (now (image .entry)) ps) segment state i k ∷ cs))) ⌝ }
 {
-    let c = landed_cand(p, image, segment, state, i, k);
-    if c.address.0 != address.0 {
+    let j = 8 * i + k;
+    if state.addresses[j] != address.0 {
         return b;
     }
+    let c = landed_cand(p, image, segment, state, i, k);
     rank::better(b, c)
 }
 
