@@ -120,6 +120,7 @@ static void writes(const char *name, const size_t v[6]) {
     line(text, ours, plain, 0.4);
     snprintf(text, sizeof text, "%s: without the state's bytes", name);
     line(text, ours - bytes, plain, 0);
+    printf("  %-44s %12.0f ns\n", "the state's bytes, read and written, a call", bytes / (double)(2 * box.n - 1));
     free(a);
 }
 
