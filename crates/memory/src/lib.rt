@@ -44,21 +44,24 @@ pub fn stripe_in(state: State, i: usize) -> usize
     requires { ⌜ i < 8 ⌝ }
     ensures { λ r. ⌜ r ≡ stripeIn state i ⌝ }
 {
-    whole(state.numbers[i])
+    let numbers = state.numbers;
+    whole(numbers[i])
 }
 
 pub fn filled_in(state: State, i: usize) -> usize
     requires { ⌜ i < 8 ⌝ }
     ensures { λ r. ⌜ r ≡ filledIn state i ⌝ }
 {
-    wide(state.filled[i])
+    let filled = state.filled;
+    wide(filled[i])
 }
 
 pub fn landed_in(state: State, i: usize) -> u8
     requires { ⌜ i < 8 ⌝ }
     ensures { λ r. ⌜ r ≡ landedIn state i ⌝ }
 {
-    state.landed[i]
+    let landed = state.landed;
+    landed[i]
 }
 
 // 01, Landing: position k is a write, and no copy or padding.
@@ -66,7 +69,8 @@ pub fn is_write(state: State, i: usize, k: usize) -> bool
     requires { ⌜ i < 8 ⌝ }
     ensures { λ r. ⌜ r ≡ isWrite state i k ⌝ }
 {
-    let w = state.writes[i];
+    let writes = state.writes;
+    let w = writes[i];
     masks::has_drive(w, k)
 }
 
@@ -74,7 +78,8 @@ pub fn is_free(state: State, i: usize) -> bool
     requires { ⌜ i < 8 ⌝ }
     ensures { λ r. ⌜ r ≡ isFree state i ⌝ }
 {
-    state.filled[i] == 0
+    let filled = state.filled;
+    filled[i] == 0
 }
 
 // All data positions are filled.
@@ -83,7 +88,8 @@ pub fn is_full(p: Params, state: State, i: usize) -> bool
     ensures { λ r. ⌜ r ≡ isFull p state i ⌝ }
 {
     let n = data_count(p);
-    let f = wide(state.filled[i]);
+    let filled = state.filled;
+    let f = wide(filled[i]);
     n <= f
 }
 
@@ -250,19 +256,23 @@ fn slot_ok(p: Params, state: State, i: usize) -> bool
     ensures { λ r. ⌜ r ≡ slotOk p state i ⌝ }
 {
     let n = data_count(p);
-    let s = whole(state.numbers[i]);
+    let numbers = state.numbers;
+    let s = whole(numbers[i]);
     if p.S <= s {
         return false;
     }
-    let f = wide(state.filled[i]);
+    let filled = state.filled;
+    let f = wide(filled[i]);
     if n < f {
         return false;
     }
-    let w = state.writes[i];
+    let writes = state.writes;
+    let w = writes[i];
     if !below_power(w, n) {
         return false;
     }
-    let m = state.landed[i];
+    let landed = state.landed;
+    let m = landed[i];
     below_power(m, p.N)
 }
 
@@ -282,9 +292,10 @@ fn slots_ok(p: Params, state: State) -> bool
 fn offsets_ok(p: Params, state: State) -> bool
     ensures { λ r. ⌜ r ≡ all (λ o. ltb o (p .S)) (state .offsets) ⌝ }
 {
+    let offsets = state.offsets;
     let mut j = 0;
     while j < 64 {
-        let o = whole(state.offsets[j]);
+        let o = whole(offsets[j]);
         if p.S <= o {
             return false;
         }

@@ -27,7 +27,8 @@ fn offset_in(state: State, i: usize, drive: usize) -> usize
     ensures { λ r. ⌜ r ≡ offsetIn state i drive ⌝ }
 {
     let j = 8 * i + drive;
-    state.offsets[j] as usize
+    let offsets = state.offsets;
+    offsets[j] as usize
 }
 
 // The serial in drive 0's header of a segment.
@@ -120,7 +121,8 @@ fn compete(
     ensures { λ r. ⌜ ((ps : List ℕ) (cs : List CandOf) → length ps ≡ pointersLen p → best (rankedBest r) (candsOf (address .0) cs) ≡ best (rankedBest b) (candsOf (address .0) (landedCand p (viewOf p (now (image .entry)) ps) segment state i k ∷ cs))) ⌝ }
 {
     let j = 8 * i + k;
-    if state.addresses[j] != address.0 {
+    let addresses = state.addresses;
+    if addresses[j] != address.0 {
         return b;
     }
     let c = landed_cand(p, image, segment, state, i, k);

@@ -3,8 +3,8 @@ use borrow.Author.Needs.{needs}
 use Rattle.memory.proofs.filled_in.Statement.{statement}
 use Rattle.memory.proofs.filled_in.Tie as tie
 
-element-copy-out-wide : tie.Need-element-copy-out-wide
-element-copy-out-wide c = search needs
+array-read-wide : tie.Need-array-read-wide
+array-read-wide c = search needs
 
 wide-requires : tie.Need-wide-requires
 wide-requires c κs = search needs
@@ -14,4 +14,4 @@ unfolding filledIn
 returns c = c .wide .ensures
 
 pub filled-in-spec : {M : Type 1} → statement M
-filled-in-spec = tie.close (tie.spec element-copy-out-wide wide-requires returns)
+filled-in-spec = tie.close (tie.spec array-read-wide wide-requires returns)

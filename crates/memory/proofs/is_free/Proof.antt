@@ -4,12 +4,12 @@ use mathlib.Core.Path.{refl}
 use Rattle.memory.proofs.is_free.Statement.{statement}
 use Rattle.memory.proofs.is_free.Tie as tie
 
-element-copy-out-result : tie.Need-element-copy-out-result
-element-copy-out-result c = search needs
+array-read-result : tie.Need-array-read-result
+array-read-result c = search needs
 
 returns : tie.Need-returns
 unfolding isFree filledIn
 returns c = refl
 
 pub is-free-spec : {M : Type 1} → statement M
-is-free-spec = tie.close (tie.spec element-copy-out-result returns)
+is-free-spec = tie.close (tie.spec array-read-result returns)

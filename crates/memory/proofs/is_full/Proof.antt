@@ -8,8 +8,8 @@ use Rattle.memory.proofs.is_full.Tie as tie
 data-count-requires : tie.Need-data-count-requires
 data-count-requires c κs = search needs
 
-element-copy-out-wide : tie.Need-element-copy-out-wide
-element-copy-out-wide c = search needs
+array-read-wide : tie.Need-array-read-wide
+array-read-wide c = search needs
 
 wide-requires : tie.Need-wide-requires
 wide-requires c κs = search needs
@@ -19,4 +19,4 @@ unfolding isFull filledIn
 returns c = ap₂ leb (c .before .before .data-count .ensures) (c .wide .ensures)
 
 pub is-full-spec : {M : Type 1} → statement M
-is-full-spec = tie.close (tie.spec data-count-requires element-copy-out-wide wide-requires returns)
+is-full-spec = tie.close (tie.spec data-count-requires array-read-wide wide-requires returns)

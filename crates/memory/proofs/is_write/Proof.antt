@@ -3,8 +3,8 @@ use borrow.Author.Needs.{needs}
 use Rattle.memory.proofs.is_write.Statement.{statement}
 use Rattle.memory.proofs.is_write.Tie as tie
 
-element-copy-out-w : tie.Need-element-copy-out-w
-element-copy-out-w c = search needs
+array-read-w : tie.Need-array-read-w
+array-read-w c = search needs
 
 has-drive-requires : tie.Need-has-drive-requires
 has-drive-requires c κs = search needs
@@ -14,4 +14,4 @@ unfolding isWrite
 returns c = c .has-drive .ensures
 
 pub is-write-spec : {M : Type 1} → statement M
-is-write-spec = tie.close (tie.spec element-copy-out-w has-drive-requires returns)
+is-write-spec = tie.close (tie.spec array-read-w has-drive-requires returns)

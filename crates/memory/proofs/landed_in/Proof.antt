@@ -4,12 +4,12 @@ use mathlib.Core.Path.{refl}
 use Rattle.memory.proofs.landed_in.Statement.{statement}
 use Rattle.memory.proofs.landed_in.Tie as tie
 
-element-copy-out-result : tie.Need-element-copy-out-result
-element-copy-out-result c = search needs
+array-read-result : tie.Need-array-read-result
+array-read-result c = search needs
 
 returns : tie.Need-returns
 unfolding landedIn
 returns c = refl
 
 pub landed-in-spec : {M : Type 1} → statement M
-landed-in-spec = tie.close (tie.spec element-copy-out-result returns)
+landed-in-spec = tie.close (tie.spec array-read-result returns)

@@ -11,12 +11,12 @@ use Rattle.memory.proofs.offsets_ok.Statement.{statement}
 use Rattle.memory.proofs.offsets_ok.Tie as tie
 
 abbrev Inv-loop : tie.InvT-loop
-Inv-loop p state j₀ j = (j ≤ 64) × (all (λ o. ltb o (p .S)) (drop j (state .offsets)) ≡ all (λ o. ltb o (p .S)) (state .offsets))
+Inv-loop p offsets j₀ j = (j ≤ 64) × (all (λ o. ltb o (p .S)) (drop j offsets) ≡ all (λ o. ltb o (p .S)) offsets)
 
 abbrev μ-loop : tie.MeasureT-loop
-μ-loop p state j₀ j = 64 - j
+μ-loop p offsets j₀ j = 64 - j
 
-long : (c : tie.Start Inv-loop μ-loop) → length (c .args .t2 .offsets) ≡ 64
+long : (c : tie.Start Inv-loop μ-loop) → length (c .args .state .offsets) ≡ 64
 long c = search needs
 
 loop-holds : tie.Need-loop-holds Inv-loop μ-loop
@@ -25,8 +25,8 @@ loop-holds c = (omega arith, refl)
 mul-whole : tie.Need-mul-whole Inv-loop μ-loop
 mul-whole c = omega arith
 
-element-copy-out-whole : tie.Need-element-copy-out-whole Inv-loop μ-loop
-element-copy-out-whole c = omega arith
+array-read-whole : tie.Need-array-read-whole Inv-loop μ-loop
+array-read-whole c = omega arith
 
 whole-requires : tie.Need-whole-requires Inv-loop μ-loop
 whole-requires c κs = tt
@@ -34,8 +34,8 @@ whole-requires c κs = tt
 returns : tie.Need-returns Inv-loop μ-loop
 returns c =
     let a = c .before .before .before .before .before .before .args in
-    let l = c .before .before .before .before .before .loop in
-    sym (all-broken-in (λ o. ltb o (a .p .S)) (a .t2 .offsets) (l .j) (omega (arith, long (c .before .before .before .before .before .before))) (le-ltb (getD (a .t2 .offsets) (l .j) 0) (a .p .S) (omega (arith, c .if1 .taken, c .before .before .whole .ensures)))) ∙ l .inv .1
+    let l = c .before .before .before .before .loop in
+    sym (all-broken-in (λ o. ltb o (a .p .S)) (a .state .offsets) (l .j) (omega (arith, long (c .before .before .before .before .before .before))) (le-ltb (getD (a .state .offsets) (l .j) 0) (a .p .S) (omega (arith, c .if1 .taken, c .before .before .whole .ensures)))) ∙ l .inv .1
 
 add-j : tie.Need-add-j Inv-loop μ-loop
 add-j c = omega arith
@@ -46,14 +46,14 @@ loop-less c = omega arith
 loop-again : tie.Need-loop-again Inv-loop μ-loop
 loop-again c =
     let a = c .before .before .before .before .before .before .args in
-    let l = c .before .before .before .before .before .loop in
-    (omega arith, sym (all-passed-in (λ o. ltb o (a .p .S)) (a .t2 .offsets) (l .j) (omega (arith, long (c .before .before .before .before .before .before))) (lt-ltb (getD (a .t2 .offsets) (l .j) 0) (a .p .S) (omega (arith, c .if1 .left, c .before .before .whole .ensures)))) ∙ l .inv .1)
+    let l = c .before .before .before .before .loop in
+    (omega arith, sym (all-passed-in (λ o. ltb o (a .p .S)) (a .state .offsets) (l .j) (omega (arith, long (c .before .before .before .before .before .before))) (lt-ltb (getD (a .state .offsets) (l .j) 0) (a .p .S) (omega (arith, c .if1 .left, c .before .before .whole .ensures)))) ∙ l .inv .1)
 
 returns-2 : tie.Need-returns-2 Inv-loop μ-loop
 returns-2 c =
-    let a = c .before .before .args in
+    let a = c .before .before .before .args in
     let l = c .before .loop in
-    sym (all-ended-in (λ o. ltb o (a .p .S)) (a .t2 .offsets) (l .j) (omega (arith, long (c .before .before)))) ∙ l .inv .1
+    sym (all-ended-in (λ o. ltb o (a .p .S)) (a .state .offsets) (l .j) (omega (arith, long (c .before .before .before)))) ∙ l .inv .1
 
 pub offsets-ok-spec : {M : Type 1} → statement M
 offsets-ok-spec =
@@ -63,7 +63,7 @@ offsets-ok-spec =
     μ-loop
     loop-holds
     mul-whole
-    element-copy-out-whole
+    array-read-whole
     whole-requires
     returns
     add-j

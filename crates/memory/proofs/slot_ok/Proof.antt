@@ -17,8 +17,8 @@ data-count-requires c κs = search needs
 mul-whole : tie.Need-mul-whole
 mul-whole c = search needs
 
-element-copy-out-whole : tie.Need-element-copy-out-whole
-element-copy-out-whole c = search needs
+array-read-whole : tie.Need-array-read-whole
+array-read-whole c = search needs
 
 whole-requires : tie.Need-whole-requires
 whole-requires c κs = search needs
@@ -27,13 +27,13 @@ returns : tie.Need-returns
 unfolding slotOk stripeIn filledIn landedIn
 returns c =
     let a = c .before .before .before .before .before .args in
-    let s = a .t2 in
+    let s = a .state in
     let n : c .before .before .before .before .data-count .result ≡ dataCount (a .p) = c .before .before .before .before .data-count .ensures in
     let e1 : ltb (stripeIn s (a .i)) (a .p .S) ≡ false = le-ltb (stripeIn s (a .i)) (a .p .S) (omega (arith, c .if1 .taken, c .before .before .whole .ensures)) in
     λ j. sym e1 j && (leb (filledIn s (a .i)) (dataCount (a .p))) && (ltb (getD (s .writes) (a .i) 0) (2 ^ dataCount (a .p))) && (ltb (landedIn s (a .i)) (2 ^ a .p .N))
 
-element-copy-out-wide : tie.Need-element-copy-out-wide
-element-copy-out-wide c = search needs
+array-read-wide : tie.Need-array-read-wide
+array-read-wide c = search needs
 
 wide-requires : tie.Need-wide-requires
 wide-requires c κs = search needs
@@ -42,14 +42,14 @@ returns-2 : tie.Need-returns-2
 unfolding slotOk stripeIn filledIn landedIn
 returns-2 c =
     let a = c .before .before .before .before .before .before .before .before .args in
-    let s = a .t2 in
+    let s = a .state in
     let n : c .before .before .before .before .before .before .before .data-count .result ≡ dataCount (a .p) = c .before .before .before .before .before .before .before .data-count .ensures in
     let e1 : ltb (stripeIn s (a .i)) (a .p .S) ≡ true = lt-ltb (stripeIn s (a .i)) (a .p .S) (omega (arith, c .before .before .before .if1 .left, c .before .before .before .before .before .whole .ensures)) in
     let e2 : leb (filledIn s (a .i)) (dataCount (a .p)) ≡ false = lt-leb (filledIn s (a .i)) (dataCount (a .p)) (omega (arith, c .if2 .taken, c .before .wide .ensures, n)) in
     λ j. sym e1 j && sym e2 j && (ltb (getD (s .writes) (a .i) 0) (2 ^ dataCount (a .p))) && (ltb (landedIn s (a .i)) (2 ^ a .p .N))
 
-element-copy-out-w : tie.Need-element-copy-out-w
-element-copy-out-w c = search needs
+array-read-w : tie.Need-array-read-w
+array-read-w c = search needs
 
 below-power-requires : tie.Need-below-power-requires
 below-power-requires c κs = search needs
@@ -58,15 +58,15 @@ returns-3 : tie.Need-returns-3
 unfolding slotOk stripeIn filledIn landedIn
 returns-3 c =
     let a = c .before .before .before .before .before .before .before .before .before .before .before .args in
-    let s = a .t2 in
+    let s = a .state in
     let n : c .before .before .before .before .before .before .before .before .before .before .data-count .result ≡ dataCount (a .p) = c .before .before .before .before .before .before .before .before .before .before .data-count .ensures in
     let e1 : ltb (stripeIn s (a .i)) (a .p .S) ≡ true = lt-ltb (stripeIn s (a .i)) (a .p .S) (omega (arith, c .before .before .before .before .before .before .if1 .left, c .before .before .before .before .before .before .before .before .whole .ensures)) in
     let e2 : leb (filledIn s (a .i)) (dataCount (a .p)) ≡ true = le-leb (filledIn s (a .i)) (dataCount (a .p)) (omega (arith, c .before .before .before .if2 .left, c .before .before .before .before .wide .ensures, n)) in
     let e3 : ltb (getD (s .writes) (a .i) 0) (2 ^ dataCount (a .p)) ≡ false = ap (λ (x : ℕ). ltb (getD (s .writes) (a .i) 0) (2 ^ x)) (sym n) ∙ sym (c .before .below-power .ensures) ∙ not-true (c .before .below-power .result) (c .if3 .taken) in
     λ j. sym e1 j && sym e2 j && sym e3 j && (ltb (landedIn s (a .i)) (2 ^ a .p .N))
 
-element-copy-out-m : tie.Need-element-copy-out-m
-element-copy-out-m c = search needs
+array-read-m : tie.Need-array-read-m
+array-read-m c = search needs
 
 below-power-requires-2 : tie.Need-below-power-requires-2
 below-power-requires-2 c κs = search needs
@@ -75,7 +75,7 @@ returns-4 : tie.Need-returns-4
 unfolding slotOk stripeIn filledIn landedIn
 returns-4 c =
     let a = c .before .before .before .before .before .before .before .before .before .before .before .before .before .args in
-    let s = a .t2 in
+    let s = a .state in
     let n : c .before .before .before .before .before .before .before .before .before .before .before .before .data-count .result ≡ dataCount (a .p) = c .before .before .before .before .before .before .before .before .before .before .before .before .data-count .ensures in
     let e1 : ltb (stripeIn s (a .i)) (a .p .S) ≡ true = lt-ltb (stripeIn s (a .i)) (a .p .S) (omega (arith, c .before .before .before .before .before .before .before .before .if1 .left, c .before .before .before .before .before .before .before .before .before .before .whole .ensures)) in
     let e2 : leb (filledIn s (a .i)) (dataCount (a .p)) ≡ true = le-leb (filledIn s (a .i)) (dataCount (a .p)) (omega (arith, c .before .before .before .before .before .if2 .left, c .before .before .before .before .before .before .wide .ensures, n)) in
@@ -89,15 +89,15 @@ slot-ok-spec =
     (tie.spec
     data-count-requires
     mul-whole
-    element-copy-out-whole
+    array-read-whole
     whole-requires
     returns
-    element-copy-out-wide
+    array-read-wide
     wide-requires
     returns-2
-    element-copy-out-w
+    array-read-w
     below-power-requires
     returns-3
-    element-copy-out-m
+    array-read-m
     below-power-requires-2
     returns-4)

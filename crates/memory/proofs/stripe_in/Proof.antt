@@ -6,8 +6,8 @@ use Rattle.memory.proofs.stripe_in.Tie as tie
 mul-whole : tie.Need-mul-whole
 mul-whole c = search needs
 
-element-copy-out-whole : tie.Need-element-copy-out-whole
-element-copy-out-whole c = search needs
+array-read-whole : tie.Need-array-read-whole
+array-read-whole c = search needs
 
 whole-requires : tie.Need-whole-requires
 whole-requires c κs = search needs
@@ -17,4 +17,4 @@ unfolding stripeIn
 returns c = c .whole .ensures
 
 pub stripe-in-spec : {M : Type 1} → statement M
-stripe-in-spec = tie.close (tie.spec mul-whole element-copy-out-whole whole-requires returns)
+stripe-in-spec = tie.close (tie.spec mul-whole array-read-whole whole-requires returns)

@@ -25,16 +25,16 @@ add-j : tie.Need-add-j
 add-j c = omega (arith, low c)
 
 mul-if1 : tie.Need-mul-if1
-mul-if1 c = omega (arith, low c)
+mul-if1 c = omega (arith, low (c .before))
 
-element-copy-out-if1 : tie.Need-element-copy-out-if1
-element-copy-out-if1 c = low c
+array-read-if1 : tie.Need-array-read-if1
+array-read-if1 c = low (c .before)
 
 returns : tie.Need-returns
 unfolding landedCand entryIn cell
 returns c ps cs h =
     let a = c .before .before .before .before .args in
-    other-address (a .address .0) (rankedBest (a .b)) (landedCand (a .p) (viewOf (a .p) (a .image .now) ps) (a .segment) (a .t4) (a .i) (a .k)) cs (λ e. c .if1 .taken e)
+    other-address (a .address .0) (rankedBest (a .b)) (landedCand (a .p) (viewOf (a .p) (a .image .now) ps) (a .segment) (a .state) (a .i) (a .k)) cs (λ e. c .if1 .taken e)
 
 landed-cand-requires : tie.Need-landed-cand-requires
 landed-cand-requires c κs = search needs
@@ -47,8 +47,8 @@ unfolding landedCand entryIn cell
 returns-2 c ps cs h =
     let a = c .before .before .before .before .before .before .args in
     let q = c .before .landed-cand .ensures ps h in
-    same-address (a .address .0) (rankedBest (a .b)) (rankedBest (c .better .result)) (landedCand (a .p) (viewOf (a .p) (a .image .now) ps) (a .segment) (a .t4) (a .i) (a .k)) cs
+    same-address (a .address .0) (rankedBest (a .b)) (rankedBest (c .better .result)) (landedCand (a .p) (viewOf (a .p) (a .image .now) ps) (a .segment) (a .state) (a .i) (a .k)) cs
     (c .before .before .if1 .left) (c .better .ensures ∙ ap (better (rankedBest (a .b))) q)
 
 pub compete-spec : {M : Type 1} → statement M
-compete-spec = tie.close (tie.spec mul-j add-j mul-if1 element-copy-out-if1 returns landed-cand-requires better-requires returns-2)
+compete-spec = tie.close (tie.spec mul-j add-j mul-if1 array-read-if1 returns landed-cand-requires better-requires returns-2)

@@ -14,8 +14,8 @@ add-j c = omega arith
 mul-result : tie.Need-mul-result
 mul-result c = omega arith
 
-element-copy-out-result : tie.Need-element-copy-out-result
-element-copy-out-result c = omega arith
+array-read-result : tie.Need-array-read-result
+array-read-result c = omega arith
 
 cast-result : tie.Need-cast-result
 cast-result c = search needs
@@ -25,4 +25,4 @@ unfolding offsetIn cell
 returns c = refl
 
 pub offset-in-spec : {M : Type 1} → statement M
-offset-in-spec = tie.close (tie.spec mul-j add-j mul-result element-copy-out-result cast-result returns)
+offset-in-spec = tie.close (tie.spec mul-j add-j mul-result array-read-result cast-result returns)
