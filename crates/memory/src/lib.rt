@@ -430,9 +430,11 @@ pub fn add_entry(state: State, i: usize, address: Address, stamp: Stamp, write: 
     requires { ⌜ (i < 8) × (filledIn state i < 8) ⌝ }
     ensures { λ r. ⌜ r ≡ addEntry state i (address .0) (stamp .0) (cond write 1 0) ⌝ }
 {
-    let f = state.filled[i];
+    let filled = state.filled;
+    let f = filled[i];
     let k = wide(f);
-    let w = with_write(state.writes[i], k, write);
+    let writes = state.writes;
+    let w = with_write(writes[i], k, write);
     let j = 8 * i + k;
     let mut next = state;
     next.filled[i] = f + 1;
@@ -447,7 +449,8 @@ pub fn mark_landed(state: State, i: usize, d: usize, o: usize) -> State
     requires { ⌜ (i < 8) × (d < 8) × (o < 4294967296) ⌝ }
     ensures { λ r. ⌜ r ≡ markLanded state i d o ⌝ }
 {
-    let m = masks::with_drive(state.landed[i], d);
+    let landed = state.landed;
+    let m = masks::with_drive(landed[i], d);
     let j = 8 * i + d;
     let mut next = state;
     next.landed[i] = m;

@@ -11,14 +11,14 @@ use native.Mathlib.Omega.{arith}
 use Rattle.memory.proofs.add_entry.Statement.{statement}
 use Rattle.memory.proofs.add_entry.Tie as tie
 
-element-copy-out-f : tie.Need-element-copy-out-f
-element-copy-out-f c = search needs
+array-read-f : tie.Need-array-read-f
+array-read-f c = search needs
 
 wide-requires : tie.Need-wide-requires
 wide-requires c κs = search needs
 
-element-copy-out-with-write : tie.Need-element-copy-out-with-write
-element-copy-out-with-write c = search needs
+array-read-with-write : tie.Need-array-read-with-write
+array-read-with-write c = search needs
 
 with-write-requires : tie.Need-with-write-requires
 with-write-requires c κs = search needs
@@ -60,7 +60,7 @@ returns : tie.Need-returns
 unfolding addEntry filledIn cell
 returns c =
     let a = c .before .before .before .before .args in
-    let s = a .t1 in
+    let s = a .state in
     let f = getD (s .filled) (a .i) 0 in
     let e : c .before .before .wide .result ≡ f = c .before .before .wide .ensures in
     let w : c .with-write .result ≡ bitOr (getD (s .writes) (a .i) 0) (cond (a .write) 1 0 * only f) =
@@ -73,9 +73,9 @@ pub add-entry-spec : {M : Type 1} → statement M
 add-entry-spec =
     tie.close
     (tie.spec
-    element-copy-out-f
+    array-read-f
     wide-requires
-    element-copy-out-with-write
+    array-read-with-write
     with-write-requires
     mul-j
     add-j

@@ -6,8 +6,8 @@ use mathlib.Core.Path.{ap}
 use Rattle.memory.proofs.mark_landed.Statement.{statement}
 use Rattle.memory.proofs.mark_landed.Tie as tie
 
-element-copy-out-with-drive : tie.Need-element-copy-out-with-drive
-element-copy-out-with-drive c = search needs
+array-read-with-drive : tie.Need-array-read-with-drive
+array-read-with-drive c = search needs
 
 with-drive-requires : tie.Need-with-drive-requires
 with-drive-requires c κs = search needs
@@ -32,13 +32,13 @@ element-write-next-2 c = search needs
 
 returns : tie.Need-returns
 unfolding markLanded landedMask landedIn cell
-returns c = let a = c .before .before .args in let s = a .t1 in ap (λ (x : ℕ). mkState (s .live) (s .missing) (s .stamp .0) (s .serial .0) (s .opened) (s .next) (s .numbers) (s .filled) (s .writes) (set (s .landed) (a .i) x) (s .addresses) (s .stamps) (set (s .offsets) (8 * a .i + a .d) (a .o))) (c .with-drive .ensures)
+returns c = let a = c .before .before .args in let s = a .state in ap (λ (x : ℕ). mkState (s .live) (s .missing) (s .stamp .0) (s .serial .0) (s .opened) (s .next) (s .numbers) (s .filled) (s .writes) (set (s .landed) (a .i) x) (s .addresses) (s .stamps) (set (s .offsets) (8 * a .i + a .d) (a .o))) (c .with-drive .ensures)
 
 pub mark-landed-spec : {M : Type 1} → statement M
 mark-landed-spec =
     tie.close
     (tie.spec
-    element-copy-out-with-drive
+    array-read-with-drive
     with-drive-requires
     mul-j
     add-j
