@@ -39,7 +39,7 @@ demo: $(OUT)/box
 test:
 	.ci/run
 
-install: $(OUT)/libsorgizhed.a $(OUT)/box
+install: $(OUT)/libsorgizhed.a
 	install -d $(DESTDIR)$(PREFIX)/include $(DESTDIR)$(PREFIX)/lib/pkgconfig
 	install -m 644 include/sorgizhed.h $(DESTDIR)$(PREFIX)/include/sorgizhed.h
 	install -m 644 $(OUT)/libsorgizhed.a $(DESTDIR)$(PREFIX)/lib/libsorgizhed.a
