@@ -1,0 +1,45 @@
+-- What holds between uncut calls of the stripes in flight: landed chunks, parity, and the writes that wait. Assumes nothing.
+use mathlib.Core.Path.{_≡_}
+use mathlib.Core.List.{List, map}
+use mathlib.Core.Bool.{true}
+use Prim.Native.Nat.{ℕ, _+_, _<_}
+use lib.Dec.{eqb}
+use lib.ListN.{length, getD}
+use Rattle.defs.specs.declared.Params.{Params}
+use Rattle.defs.specs.declared.State.{State}
+use Rattle.defs.specs.Bytes.{parity}
+use Rattle.defs.specs.Drives.{mkChunk, View, chunkAt, Disk, zoneOn}
+use Rattle.defs.specs.Landing.{flightRec}
+use Rattle.defs.specs.Layout.{parityDrive, dataDrive, dataDrives, recordBytes}
+use Rattle.defs.specs.Lists.{below, keep, isIn}
+use Rattle.defs.specs.Memory.{Memory, stripeIn, filledIn, landedIn, isWrite, entryIn, offsetIn, openSegment, isFull, slotBlock}
+use Rattle.defs.specs.Segments.{Segment}
+use Rattle.spec_demands.specs.Layouts.{ParityMade}
+use Rattle.spec_demands.specs.Tables.{Pending, noPending}
+use Rattle.tablesay.specs.Run.{flies}
+use Rattle.views.specs.Views.{seen}
+
+-- data position k of eighth i, as the write that filled it sent it
+unfoldable pub sentOf : Params → State → List ℕ → ℕ → ℕ → Pending
+sentOf p st fl i k =
+    let s = stripeIn st i in
+    let d = dataDrive p s k in
+    record { stripe = s; drive = d; address = entryIn st i k .address; stamp = entryIn st i k .stamp; block = slotBlock p fl i d }
+
+pub record Flights (p : Params) (v : View) (st : State) (fl : List ℕ) (ws : List Pending) : Type 0 where
+  -- a chunk that has landed is what its eighth holds
+  pub landed-is : (i d : ℕ) → i < 8 → flies st i ≡ true → d < p .N → isIn (landedIn st i) d ≡ true
+      → chunkAt v d (zoneOn (openSegment st) d) (1 + offsetIn st i d) ≡ mkChunk (slotBlock p fl i d) (recordBytes (flightRec p st i d))
+  -- parity has landed only of a full stripe
+  pub parity-full : (i : ℕ) → i < 8 → flies st i ≡ true → isIn (landedIn st i) (parityDrive p (stripeIn st i)) ≡ true → isFull p st i ≡ true
+  -- and it is worked out once the stripe is full
+  pub parity-ready : (i : ℕ) → i < 8 → flies st i ≡ true → isFull p st i ≡ true
+      → slotBlock p fl i (parityDrive p (stripeIn st i)) ≡ parity (p .B) (map (slotBlock p fl i) (dataDrives p (stripeIn st i)))
+  -- the writes that wait are those of the stripes in flight, by data position
+  pub pending-is : (i : ℕ) → i < 8 → flies st i ≡ true
+      → keep (λ (w : Pending). eqb (w .stripe) (stripeIn st i)) ws ≡ map (sentOf p st fl i) (keep (isWrite st i) (below (filledIn st i)))
+  pub pending-flies : (j : ℕ) → j < length ws → (i : ℕ) × (i < 8) × (flies st i ≡ true) × (stripeIn st i ≡ getD ws j noPending .stripe)
+
+pub record Flown (p : Params) (k : Disk) (m : Memory) (ws : List Pending) (old : List Segment) : Type 0 where
+  pub flights : m .state .missing ≡ 0 → Flights p (seen p k) (m .state) (m .inflight) ws
+  pub parities : ParityMade p (seen p k) (m .state .missing) old

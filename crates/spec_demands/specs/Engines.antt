@@ -1,0 +1,57 @@
+-- How a list of calls is run: with the state as a value, or on the lent bytes alone, as C runs it. Assumes nothing.
+use mathlib.Core.List.{List}
+use mathlib.Core.Bool.{Bool, cond, _&&_}
+use Prim.Native.Nat.{ℕ}
+use lib.Dec.{eqb}
+use lib.ListN.{length, replicate}
+use Rattle.defs.specs.declared.Params.{Params}
+use Rattle.defs.specs.declared.Answer.{Answer}
+use Rattle.defs.specs.Answers.{kind}
+use Rattle.defs.specs.Drives.{View, viewOf, Disk}
+use Rattle.defs.specs.Engine.{Call, callDisk, Lent, lentDisk, lentMemory, callBytes}
+use Rattle.defs.specs.Engine.Call.{read, fill}
+use Rattle.defs.specs.History.{World, mkWorld, Seen}
+use Rattle.defs.specs.History.Seen.{unwritten, got, failed}
+use Rattle.defs.specs.Memory.{Memory}
+
+-- what a call gives: its answer, what it leaves, and the lent block
+pub record Reply (W : Type 0) : Type 0 where
+  pub answer : Answer
+  pub world : W
+  pub block : List ℕ
+
+-- a way to run calls: image and pointers, memory, and a call
+pub record Engine (W : Type 0) : Type 0 where
+  pub disk : W → Disk
+  pub memory : W → Memory
+  pub call : Params → W → Call → Reply W
+
+-- the state is a value
+unfoldable pub callWorld : Params → World → Call → Reply World
+callWorld p w c =
+    let r = callDisk p (w .disk) (w .memory) c in
+    record { answer = r .answer; world = mkWorld (r .drives) (r .memory); block = r .block }
+
+abbrev pub onValues : Engine World
+onValues = record { disk = λ (w : World). w .disk; memory = λ (w : World). w .memory; call = callWorld }
+
+-- the state is bytes and nothing else: each step is what the C functions equal
+unfoldable pub callLent : Params → Lent → Call → Reply Lent
+callLent p l c =
+    let r = callBytes p l c in
+    record { answer = r .answer; world = r .lent; block = r .block }
+
+abbrev pub onBytes : Engine Lent
+onBytes = record { disk = lentDisk; memory = lentMemory; call = callLent }
+
+module _ {W : Type 0} (E : Engine W) where
+  -- what the drives hold
+  unfoldable pub viewIn : Params → W → View
+  viewIn p w = viewOf p (E .disk w .image) (E .disk w .pointers)
+
+  -- 01, How tightly, 4: "never written" where the first read call says so, else the block that the second fills
+  unfoldable pub readsAs : Params → W → ℕ → Seen
+  readsAs p w a =
+      let r = E .call p w (fill a (replicate (p .B) 0)) in
+      let x = cond (eqb (kind (r .answer)) 11) (got (r .block)) failed in
+      cond (eqb (kind (E .call p w (read a) .answer)) 9) unwritten x

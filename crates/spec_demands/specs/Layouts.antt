@@ -1,0 +1,58 @@
+-- "The drives hold the published layout" as a statement (demand 2; 01, What a zone holds): what stands in the zones of remaining segments. Assumes nothing.
+use mathlib.Core.Path.{_≡_}
+use mathlib.Core.List.{List, map}
+use mathlib.Core.Bool.{Bool, true, false, _&&_}
+use Prim.Native.Nat.{ℕ, _+_, _≤_, _<_}
+use lib.Dec.{eqb}
+use lib.ListN.{take, drop}
+use Rattle.defs.specs.declared.Params.{Params}
+use Rattle.defs.specs.Drives.{mkChunk, View, zoneAt, pointerAt, chunkAt, zoneOn, dataStored, sparesOf, recordAt, zeroSpare}
+use Rattle.defs.specs.Faults.{footersStored}
+use Rattle.defs.specs.Layout.{parityDrive, dataDrives, inGroupOf, headerBlock, footerBlock}
+use Rattle.defs.specs.Lists.{any, isMember, isIn}
+use Rattle.defs.specs.Params.{capacity}
+use Rattle.defs.specs.Parity.{parityPiece}
+use Rattle.defs.specs.Segments.{remaining, Segment, segmentOf, counts, storedPiece}
+
+-- a drive that is present
+abbrev pub Here : Params → ℕ → ℕ → Type 0
+Here p gone d = (d < p .N) × (isIn gone d ≡ false)
+
+-- 01, Restart, 1 and 2: a segment that remains
+abbrev pub Remains : Params → View → ℕ → ℕ → Type 0
+Remains p v gone g = isMember g (remaining p v gone) ≡ true
+
+-- a restart found a sealed segment of this serial: its footers came with the image, and may say anything
+unfoldable pub foundSealed : List Segment → ℕ → Bool
+foundSealed old serial = any (λ (g : Segment). eqb (g .serial) serial && g .full) old
+
+-- a restart found this stripe counted: its parity came with the image, and may be false
+unfoldable pub foundCounted : Params → ℕ → List Segment → ℕ → ℕ → Bool
+foundCounted p gone old serial s = any (λ (g : Segment). eqb (g .serial) serial && counts p gone g s) old
+
+-- 01, What a zone holds: "parity block, parity address and parity stamp are the exclusive or of the data's", in every counted stripe that the engine wrote
+abbrev pub ParityMade : Params → View → ℕ → List Segment → Type 0
+ParityMade p v gone old = (g s : ℕ) → Remains p v gone g → s < p .S → counts p gone (segmentOf p v gone g) s ≡ true
+    → foundCounted p gone old (segmentOf p v gone g .serial) s ≡ false
+    → storedPiece (segmentOf p v gone g) s (parityDrive p s) ≡ parityPiece p s (map (storedPiece (segmentOf p v gone g) s) (dataDrives p s))
+
+-- 01, What a zone holds: on the drives that are present, where the restart of this run found the segments old
+pub record Layout (p : Params) (v : View) (gone : ℕ) (old : List Segment) : Type 0 where
+  -- 01, The array: a write pointer is at most the capacity
+  pub pointer-low : (d z : ℕ) → Here p gone d → z < p .Z → pointerAt v d z ≤ capacity p
+  -- 01, What a zone holds: the header, byte by byte, its spare all zero, with the same serials on every drive
+  pub header-stands : (g d : ℕ) → Remains p v gone g → Here p gone d
+      → chunkAt v d (zoneOn g d) 0 ≡ mkChunk (headerBlock p d (zoneOn g d) (segmentOf p v gone g .serial) (segmentOf p v gone g .copied)) zeroSpare
+  -- 01, What a zone holds: serials rise above the copied ones, and none is used twice
+  pub serial-above : (g : ℕ) → Remains p v gone g → segmentOf p v gone g .copied < segmentOf p v gone g .serial
+  pub serial-once : (g h : ℕ) → Remains p v gone g → Remains p v gone h → segmentOf p v gone g .serial ≡ segmentOf p v gone h .serial → g ≡ h
+  -- 01, What a zone holds: "every chunk of a group sits at data offsets of that group", no stripe twice in a zone
+  pub in-group : (g d o : ℕ) → Remains p v gone g → Here p gone d → o < dataStored p (zoneAt v d (zoneOn g d))
+      → inGroupOf p o (recordAt p v gone d g o .stripe) ≡ true
+  pub number-once : (g d o i : ℕ) → Remains p v gone g → Here p gone d → o < dataStored p (zoneAt v d (zoneOn g d)) → i < dataStored p (zoneAt v d (zoneOn g d))
+      → recordAt p v gone d g o .stripe ≡ recordAt p v gone d g i .stripe → o ≡ i
+  -- 01, What a zone holds: "the footer repeats the zone's records in order, zeros after the last of each block"
+  pub footer-made : (g d i : ℕ) → Remains p v gone g → Here p gone d → foundSealed old (segmentOf p v gone g .serial) ≡ false
+      → i < footersStored p (zoneAt v d (zoneOn g d))
+      → chunkAt v d (zoneOn g d) (1 + p .S + i) .block ≡ footerBlock p (sparesOf (take (p .S) (drop 1 (zoneAt v d (zoneOn g d) .blocks)))) i
+  pub parity-made : ParityMade p v gone old

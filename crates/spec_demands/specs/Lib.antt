@@ -1,0 +1,6 @@
+pub mod Answering
+pub mod Rules
+pub mod Engines
+pub mod Layouts
+pub mod Tables
+pub mod Histories
