@@ -9,7 +9,7 @@ use Rattle.defs.specs.declared.Answer.{Answer}
 use Rattle.defs.specs.Answers.{isRefused}
 use Rattle.defs.specs.Calls.{Verdict, After, outcome}
 use Rattle.defs.specs.Closing.{closeVerdict}
-use Rattle.defs.specs.Drives.{View, viewOf, storeView, Disk, mkDisk, storeDisk}
+use Rattle.defs.specs.Drives.{View, viewOf, Disk, mkDisk, storeDisk}
 use Rattle.defs.specs.Landing.{landVerdict}
 use Rattle.defs.specs.Memory.{Memory, mkMemory, stateLen, stateBytes, stateOf}
 use Rattle.defs.specs.Params.{imageLen, pointersLen, addressesLen, compactLen, inflightLen}
@@ -78,10 +78,6 @@ callOn p long k m c =
 -- 01, The calls: the same, with the lengths checked
 unfoldable pub callDisk : Params → Disk → Memory → Call → After Disk
 callDisk p k m c = callOn p (lentOk p k m) k m c
-
--- the same on a view of drives whose buffers have their lengths
-unfoldable pub callView : Params → View → Memory → Call → After View
-callView p v m c = outcome p storeView (storeCount c) v m (lentBlock c) (verdict p true v m c)
 
 -- ---- the state as bytes
 

@@ -10,17 +10,17 @@ use Rattle.defs.specs.declared.Params.{Params}
 use Rattle.defs.specs.declared.Answer.the-variants.{Refused, Cut}
 use Rattle.defs.specs.Answers.{kind, values, isRefused, isRefusedAs, isCut, finished}
 use Rattle.defs.specs.Bytes.{beFrom, beOf, toBe, part, splice, xors, parity, xorAll, bytesOf, readField}
-use Rattle.defs.specs.Calls.{ninth, ruled, firstRefusal, decided, After, mkAfter, cutMemory, limited, outcome}
+use Rattle.defs.specs.Calls.{ninth, ruled, firstRefusal, decided, cutMemory, limited, outcome}
 use Rattle.defs.specs.Closing.{padded, closeChecks, closePlan, closeVerdict}
 use Rattle.defs.specs.Counts.{neverPlace}
-use Rattle.defs.specs.Drives.{mkChunk, noChunk, mkZone, noZone, stored, View, zoneAt, pointerAt, chunkAt, chunkOf, zoneOf, driveOf, viewOf, putZone, resetZone, setZone, storeView, pointerByte, pointerOf, setPointer, storeDisk, storeAll, segmentNumbers, zoneOn, placeSegment, emptyOnAll, emptyZones, sealedIn, dataStored, blocksOf, sparesOf, recordIn, recordAt, footersOf, zeroSpare, headerStores, footerStores, resetStores}
-use Rattle.defs.specs.Engine.{Call, storeCount, lentBlock, verdict, lentOk, callOn, callDisk, callView, lentDisk, lentMemory, lentAll, leftBy, callBytes}
+use Rattle.defs.specs.Drives.{noChunk, noZone, stored, View, zoneAt, pointerAt, chunkAt, chunkOf, zoneOf, driveOf, viewOf, putZone, resetZone, setZone, storeView, pointerByte, pointerOf, setPointer, storeDisk, storeAll, segmentNumbers, zoneOn, placeSegment, emptyOnAll, emptyZones, sealedIn, dataStored, blocksOf, sparesOf, recordIn, recordAt, footersOf, zeroSpare, headerStores, footerStores, resetStores}
+use Rattle.defs.specs.Engine.{Call, storeCount, lentBlock, verdict, lentOk, callOn, callDisk, Lent, Left, lentDisk, lentMemory, lentAll, leftBy, callBytes}
 use Rattle.defs.specs.Engine.Call.{write, land, fill, restart}
 use Rattle.defs.specs.Faults.{pointerFaults, sameChunk, headerFault, serialFault, outside, twice, stripeFault, badRec, storedBad, decodedBad, addressFault, footersStored, sameBlocks, footerFaultIn, footerFault, clashes, segmentFault, segmentFaults, imageChecks}
 use Rattle.defs.specs.Landing.{slotOf, ready, waiting, completes, seals, flightRec, misplaced, overfull, entryFaults, landFaults, serialAt, heldCand, held, landedCand, landedCands, pointed, landChecks, sealStores, writesIn, landStore, landPlan, landVerdict}
 use Rattle.defs.specs.Layout.{parityDrive, dataDrive, dataPosition, isData, dataDrives, group, inGroupOf, groupOffsets, compactEntry, headerWidths, headerVersion, headerValues, headerFields, headerBlock, headerSerial, headerCopied, mkRec, recordFields, recordBytes, recordOf, footerBlock, footerRecord}
 use Rattle.defs.specs.Lists.{upFrom, below, all, any, isMember, consIf, keep, tally, isNil, sucUnless, indexOf, flat, total, greatest, least, firstOr, sameList, padTo, pieces, zipped, powers, only, isIn}
-use Rattle.defs.specs.Memory.{Memory, mkMemory, slotCount, slots, cell, idleState, zeroState, stateSections, sectionLen, sectionAt, stateLen, numbersAt, sectionOf, numberOf, stateNumbers, sectionBytes, stateBytes, stateOf, stripeIn, filledIn, landedIn, isWrite, entryIn, entriesIn, offsetIn, openSegment, isFree, isFull, isFilling, inFlight, freeSlot, fillingSlot, hasFilling, holdsAt, holds, slotOk, stateOk, stateFaults, setStamp, setOpen, setClosed, beginStripe, addEntry, landedMask, markLanded, freeStripe, placeAt, setPlace, compactAt, shownAt, slotByte, slotBlock, setSlotBlock, setSlotParity}
+use Rattle.defs.specs.Memory.{slotCount, slots, cell, idleState, zeroState, stateSections, sectionLen, sectionAt, stateLen, numbersAt, sectionOf, numberOf, stateNumbers, sectionBytes, stateBytes, stateOf, stripeIn, filledIn, landedIn, isWrite, entryIn, entriesIn, offsetIn, openSegment, isFree, isFull, isFilling, inFlight, freeSlot, fillingSlot, hasFilling, holdsAt, holds, slotOk, stateOk, stateFaults, setStamp, setOpen, setClosed, beginStripe, addEntry, landedMask, markLanded, freeStripe, placeAt, setPlace, compactAt, shownAt, slotByte, slotBlock, setSlotBlock, setSlotParity}
 use Rattle.defs.specs.Params.{mkParams, between, blockSizes, dataCount, mostAddresses, inRange, recordWidths, spareLen, perFooter, footers, capacity, unitLen, zoneLen, driveLen, imageLen, pointersLen, addressesLen, compactLen, inflightLen, placeOf, placeBlock, placeZone, placeDrive, placeByte, noDrive, named, drivesOf, present, absent}
 use Rattle.defs.specs.Parity.{parityRec, parityPiece}
 use Rattle.defs.specs.Rank.{beats, better, best, placeOr, candsOf}
@@ -35,31 +35,43 @@ use Rattle.defs.specs.Write.{mustOpen, opens, noStamp, noSerial, otherGr
 abbrev pub small : Params
 small = mkParams 3 64 4 4 2 8
 
--- empty drives, all bytes 0
-unfoldable pub emptyView : Params → View
-emptyView p = replicate (p .N) (replicate (p .Z) (mkZone 0 (replicate (capacity p) (mkChunk (replicate (p .B) 0) zeroSpare))))
+-- empty drives and all else, all bytes 0
+unfoldable pub emptyLent : Params → Lent
+emptyLent p = record {
+  image = replicate (imageLen p) 0;
+  pointers = replicate (pointersLen p) 0;
+  addresses = replicate (addressesLen p) 0;
+  compact = replicate (compactLen p) 0;
+  inflight = replicate (inflightLen p) 0;
+  state = replicate stateLen 0;
+}
 
-unfoldable pub emptyMemory : Params → Memory
-emptyMemory p = mkMemory zeroState (replicate (addressesLen p) 0) (replicate (compactLen p) 0) (replicate (inflightLen p) 0)
-
--- uncut calls one after the other; the last answer
-unfoldable pub runs : Params → After View → List Call → After View
+-- calls one after the other, on the lent bytes; what the last leaves
+unfoldable pub runs : Params → Left → List Call → Left
 runs p r [] = r
-runs p r (c ∷ cs) = runs p (callView p (r .drives) (r .memory) c) cs
+runs p r (c ∷ cs) = runs p (callBytes p (r .lent) c) cs
 
-unfoldable pub fresh : Params → After View
-fresh p = mkAfter Cut (emptyView p) (emptyMemory p) []
+unfoldable pub fresh : Params → Left
+fresh p = record { answer = Cut; lent = emptyLent p; block = [] }
+
+-- what the drives hold
+unfoldable pub viewAfter : Params → Left → View
+viewAfter p r = viewOf p (r .lent .image) (r .lent .pointers)
 
 -- the stamp of the record that a read of address a finds; 0 if never written
-unfoldable pub stampAt : Params → After View → ℕ → ℕ
+unfoldable pub stampAt : Params → Left → ℕ → ℕ
 stampAt p r a =
-    let q = placeAt (r .memory .addresses) a in
-    let t = recordAt p (r .drives) (r .memory .state .missing) (placeDrive p q) (placeZone p q) (placeBlock p q - 1) .stamp in
+    let q = placeAt (r .lent .addresses) a in
+    let t = recordAt p (viewAfter p r) (stateOf (r .lent .state) .missing) (placeDrive p q) (placeZone p q) (placeBlock p q - 1) .stamp in
     cond (eqb q neverPlace) 0 t
 
 -- a block of one byte over and over
 unfoldable pub blockOf : ℕ → List ℕ
 blockOf b = replicate 64 b
+
+-- M7: the stamp that a read of address a finds, and the block that the second read fills
+unfoldable pub stampAndBlock : Params → Left → ℕ → List ℕ
+stampAndBlock p r a = stampAt p r a ∷ callBytes p (r .lent) (fill a (blockOf 0)) .block
 
 -- M7: address 0 in stripe 0 with stamp 1 and in stripe 1 with stamp 3; stripe 1 completes first
 unfoldable pub m7First : List Call
@@ -74,25 +86,24 @@ m7Second = m7First ++ (land 0 0 9 ∷ land 1 0 9 ∷ land 2 0 9 ∷ [])
 unfoldable pub m8Calls : List Call
 m8Calls = restart 255 100 ∷ write 0 (blockOf 1) 100 ∷ write 1 (blockOf 2) 100 ∷ land 0 0 9 ∷ land 1 0 9 ∷ []
 
-unfoldable pub countedIn : Params → After View → ℕ → ℕ → List ℕ
-countedIn p r gone g = counted p gone (segmentOf p (r .drives) gone g)
+-- M8: the stripes of segment g that count with none missing, and with drive d missing
+unfoldable pub countedBoth : Params → Left → ℕ → ℕ → List (List ℕ)
+countedBoth p r d g = map (λ gone. counted p gone (segmentOf p (viewAfter p r) gone g)) (0 ∷ named d ∷ [])
 
 pub record Examples : Type 0 where
   pub box : (footers small ≡ 2) × (capacity small ≡ 7) × (imageLen small ≡ 7056)
   pub m1 : (inRange small ≡ true) × (inRange (mkParams 3 64 4 4 2 9) ≡ false)
-      × (callView (mkParams 3 64 4 4 2 9) (emptyView small) (emptyMemory small) (restart 255 100) .answer ≡ Refused 1)
+      × (callBytes (mkParams 3 64 4 4 2 9) (emptyLent (mkParams 3 64 4 4 2 9)) (restart 255 100) .answer ≡ Refused 1)
   pub m2 : map (parityDrive small) (below 4) ≡ 2 ∷ 1 ∷ 0 ∷ 2 ∷ []
   pub m3 : parity 1 ((0x0f ∷ []) ∷ (0x33 ∷ []) ∷ []) ≡ 0x3c ∷ []
   pub m4 : parityRec 0 (mkRec 0 5 0 ∷ mkRec 0 9 0 ∷ []) .stamp ≡ 12
   pub m5 : (map (group (mkParams 3 64 4 5 2 8)) (below 5) ≡ 0 ∷ 0 ∷ 1 ∷ 1 ∷ 2 ∷ []) × (compactEntry (mkParams 3 64 4 5 2 8) 4 ≡ 0)
   pub m6 : (perFooter small ≡ 3) × (footers (mkParams 3 64 4 3 2 6) ≡ 1) × (footers small ≡ 2)
-  pub m7 : (stampAt small (runs small (fresh small) m7First) 0 ≡ 3)
-      × (stampAt small (runs small (fresh small) m7Second) 0 ≡ 3)
-      × (runs small (fresh small) (m7Second ++ (fill 0 (blockOf 0) ∷ [])) .block ≡ blockOf 3)
-  pub m8 : (countedIn small (runs small (fresh small) m8Calls) 0 0 ≡ []) × (countedIn small (runs small (fresh small) m8Calls) (named 2) 0 ≡ 0 ∷ [])
+  pub m7 : (stampAt small (runs small (fresh small) m7First) 0 ≡ 3) × (stampAndBlock small (runs small (fresh small) m7Second) 0 ≡ 3 ∷ blockOf 3)
+  pub m8 : countedBoth small (runs small (fresh small) m8Calls) 2 0 ≡ [] ∷ (0 ∷ []) ∷ []
 
 pub examples-hold : Examples
-unfolding ones onesIn kind values isRefused isRefusedAs isCut finished beFrom beOf toBe part splice xors parity xorAll bytesOf readField ninth ruled firstRefusal decided cutMemory limited outcome padded closeChecks closePlan closeVerdict noChunk noZone stored zoneAt pointerAt chunkAt chunkOf zoneOf driveOf viewOf putZone resetZone setZone storeView pointerByte pointerOf setPointer storeDisk storeAll segmentNumbers zoneOn placeSegment emptyOnAll emptyZones sealedIn dataStored blocksOf sparesOf recordIn recordAt footersOf zeroSpare headerStores footerStores resetStores storeCount lentBlock verdict lentOk callOn callDisk callView lentDisk lentMemory lentAll leftBy callBytes pointerFaults sameChunk headerFault serialFault outside twice stripeFault badRec storedBad decodedBad addressFault footersStored sameBlocks footerFaultIn footerFault clashes segmentFault segmentFaults imageChecks slotOf ready waiting completes seals flightRec misplaced overfull entryFaults landFaults serialAt heldCand held landedCand landedCands pointed landChecks sealStores writesIn landStore landPlan landVerdict parityDrive dataDrive dataPosition isData dataDrives group inGroupOf groupOffsets compactEntry headerWidths headerVersion headerValues headerFields headerBlock headerSerial headerCopied recordFields recordBytes recordOf footerBlock footerRecord upFrom below all any isMember consIf keep tally isNil sucUnless indexOf flat total greatest least firstOr sameList padTo pieces zipped powers only isIn slotCount slots cell idleState zeroState stateSections sectionLen sectionAt stateLen numbersAt sectionOf numberOf stateNumbers sectionBytes stateBytes stateOf stripeIn filledIn landedIn isWrite entryIn entriesIn offsetIn openSegment isFree isFull isFilling inFlight freeSlot fillingSlot hasFilling holdsAt holds slotOk stateOk stateFaults setStamp setOpen setClosed beginStripe addEntry landedMask markLanded freeStripe placeAt setPlace compactAt shownAt slotByte slotBlock setSlotBlock setSlotParity between blockSizes dataCount mostAddresses inRange recordWidths spareLen perFooter footers capacity unitLen zoneLen driveLen imageLen pointersLen addressesLen compactLen inflightLen placeOf placeBlock placeZone placeDrive placeByte noDrive named drivesOf present absent parityRec parityPiece beats better best placeOr candsOf placeFaults lookup foundFaults shown decodeFaults storedAt decodedAt readPiece readAnswer readChecks readVerdict fillVerdict namesMissing rebuildChecks rebuiltZone rebuildStores rebuildVerdict placesIn tableFaults segmentPlaces liveIn flying victimOf fewer fewest victim isNone victimSegment victimLive idle reclaimChecks clearedRow cleared resetPlan copyPlan reclaimVerdict freeZones isWhole isRagged missingFooters renumbered movedPieces movedOn movedStripe movedStripes rewriteStores dropStores mendStores restartStores openOf nextOf restartMemory uncountedIn reportOf namesDrive rewrites restartChecks restartPlan restartVerdict lowDrive headerAt leftBy1 isCopy remaining recordsIn segmentOf segments recsOn offsetOn hasChunk counts counted uncounted storedPiece pieceOf putPiece storedRec recOf offsetOf candOf segmentCands candidates addressTable compactRow rowOf compactTable greatestStamp greatestSerial unsealed mustOpen opens noStamp noSerial otherGroup mustWait scarce placed openedBy slotFor begunBy sending writeChecks writePlan writeVerdict emptyView emptyMemory runs fresh stampAt blockOf m7First m7Second m8Calls countedIn
+unfolding ones onesIn kind values isRefused isRefusedAs isCut finished beFrom beOf toBe part splice xors parity xorAll bytesOf readField ninth ruled firstRefusal decided cutMemory limited outcome padded closeChecks closePlan closeVerdict noChunk noZone stored zoneAt pointerAt chunkAt chunkOf zoneOf driveOf viewOf putZone resetZone setZone storeView pointerByte pointerOf setPointer storeDisk storeAll segmentNumbers zoneOn placeSegment emptyOnAll emptyZones sealedIn dataStored blocksOf sparesOf recordIn recordAt footersOf zeroSpare headerStores footerStores resetStores storeCount lentBlock verdict lentOk callOn callDisk lentDisk lentMemory lentAll leftBy callBytes pointerFaults sameChunk headerFault serialFault outside twice stripeFault badRec storedBad decodedBad addressFault footersStored sameBlocks footerFaultIn footerFault clashes segmentFault segmentFaults imageChecks slotOf ready waiting completes seals flightRec misplaced overfull entryFaults landFaults serialAt heldCand held landedCand landedCands pointed landChecks sealStores writesIn landStore landPlan landVerdict parityDrive dataDrive dataPosition isData dataDrives group inGroupOf groupOffsets compactEntry headerWidths headerVersion headerValues headerFields headerBlock headerSerial headerCopied recordFields recordBytes recordOf footerBlock footerRecord upFrom below all any isMember consIf keep tally isNil sucUnless indexOf flat total greatest least firstOr sameList padTo pieces zipped powers only isIn slotCount slots cell idleState zeroState stateSections sectionLen sectionAt stateLen numbersAt sectionOf numberOf stateNumbers sectionBytes stateBytes stateOf stripeIn filledIn landedIn isWrite entryIn entriesIn offsetIn openSegment isFree isFull isFilling inFlight freeSlot fillingSlot hasFilling holdsAt holds slotOk stateOk stateFaults setStamp setOpen setClosed beginStripe addEntry landedMask markLanded freeStripe placeAt setPlace compactAt shownAt slotByte slotBlock setSlotBlock setSlotParity between blockSizes dataCount mostAddresses inRange recordWidths spareLen perFooter footers capacity unitLen zoneLen driveLen imageLen pointersLen addressesLen compactLen inflightLen placeOf placeBlock placeZone placeDrive placeByte noDrive named drivesOf present absent parityRec parityPiece beats better best placeOr candsOf placeFaults lookup foundFaults shown decodeFaults storedAt decodedAt readPiece readAnswer readChecks readVerdict fillVerdict namesMissing rebuildChecks rebuiltZone rebuildStores rebuildVerdict placesIn tableFaults segmentPlaces liveIn flying victimOf fewer fewest victim isNone victimSegment victimLive idle reclaimChecks clearedRow cleared resetPlan copyPlan reclaimVerdict freeZones isWhole isRagged missingFooters renumbered movedPieces movedOn movedStripe movedStripes rewriteStores dropStores mendStores restartStores openOf nextOf restartMemory uncountedIn reportOf namesDrive rewrites restartChecks restartPlan restartVerdict lowDrive headerAt leftBy1 isCopy remaining recordsIn segmentOf segments recsOn offsetOn hasChunk counts counted uncounted storedPiece pieceOf putPiece storedRec recOf offsetOf candOf segmentCands candidates addressTable compactRow rowOf compactTable greatestStamp greatestSerial unsealed mustOpen opens noStamp noSerial otherGroup mustWait scarce placed openedBy slotFor begunBy sending writeChecks writePlan writeVerdict emptyLent runs fresh viewAfter stampAt blockOf m7First m7Second m8Calls stampAndBlock countedBoth
 examples-hold = record {
   box = (refl, refl, refl);
   m1 = (refl, refl, refl);
@@ -101,6 +112,6 @@ examples-hold = record {
   m4 = refl;
   m5 = (refl, refl);
   m6 = (refl, refl, refl);
-  m7 = (refl, refl, refl);
-  m8 = (refl, refl);
+  m7 = (refl, refl);
+  m8 = refl;
 }

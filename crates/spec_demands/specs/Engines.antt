@@ -1,9 +1,9 @@
 -- How a list of calls is run: with the state as a value, or on the lent bytes alone, as C runs it. Assumes nothing.
 use mathlib.Core.List.{List}
-use mathlib.Core.Bool.{Bool, cond, _&&_}
+use mathlib.Core.Bool.{cond}
 use Prim.Native.Nat.{ℕ}
 use lib.Dec.{eqb}
-use lib.ListN.{length, replicate}
+use lib.ListN.{replicate}
 use Rattle.defs.specs.declared.Params.{Params}
 use Rattle.defs.specs.declared.Answer.{Answer}
 use Rattle.defs.specs.Answers.{kind}

@@ -1,7 +1,7 @@
 -- The NVMe zone rules as a statement (demand 2; 01, The array): what a call leaves on the drives is stores one after the other. Assumes nothing.
 use mathlib.Core.Path.{_≡_}
 use mathlib.Core.List.{List, [], _∷_}
-use Prim.Native.Nat.{ℕ, _<_}
+use Prim.Native.Nat.{_<_}
 use lib.ListN.{length}
 use Rattle.defs.specs.declared.Params.{Params}
 use Rattle.defs.specs.Drives.{Disk, pointerOf, Store, storeDisk, storeAll}

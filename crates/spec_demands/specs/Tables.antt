@@ -10,11 +10,11 @@ use Rattle.defs.specs.declared.Answer.{Answer}
 use Rattle.defs.specs.declared.Answer.the-variants.{Landed, Restarted}
 use Rattle.defs.specs.Answers.{kind, values, isRefusedAs, isCut, finished}
 use Rattle.defs.specs.Demands.{areBytes, saidAt, NotNinth}
-use Rattle.defs.specs.Drives.{View, pointerAt, chunkAt, mkChunk, Store, storeView, storeAll, zoneOn, sealedIn}
+use Rattle.defs.specs.Drives.{View, Store, storeView, storeAll, zoneOn, sealedIn}
 use Rattle.defs.specs.Drives.Store.{put}
-use Rattle.defs.specs.Engine.{Call, Lent}
+use Rattle.defs.specs.Engine.{Call}
 use Rattle.defs.specs.Engine.Call.{write, land, close, reclaim, read, fill, restart, rebuild}
-use Rattle.defs.specs.History.{World, restartOf, endsRun}
+use Rattle.defs.specs.History.{restartOf, endsRun}
 use Rattle.defs.specs.Landing.{sealStores}
 use Rattle.defs.specs.Layout.{Rec, recordBytes}
 use Rattle.defs.specs.Lists.{below, all, any, consIf, keep, tally, total}
