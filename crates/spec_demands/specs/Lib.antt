@@ -2,5 +2,5 @@ pub mod Answering
 pub mod Rules
 pub mod Engines
 pub mod Layouts
-pub mod Tables
 pub mod Histories
+pub mod Tables

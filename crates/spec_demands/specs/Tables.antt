@@ -8,13 +8,13 @@ use lib.ListN.{length, getD}
 use Rattle.defs.specs.declared.Params.{Params}
 use Rattle.defs.specs.declared.Answer.{Answer}
 use Rattle.defs.specs.declared.Answer.the-variants.{Landed, Restarted}
-use Rattle.defs.specs.Answers.{kind, values, isRefusedAs, isCut, finished}
+use Rattle.defs.specs.Answers.{kind, values, isRefused, isRefusedAs, isCut, finished}
 use Rattle.defs.specs.Demands.{areBytes, saidAt, NotNinth}
 use Rattle.defs.specs.Drives.{View, Store, storeView, storeAll, zoneOn, sealedIn}
 use Rattle.defs.specs.Drives.Store.{put}
-use Rattle.defs.specs.Engine.{Call}
+use Rattle.defs.specs.Engine.{Call, Lent, lentDisk, callBytes}
 use Rattle.defs.specs.Engine.Call.{write, land, close, reclaim, read, fill, restart, rebuild}
-use Rattle.defs.specs.History.{restartOf, endsRun}
+use Rattle.defs.specs.History.{restartOf, endsRun, emptyDisk}
 use Rattle.defs.specs.Landing.{sealStores}
 use Rattle.defs.specs.Layout.{Rec, recordBytes}
 use Rattle.defs.specs.Lists.{below, all, any, consIf, keep, tally, total}
@@ -22,6 +22,7 @@ use Rattle.defs.specs.Memory.{openSegment}
 use Rattle.defs.specs.Params.{noDrive, named, present}
 use Rattle.defs.specs.Segments.{remaining, Segment, segmentOf, segments, hasChunk, counts, candidates, addressTable, compactTable}
 use Rattle.spec_demands.specs.Engines.{Reply, Engine, onValues, onBytes, viewIn, readsAs}
+use Rattle.spec_demands.specs.Histories.{lentInOrder}
 use Rattle.spec_demands.specs.Layouts.{Layout}
 use Rattle.spec_demands.specs.Rules.{ZoneRules}
 
@@ -168,5 +169,9 @@ Demand2Values = AfterRestart onValues
 
 -- demand 2, of the lent bytes: the zone rules in every call, and what a restart and the calls after it leave
 pub record Demand2 : Type 0 where
+  -- "under the NVMe zone rules"
   pub zone-rules : ZoneRules
+  -- 01, How tightly, 2: no restart "that refuses all images": empty drives are accepted
+  pub accepts : (p : Params) (l : Lent) (d n : ℕ) → lentInOrder p l d ≡ true → emptyDisk p (lentDisk l) ≡ true → isRefused (callBytes p l (restart d n) .answer) ≡ false
+  -- "From those bytes alone, a read gives the latest-sent block among whole stripes, and after a restart and every call on what it left .."
   pub after-restart : AfterRestart onBytes

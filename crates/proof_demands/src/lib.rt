@@ -1,0 +1,1 @@
+// Demand 2 in full, of the lent bytes, from its parts (specs/).
