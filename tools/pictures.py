@@ -1,5 +1,6 @@
 #!/usr/bin/env python3
-"""Writes the drawings of docs/: zone.svg (a zone, a segment, a stripe group with landed chunks) and restart.svg (the states of a restart)."""
+"""Writes the drawings of docs/: zone.svg (a zone, a segment, a stripe group with landed chunks), restart.svg (the states of a restart) and
+chain.svg (from a C function to the demands)."""
 import os
 
 ROOT = os.path.dirname(os.path.dirname(os.path.abspath(__file__)))
@@ -110,5 +111,39 @@ def restart():
     d.save("restart.svg")
 
 
+def chain():
+    """From a C function to the demands, by theorems alone."""
+    d = Drawing(900, 560)
+    d.text(450, 28, "From a C function to the demands", 17, weight="bold")
+
+    def step(x, y, w, h, lines, fill="#f7fbff"):
+        d.box(x, y, w, h, fill, round_=8)
+        for i, line in enumerate(lines):
+            d.text(x + w / 2, y + h / 2 + 4 + (i - (len(lines) - 1) / 2) * 16, line, 12, weight="bold" if i == 0 else "normal")
+
+    step(250, 46, 400, 44, ["sorgizhed_write, sorgizhed_restart, ..", "include/sorgizhed.h, crates/cabi"], "#eeeeee")
+    d.arrow([(450, 90), (450, 128)])
+    d.text(462, 113, "contract of each: answer and all lent bytes equal", 12, "start")
+    step(250, 130, 400, 58, ["callBytes p l c", "one call on six lent buffers, the state as bytes", "defs: Engine"])
+    d.arrow([(300, 188), (150, 226)])
+    d.text(60, 212, "any call, any bytes", 12, "start")
+    step(20, 228, 270, 58, ["Demand 1, zone rules", "of every call; spec_demands: Answering,", "Rules; proved in proof_answers"], "#e5f5e0")
+    d.arrow([(450, 188), (450, 226)])
+    d.text(462, 212, "lists of calls, each step callBytes", 12, "start")
+    step(310, 228, 270, 58, ["Demand 2", "after a restart and uncut calls", "Tables, Layouts; proved in proof_demands"], "#e5f5e0")
+    d.arrow([(600, 188), (740, 226)])
+    step(600, 228, 280, 58, ["Demand 3", "every history from empty drives", "Histories; proved in proof_bytes"], "#e5f5e0")
+    step(250, 330, 400, 58, ["proof_bytes", "a state that a call leaves fits its widths and comes back from its", "bytes, so a list of calls on bytes is one with the state a value"])
+    d.arrow([(445, 330), (445, 288)])
+    d.arrow([(600, 330), (740, 288)])
+    step(40, 432, 480, 74, ["Demand 2, the state a value: AfterRestart onValues", "proof_layout (layout), proof_flights (landings, parity),", "proof_rebuilt (rebuild), tablesay (tables, reads, refusal 9)"])
+    d.arrow([(330, 432), (370, 390)])
+    step(560, 432, 320, 74, ["Demand 3, the state a value", "demand3 over runs, restarts, rebuilds, bridge;", "the crash machine: machine"])
+    d.arrow([(680, 432), (580, 390)])
+    d.text(450, 540, "Every arrow is an equation or a theorem that the checker has accepted; nothing between a C function and a demand is by hand.", 12)
+    d.save("chain.svg")
+
+
 zone()
 restart()
+chain()
