@@ -74,17 +74,6 @@ static uint32_t swap_get32(const uint8_t *p) {
     return __builtin_bswap32(v);
 }
 
-static uint64_t swap_get64(const uint8_t *p) {
-    uint64_t v;
-    memcpy(&v, p, 8);
-    return __builtin_bswap64(v);
-}
-
-static void swap_put32(uint8_t *p, uint32_t v) {
-    v = __builtin_bswap32(v);
-    memcpy(p, &v, 4);
-}
-
 static void swap_put64(uint8_t *p, uint64_t v) {
     v = __builtin_bswap64(v);
     memcpy(p, &v, 8);
@@ -131,7 +120,23 @@ PLAIN void c_write_swap(uint8_t *dst, size_t dst_len, uint32_t first) {
     for (size_t i = 0; i < n; i++) swap_put64(dst + 8 * i, (uint64_t)first + i);
 }
 
-// The state, and its bytes.
+// The state, and its bytes: little-endian, as this machine has them.
+static uint32_t own_get32(const uint8_t *p) {
+    uint32_t v;
+    memcpy(&v, p, 4);
+    return v;
+}
+
+static uint64_t own_get64(const uint8_t *p) {
+    uint64_t v;
+    memcpy(&v, p, 8);
+    return v;
+}
+
+static void own_put32(uint8_t *p, uint32_t v) { memcpy(p, &v, 4); }
+
+static void own_put64(uint8_t *p, uint64_t v) { memcpy(p, &v, 8); }
+
 typedef struct {
     uint8_t live, missing;
     uint64_t stamp, serial;
@@ -147,33 +152,33 @@ enum { STATE_LEN = 1362 };
 static void c_decode(state *st, const uint8_t *p) {
     st->live = p[0];
     st->missing = p[1];
-    st->stamp = swap_get64(p + 2);
-    st->serial = swap_get64(p + 10);
-    st->opened = swap_get32(p + 18);
-    st->next = swap_get32(p + 22);
-    for (int i = 0; i < 8; i++) st->numbers[i] = swap_get32(p + 26 + 4 * i);
+    st->stamp = own_get64(p + 2);
+    st->serial = own_get64(p + 10);
+    st->opened = own_get32(p + 18);
+    st->next = own_get32(p + 22);
+    for (int i = 0; i < 8; i++) st->numbers[i] = own_get32(p + 26 + 4 * i);
     memcpy(st->filled, p + 58, 8);
     memcpy(st->writes, p + 66, 8);
     memcpy(st->landed, p + 74, 8);
-    for (int i = 0; i < 64; i++) st->addresses[i] = swap_get64(p + 82 + 8 * i);
-    for (int i = 0; i < 64; i++) st->stamps[i] = swap_get64(p + 594 + 8 * i);
-    for (int i = 0; i < 64; i++) st->offsets[i] = swap_get32(p + 1106 + 4 * i);
+    for (int i = 0; i < 64; i++) st->addresses[i] = own_get64(p + 82 + 8 * i);
+    for (int i = 0; i < 64; i++) st->stamps[i] = own_get64(p + 594 + 8 * i);
+    for (int i = 0; i < 64; i++) st->offsets[i] = own_get32(p + 1106 + 4 * i);
 }
 
 static void c_encode(uint8_t *p, const state *st) {
     p[0] = st->live;
     p[1] = st->missing;
-    swap_put64(p + 2, st->stamp);
-    swap_put64(p + 10, st->serial);
-    swap_put32(p + 18, st->opened);
-    swap_put32(p + 22, st->next);
-    for (int i = 0; i < 8; i++) swap_put32(p + 26 + 4 * i, st->numbers[i]);
+    own_put64(p + 2, st->stamp);
+    own_put64(p + 10, st->serial);
+    own_put32(p + 18, st->opened);
+    own_put32(p + 22, st->next);
+    for (int i = 0; i < 8; i++) own_put32(p + 26 + 4 * i, st->numbers[i]);
     memcpy(p + 58, st->filled, 8);
     memcpy(p + 66, st->writes, 8);
     memcpy(p + 74, st->landed, 8);
-    for (int i = 0; i < 64; i++) swap_put64(p + 82 + 8 * i, st->addresses[i]);
-    for (int i = 0; i < 64; i++) swap_put64(p + 594 + 8 * i, st->stamps[i]);
-    for (int i = 0; i < 64; i++) swap_put32(p + 1106 + 4 * i, st->offsets[i]);
+    for (int i = 0; i < 64; i++) own_put64(p + 82 + 8 * i, st->addresses[i]);
+    for (int i = 0; i < 64; i++) own_put64(p + 594 + 8 * i, st->stamps[i]);
+    for (int i = 0; i < 64; i++) own_put32(p + 1106 + 4 * i, st->offsets[i]);
 }
 
 PLAIN void c_state(uint8_t *dst, size_t dst_len, const uint8_t *src, size_t src_len, size_t k, uint32_t v) {

@@ -2,7 +2,7 @@
 ghost use mathlib.Core.Path.{_≡_};
 ghost use Prim.Native.Nat.{_+_, _*_, _≤_};
 ghost use lib.ListN.{length, take};
-ghost use Rattle.defs.specs.Bytes.{toBe, splice};
+ghost use Rattle.defs.specs.Bytes.{toLe, splice};
 ghost use Rattle.defs.specs.Lists.{flat};
 ghost use Rattle.defs.specs.Memory.{stateSections, numbersAt, stateLen, stateOf, stateBytes};
 ghost use Rattle.codec.specs.Codec.{putSections, frontNumbers};
@@ -34,7 +34,7 @@ fn words_at(src: &[u8], at: usize) -> [u32; 8]
     let mut out = [0u32; 8];
     let mut i = 0;
     while i < 8 {
-        out[i] = be::read_be32(src, at + 4 * i);
+        out[i] = le::read_le32(src, at + 4 * i);
         i += 1;
     }
     out
@@ -48,7 +48,7 @@ fn many_words_at(src: &[u8], at: usize) -> [u32; 64]
     let mut out = [0u32; 64];
     let mut i = 0;
     while i < 64 {
-        out[i] = be::read_be32(src, at + 4 * i);
+        out[i] = le::read_le32(src, at + 4 * i);
         i += 1;
     }
     out
@@ -62,7 +62,7 @@ fn many_longs_at(src: &[u8], at: usize) -> [u64; 64]
     let mut out = [0u64; 64];
     let mut i = 0;
     while i < 64 {
-        out[i] = be::read_be64(src, at + 8 * i);
+        out[i] = le::read_le64(src, at + 8 * i);
         i += 1;
     }
     out
@@ -73,7 +73,7 @@ fn many_longs_at(src: &[u8], at: usize) -> [u64; 64]
 // Numbers of 1 byte.
 fn put_bytes(dst: &mut [u8], at: usize, ns: &[u8])
     requires { ⌜ at + length (now ns) ≤ length (now dst) ⌝ }
-    ensures { λ _. ⌜ now (dst .exit) ≡ splice (now (dst .entry)) at (flat (toBe 1) (now (ns .entry))) ⌝ }
+    ensures { λ _. ⌜ now (dst .exit) ≡ splice (now (dst .entry)) at (flat (toLe 1) (now (ns .entry))) ⌝ }
 {
     blocks::copy_part(dst, at, ns);
 }
@@ -81,11 +81,11 @@ fn put_bytes(dst: &mut [u8], at: usize, ns: &[u8])
 // Numbers of 4 bytes.
 fn put_words(dst: &mut [u8], at: usize, ns: &[u32])
     requires { ⌜ at + 4 * length (now ns) ≤ length (now dst) ⌝ }
-    ensures { λ _. ⌜ now (dst .exit) ≡ splice (now (dst .entry)) at (flat (toBe 4) (now (ns .entry))) ⌝ }
+    ensures { λ _. ⌜ now (dst .exit) ≡ splice (now (dst .entry)) at (flat (toLe 4) (now (ns .entry))) ⌝ }
 {
     let mut i = 0;
     while i < ns.len() {
-        be::write_be32(dst, at + 4 * i, ns[i]);
+        le::write_le32(dst, at + 4 * i, ns[i]);
         i += 1;
     }
 }
@@ -93,11 +93,11 @@ fn put_words(dst: &mut [u8], at: usize, ns: &[u32])
 // Numbers of 8 bytes.
 fn put_longs(dst: &mut [u8], at: usize, ns: &[u64])
     requires { ⌜ at + 8 * length (now ns) ≤ length (now dst) ⌝ }
-    ensures { λ _. ⌜ now (dst .exit) ≡ splice (now (dst .entry)) at (flat (toBe 8) (now (ns .entry))) ⌝ }
+    ensures { λ _. ⌜ now (dst .exit) ≡ splice (now (dst .entry)) at (flat (toLe 8) (now (ns .entry))) ⌝ }
 {
     let mut i = 0;
     while i < ns.len() {
-        be::write_be64(dst, at + 8 * i, ns[i]);
+        le::write_le64(dst, at + 8 * i, ns[i]);
         i += 1;
     }
 }
@@ -109,10 +109,10 @@ fn put_front(dst: &mut [u8], live: u8, missing: u8, stamp: u64, serial: u64, ope
 {
     dst[0] = live;
     dst[1] = missing;
-    be::write_be64(dst, 2, stamp);
-    be::write_be64(dst, 10, serial);
-    be::write_be32(dst, 18, opened);
-    be::write_be32(dst, 22, next);
+    le::write_le64(dst, 2, stamp);
+    le::write_le64(dst, 10, serial);
+    le::write_le32(dst, 18, opened);
+    le::write_le32(dst, 22, next);
 }
 
 // ---- the state
@@ -139,10 +139,10 @@ pub fn decode(bytes: &[u8]) -> State
     State {
         live: bytes[0],
         missing: bytes[1],
-        stamp: Stamp(be::read_be64(bytes, 2)),
-        serial: Serial(be::read_be64(bytes, 10)),
-        opened: be::read_be32(bytes, 18),
-        next: be::read_be32(bytes, 22),
+        stamp: Stamp(le::read_le64(bytes, 2)),
+        serial: Serial(le::read_le64(bytes, 10)),
+        opened: le::read_le32(bytes, 18),
+        next: le::read_le32(bytes, 22),
         numbers,
         filled,
         writes,

@@ -1,4 +1,4 @@
--- Bytes: big-endian numbers over the width, parts and splices, exclusive or of blocks. Assumes nothing.
+-- Bytes: big-endian and little-endian numbers over the width, parts and splices, exclusive or of blocks. Assumes nothing.
 use mathlib.Core.List.{List, [], _∷_, _++_}
 use Prim.Native.Nat.{ℕ, zero, suc, _+_, _*_, _/_, _%_}
 use lib.ListN.{length, getD, take, drop, replicate}
@@ -19,6 +19,16 @@ beOf bs = beFrom 0 bs
 unfoldable pub toBe : ℕ → ℕ → List ℕ
 toBe zero n = []
 toBe (suc w) n = toBe w (n / 256) ++ (n % 256 ∷ [])
+
+-- the number that the bytes of bs say, the lowest first
+unfoldable pub leOf : List ℕ → ℕ
+leOf [] = 0
+leOf (b ∷ bs) = leOf bs * 256 + b
+
+-- the w lowest bytes of n, the lowest first
+unfoldable pub toLe : ℕ → ℕ → List ℕ
+toLe zero n = []
+toLe (suc w) n = n % 256 ∷ toLe w (n / 256)
 
 -- the n elements from index at
 unfoldable pub part : ℕ → ℕ → List ℕ → List ℕ

@@ -8,7 +8,7 @@ use lib.Bits.{bitOr}
 use lib.Count.{ones}
 use Rattle.defs.specs.declared.Params.{Params}
 use Rattle.defs.specs.declared.State.{State}
-use Rattle.defs.specs.Bytes.{beOf, toBe, part, splice, parity}
+use Rattle.defs.specs.Bytes.{beOf, toBe, leOf, toLe, part, splice, parity}
 use Rattle.defs.specs.Counts.{aStamp, aSerial}
 use Rattle.defs.specs.Drives.{View, pointerAt}
 use Rattle.defs.specs.Layout.{parityDrive, dataDrives, groupOffsets, compactEntry, Rec, mkRec}
@@ -67,7 +67,7 @@ idleState live gone stamp serial opened next =
 unfoldable pub zeroState : State
 zeroState = idleState 0 0 0 0 0 0
 
--- ---- the state's bytes: sections of numbers of one width, in the order of the fields
+-- ---- the state's bytes: sections of little-endian numbers of one width, in the order of the fields
 
 -- numbers of one width, so many
 pub record Section : Type 0 where
@@ -97,7 +97,7 @@ stateLen = total (map sectionLen stateSections)
 
 -- n numbers of w bytes from offset at on
 unfoldable pub numbersAt : ℕ → ℕ → ℕ → List ℕ → List ℕ
-numbersAt w n at bs = map (λ i. beOf (part (at + w * i) w bs)) (below n)
+numbersAt w n at bs = map (λ i. leOf (part (at + w * i) w bs)) (below n)
 
 -- the numbers of section k
 unfoldable pub sectionOf : List ℕ → ℕ → List ℕ
@@ -117,7 +117,7 @@ stateNumbers st =
 
 -- a section in bytes
 unfoldable pub sectionBytes : Section → List ℕ → List ℕ
-sectionBytes s ns = flat (toBe (s .width)) ns
+sectionBytes s ns = flat (toLe (s .width)) ns
 
 -- 01, The array: the state as bytes
 unfoldable pub stateBytes : State → List ℕ

@@ -1,5 +1,6 @@
 pub mod Splice
 pub mod Be
+pub mod Le
 pub mod Ranges
 pub mod Xor
 pub mod Mask

@@ -6,9 +6,8 @@ ghost use lib.Dec.{leb, eqb};
 ghost use lib.ListN.{length, replicate};
 ghost use Rattle.defs.specs.Bytes.{toBe, part, splice, xors, xorAll};
 ghost use Rattle.defs.specs.Lists.{upFrom, flat};
-ghost use Rattle.defs.specs.Memory.{numbersAt};
 ghost use Rattle.tables.specs.Tables.{countPlaces, findPlace};
-ghost use Rattle.leafbench.specs.Bench.{changed};
+ghost use Rattle.leafbench.specs.Bench.{longsIn, changed};
 use defs::Place;
 
 // ---- parity, copy, clear
@@ -98,7 +97,7 @@ pub extern "C" fn leaf_find(table: &[u8], q: u32) -> usize
 // The exclusive or of the first n.
 fn fold_longs(src: &[u8], n: usize) -> u64
     requires { ⌜ 8 * n ≤ length (now src) ⌝ }
-    ensures { λ r. ⌜ r ≡ xorAll (numbersAt 8 n 0 (now (src .entry))) ⌝ }
+    ensures { λ r. ⌜ r ≡ xorAll (longsIn n (now (src .entry))) ⌝ }
 {
     let mut x: u64 = 0;
     let mut i = 0;
@@ -112,7 +111,7 @@ fn fold_longs(src: &[u8], n: usize) -> u64
 // The same through the loop over the width.
 fn fold_width(src: &[u8], n: usize) -> u64
     requires { ⌜ 8 * n ≤ length (now src) ⌝ }
-    ensures { λ r. ⌜ r ≡ xorAll (numbersAt 8 n 0 (now (src .entry))) ⌝ }
+    ensures { λ r. ⌜ r ≡ xorAll (longsIn n (now (src .entry))) ⌝ }
 {
     let mut x: u64 = 0;
     let mut i = 0;
@@ -151,7 +150,7 @@ fn run_width(dst: &mut [u8], n: usize, first: u32)
 
 #[no_mangle]
 pub extern "C" fn leaf_read(src: &[u8]) -> u64
-    ensures { λ r. ⌜ r ≡ xorAll (numbersAt 8 (length (now (src .entry)) / 8) 0 (now (src .entry))) ⌝ }
+    ensures { λ r. ⌜ r ≡ xorAll (longsIn (length (now (src .entry)) / 8) (now (src .entry))) ⌝ }
 {
     let n = src.len() / 8;
     fold_longs(src, n)
@@ -159,7 +158,7 @@ pub extern "C" fn leaf_read(src: &[u8]) -> u64
 
 #[no_mangle]
 pub extern "C" fn leaf_read_width(src: &[u8]) -> u64
-    ensures { λ r. ⌜ r ≡ xorAll (numbersAt 8 (length (now (src .entry)) / 8) 0 (now (src .entry))) ⌝ }
+    ensures { λ r. ⌜ r ≡ xorAll (longsIn (length (now (src .entry)) / 8) (now (src .entry))) ⌝ }
 {
     let n = src.len() / 8;
     fold_width(src, n)

@@ -1,7 +1,7 @@
 -- Refusal 1 of restart and rebuild, on the state's bytes of any length (01, Refusals, 1). Assumes nothing.
 use Prim.Native.Nat.{ℕ, suc, _<_, _≤_}
-use Rattle.codec.specs.Codec.{state-read, one-byte}
-use Rattle.defs.specs.Bytes.{beOf, beFrom, part}
+use Rattle.codec.specs.Codec.{state-read}
+use Rattle.defs.specs.Bytes.{leOf, part}
 use Rattle.defs.specs.Memory.{stateOf}
 use Rattle.defs.specs.Params.{inRange, named, noDrive}
 use Rattle.defs.specs.Lists.{only}
@@ -9,6 +9,7 @@ use Rattle.defs.specs.Rebuild.{namesMissing}
 use Rattle.defs.specs.Restart.{namesDrive}
 use Rattle.defs.specs.declared.Params.{Params}
 use Rattle.defs.specs.declared.State.{State}
+use Rattle.laws.specs.Le.{leOf-part-one}
 use borrow.Author.Tests.{lt-ltb, le-ltb, eq-eqb}
 use lib.Dec.{ltb, eqb}
 use lib.ListN.{length, getD}
@@ -18,8 +19,8 @@ use mathlib.Core.Path.{_≡_, refl, sym, ap, _∙_}
 use native.Mathlib.Omega.{arith}
 
 -- a state of one byte or none names no drive
-none-read : (bs : List ℕ) → length bs < 2 → 0 ≡ beOf (part 1 1 bs)
-unfolding beOf beFrom part
+none-read : (bs : List ℕ) → length bs < 2 → 0 ≡ leOf (part 1 1 bs)
+unfolding leOf part
 none-read [] h = refl
 none-read (b ∷ []) h = refl
 none-read (b ∷ c ∷ bs) h = absurd (omega arith)
@@ -28,7 +29,7 @@ pub missing-short : (bs : List ℕ) → length bs < 2 → 0 ≡ stateOf bs .miss
 missing-short bs h = none-read bs h ∙ ap (λ (x : State). x .missing) (sym (state-read bs))
 
 pub missing-long : (bs : List ℕ) → 1 < length bs → getD bs 1 0 ≡ stateOf bs .missing
-missing-long bs h = one-byte 1 bs h ∙ ap (λ (x : State). x .missing) (sym (state-read bs))
+missing-long bs h = leOf-part-one 1 bs h ∙ ap (λ (x : State). x .missing) (sym (state-read bs))
 
 -- ---- restart
 

@@ -4,7 +4,8 @@ use Prim.Native.Nat.{_+_, _-_, _*_, _≤_}
 use native.Mathlib.Omega.{arith}
 use lib.ListN.{drop, replicate, getD}
 use Rattle.defs.specs.Memory.{numbersAt}
-use Rattle.codec.specs.Codec.{read-none, read-one, read-all, one-byte}
+use Rattle.laws.specs.Le.{leOf-part-one}
+use Rattle.codec.specs.Codec.{read-none, read-one, read-all}
 use Rattle.codec.proofs.bytes_at.Statement.{statement}
 use Rattle.codec.proofs.bytes_at.Tie as tie
 
@@ -38,7 +39,7 @@ loop-again c =
     let l = c .before .before .loop in
     let b = a .src .now in
     let e : a .at + 1 * l .i ≡ a .at + l .i = omega arith in
-    (omega arith, read-one 1 (a .at) (l .i) b (replicate 8 0) (l .out) (getD b (a .at + l .i) 0) (omega arith) (l .inv .1) (rw e (one-byte (a .at + l .i) b (omega arith))))
+    (omega arith, read-one 1 (a .at) (l .i) b (replicate 8 0) (l .out) (getD b (a .at + l .i) 0) (omega arith) (l .inv .1) (rw e (leOf-part-one (a .at + l .i) b (omega arith))))
 
 returns : tie.Need-returns Inv-loop μ-loop
 returns c =

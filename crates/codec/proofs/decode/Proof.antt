@@ -2,7 +2,8 @@ use Prim.Native.Nat.{_<_}
 use native.Mathlib.Omega.{arith}
 use lib.ListN.{length}
 use Rattle.defs.specs.Memory.{mkState}
-use Rattle.codec.specs.Codec.{state-len, state-read, one-byte}
+use Rattle.laws.specs.Le.{leOf-part-one}
+use Rattle.codec.specs.Codec.{state-len, state-read}
 use Rattle.codec.proofs.decode.Statement.{statement}
 use Rattle.codec.proofs.decode.Tie as tie
 
@@ -33,17 +34,17 @@ shared-slice-read-t10 c = omega (arith, state-len)
 shared-slice-read-t12 : tie.Need-shared-slice-read-t12
 shared-slice-read-t12 c = omega (arith, state-len)
 
-read-be64-requires : tie.Need-read-be64-requires
-read-be64-requires c κs = omega (arith, state-len)
+read-le64-requires : tie.Need-read-le64-requires
+read-le64-requires c κs = omega (arith, state-len)
 
-read-be64-requires-2 : tie.Need-read-be64-requires-2
-read-be64-requires-2 c κs = omega (arith, state-len)
+read-le64-requires-2 : tie.Need-read-le64-requires-2
+read-le64-requires-2 c κs = omega (arith, state-len)
 
-read-be32-requires : tie.Need-read-be32-requires
-read-be32-requires c κs = omega (arith, state-len)
+read-le32-requires : tie.Need-read-le32-requires
+read-le32-requires c κs = omega (arith, state-len)
 
-read-be32-requires-2 : tie.Need-read-be32-requires-2
-read-be32-requires-2 c κs = omega (arith, state-len)
+read-le32-requires-2 : tie.Need-read-le32-requires-2
+read-le32-requires-2 c κs = omega (arith, state-len)
 
 returns : tie.Need-returns
 returns c =
@@ -51,7 +52,7 @@ returns c =
     let h : 1 < length bs = omega (arith, state-len, c .before .before .before .before .before .before .before .before .before .before .before .before .before .before .pre) in
     rw (state-read bs)
     (λ j.
-    mkState (one-byte 0 bs (omega arith) j) (one-byte 1 bs h j) (c .before .before .before .read-be64 .ensures j) (c .before .before .read-be642 .ensures j) (c .before .read-be32 .ensures j) (c .read-be322 .ensures j)
+    mkState (leOf-part-one 0 bs (omega arith) j) (leOf-part-one 1 bs h j) (c .before .before .before .read-le64 .ensures j) (c .before .before .read-le642 .ensures j) (c .before .read-le32 .ensures j) (c .read-le322 .ensures j)
     (c .before .before .before .before .before .before .before .before .before .before .before .before .words-at .ensures j) (c .before .before .before .before .before .before .before .before .before .before .before .bytes-at .ensures j) (c .before .before .before .before .before .before .before .before .before .before .bytes-at2 .ensures j) (c .before .before .before .before .before .before .before .before .before .bytes-at3 .ensures j) (c .before .before .before .before .before .before .before .before .many-longs-at .ensures j) (c .before .before .before .before .before .before .before .many-longs-at2 .ensures j)
     (c .before .before .before .before .before .before .many-words-at .ensures j))
 
@@ -68,8 +69,8 @@ decode-spec =
     many-words-at-requires
     shared-slice-read-t10
     shared-slice-read-t12
-    read-be64-requires
-    read-be64-requires-2
-    read-be32-requires
-    read-be32-requires-2
+    read-le64-requires
+    read-le64-requires-2
+    read-le32-requires
+    read-le32-requires-2
     returns)

@@ -5,7 +5,7 @@ use Prim.Native.Nat.{ℕ}
 use native.Mathlib.Omega.{arith}
 use borrow.Author.Needs.{needs}
 use lib.ListN.{length, take}
-use Rattle.defs.specs.Bytes.{toBe, splice}
+use Rattle.defs.specs.Bytes.{toLe, splice}
 use Rattle.defs.specs.Lists.{flat}
 use Rattle.defs.specs.Memory.{stateSections, sectionLen, stateNumbers, sectionBytes}
 use Rattle.codec.specs.Codec.{state-len, putSections, state-written}
@@ -91,31 +91,31 @@ wrote-0 c = c .put-front .ensures
 
 wrote-1 : (c : tie.After-put-words) → c .put-words .last .0 ≡ putSections (entry-1 c .args .dst .now) 0 (take 7 stateSections) (take 7 (stateNumbers (entry-1 c .args .st)))
 unfolding stateSections stateNumbers sectionLen sectionBytes putSections
-wrote-1 c = c .put-words .ensures ∙ ap (λ (x : List ℕ). splice x 26 (flat (toBe 4) (entry-1 c .args .st .numbers))) (wrote-0 (c .before .before .before .before .before))
+wrote-1 c = c .put-words .ensures ∙ ap (λ (x : List ℕ). splice x 26 (flat (toLe 4) (entry-1 c .args .st .numbers))) (wrote-0 (c .before .before .before .before .before))
 
 wrote-2 : (c : tie.After-put-bytes) → c .put-bytes .last .0 ≡ putSections (entry-2 c .args .dst .now) 0 (take 8 stateSections) (take 8 (stateNumbers (entry-2 c .args .st)))
 unfolding stateSections stateNumbers sectionLen sectionBytes putSections
-wrote-2 c = c .put-bytes .ensures ∙ ap (λ (x : List ℕ). splice x 58 (flat (toBe 1) (entry-2 c .args .st .filled))) (wrote-1 (c .before .before .before .before .before))
+wrote-2 c = c .put-bytes .ensures ∙ ap (λ (x : List ℕ). splice x 58 (flat (toLe 1) (entry-2 c .args .st .filled))) (wrote-1 (c .before .before .before .before .before))
 
 wrote-3 : (c : tie.After-put-bytes2) → c .put-bytes2 .last .0 ≡ putSections (entry-3 c .args .dst .now) 0 (take 9 stateSections) (take 9 (stateNumbers (entry-3 c .args .st)))
 unfolding stateSections stateNumbers sectionLen sectionBytes putSections
-wrote-3 c = c .put-bytes2 .ensures ∙ ap (λ (x : List ℕ). splice x 66 (flat (toBe 1) (entry-3 c .args .st .writes))) (wrote-2 (c .before .before .before .before .before))
+wrote-3 c = c .put-bytes2 .ensures ∙ ap (λ (x : List ℕ). splice x 66 (flat (toLe 1) (entry-3 c .args .st .writes))) (wrote-2 (c .before .before .before .before .before))
 
 wrote-4 : (c : tie.After-put-bytes3) → c .put-bytes3 .last .0 ≡ putSections (entry-4 c .args .dst .now) 0 (take 10 stateSections) (take 10 (stateNumbers (entry-4 c .args .st)))
 unfolding stateSections stateNumbers sectionLen sectionBytes putSections
-wrote-4 c = c .put-bytes3 .ensures ∙ ap (λ (x : List ℕ). splice x 74 (flat (toBe 1) (entry-4 c .args .st .landed))) (wrote-3 (c .before .before .before .before .before))
+wrote-4 c = c .put-bytes3 .ensures ∙ ap (λ (x : List ℕ). splice x 74 (flat (toLe 1) (entry-4 c .args .st .landed))) (wrote-3 (c .before .before .before .before .before))
 
 wrote-5 : (c : tie.After-put-longs) → c .put-longs .last .0 ≡ putSections (entry-5 c .args .dst .now) 0 (take 11 stateSections) (take 11 (stateNumbers (entry-5 c .args .st)))
 unfolding stateSections stateNumbers sectionLen sectionBytes putSections
-wrote-5 c = c .put-longs .ensures ∙ ap (λ (x : List ℕ). splice x 82 (flat (toBe 8) (entry-5 c .args .st .addresses))) (wrote-4 (c .before .before .before .before .before))
+wrote-5 c = c .put-longs .ensures ∙ ap (λ (x : List ℕ). splice x 82 (flat (toLe 8) (entry-5 c .args .st .addresses))) (wrote-4 (c .before .before .before .before .before))
 
 wrote-6 : (c : tie.After-put-longs2) → c .put-longs2 .last .0 ≡ putSections (entry-6 c .args .dst .now) 0 (take 12 stateSections) (take 12 (stateNumbers (entry-6 c .args .st)))
 unfolding stateSections stateNumbers sectionLen sectionBytes putSections
-wrote-6 c = c .put-longs2 .ensures ∙ ap (λ (x : List ℕ). splice x 594 (flat (toBe 8) (entry-6 c .args .st .stamps))) (wrote-5 (c .before .before .before .before .before))
+wrote-6 c = c .put-longs2 .ensures ∙ ap (λ (x : List ℕ). splice x 594 (flat (toLe 8) (entry-6 c .args .st .stamps))) (wrote-5 (c .before .before .before .before .before))
 
 wrote-7 : (c : tie.After-put-words2) → c .put-words2 .last .0 ≡ putSections (entry-7 c .args .dst .now) 0 (take 13 stateSections) (take 13 (stateNumbers (entry-7 c .args .st)))
 unfolding stateSections stateNumbers sectionLen sectionBytes putSections
-wrote-7 c = c .put-words2 .ensures ∙ ap (λ (x : List ℕ). splice x 1106 (flat (toBe 4) (entry-7 c .args .st .offsets))) (wrote-6 (c .before .before .before .before .before))
+wrote-7 c = c .put-words2 .ensures ∙ ap (λ (x : List ℕ). splice x 1106 (flat (toLe 4) (entry-7 c .args .st .offsets))) (wrote-6 (c .before .before .before .before .before))
 
 put-front-requires : tie.Need-put-front-requires
 put-front-requires c κs = omega (arith, state-len)

@@ -17,14 +17,14 @@ abbrev μ-loop : tie.MeasureT-loop
 loop-holds : tie.Need-loop-holds Inv-loop μ-loop
 loop-holds c = (omega arith, read-none 8 (c .before .args .at) (c .before .args .src .now) (replicate 64 0))
 
-mul-read-be64 : tie.Need-mul-read-be64 Inv-loop μ-loop
-mul-read-be64 c = omega arith
+mul-read-le64 : tie.Need-mul-read-le64 Inv-loop μ-loop
+mul-read-le64 c = omega arith
 
-add-read-be64 : tie.Need-add-read-be64 Inv-loop μ-loop
-add-read-be64 c = omega arith
+add-read-le64 : tie.Need-add-read-le64 Inv-loop μ-loop
+add-read-le64 c = omega arith
 
-read-be64-requires : tie.Need-read-be64-requires Inv-loop μ-loop
-read-be64-requires c κs = omega arith
+read-le64-requires : tie.Need-read-le64-requires Inv-loop μ-loop
+read-le64-requires c κs = omega arith
 
 mul-out : tie.Need-mul-out Inv-loop μ-loop
 mul-out c = omega arith
@@ -42,7 +42,7 @@ loop-again : tie.Need-loop-again Inv-loop μ-loop
 loop-again c =
     let a = c .before .before .before .before .args in
     let l = c .before .before .loop in
-    (omega arith, read-one 8 (a .at) (l .i) (a .src .now) (replicate 64 0) (l .out) (c .read-be64 .result) (omega arith) (l .inv .1) (c .read-be64 .ensures))
+    (omega arith, read-one 8 (a .at) (l .i) (a .src .now) (replicate 64 0) (l .out) (c .read-le64 .result) (omega arith) (l .inv .1) (c .read-le64 .ensures))
 
 returns : tie.Need-returns Inv-loop μ-loop
 returns c =
@@ -57,9 +57,9 @@ many-longs-at-spec =
     Inv-loop
     μ-loop
     loop-holds
-    mul-read-be64
-    add-read-be64
-    read-be64-requires
+    mul-read-le64
+    add-read-le64
+    read-le64-requires
     mul-out
     array-write-out
     add-i

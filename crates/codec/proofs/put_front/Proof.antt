@@ -3,7 +3,7 @@ use mathlib.Core.List.{List}
 use Prim.Native.Nat.{ℕ, _<_}
 use native.Mathlib.Omega.{arith}
 use lib.ListN.{length, length-set}
-use Rattle.defs.specs.Bytes.{toBe, splice}
+use Rattle.defs.specs.Bytes.{toLe, splice}
 use Rattle.codec.specs.Codec.{front-written}
 use borrow.Author.Needs.{needs}
 use Rattle.codec.proofs.put_front.Statement.{statement}
@@ -15,14 +15,14 @@ live-fits c = search needs
 missing-fits : (c : tie.Start) → c .args .missing < 256
 missing-fits c = search needs
 
-long-1 : (c : tie.After-write-be64) → length (c .write-be64 .last .0) ≡ length (c .before .before .before .args .dst .now)
-long-1 c = c .write-be64 .kept .0 ∙ simp length-set
+long-1 : (c : tie.After-write-le64) → length (c .write-le64 .last .0) ≡ length (c .before .before .before .args .dst .now)
+long-1 c = c .write-le64 .kept .0 ∙ simp length-set
 
-long-2 : (c : tie.After-write-be642) → length (c .write-be642 .last .0) ≡ length (c .before .before .before .before .before .before .before .args .dst .now)
-long-2 c = c .write-be642 .kept .0 ∙ long-1 (c .before .before .before .before)
+long-2 : (c : tie.After-write-le642) → length (c .write-le642 .last .0) ≡ length (c .before .before .before .before .before .before .before .args .dst .now)
+long-2 c = c .write-le642 .kept .0 ∙ long-1 (c .before .before .before .before)
 
-long-3 : (c : tie.After-write-be32) → length (c .write-be32 .last .0) ≡ length (c .before .before .before .before .before .before .before .before .before .before .before .args .dst .now)
-long-3 c = c .write-be32 .kept .0 ∙ long-2 (c .before .before .before .before)
+long-3 : (c : tie.After-write-le32) → length (c .write-le32 .last .0) ≡ length (c .before .before .before .before .before .before .before .before .before .before .before .args .dst .now)
+long-3 c = c .write-le32 .kept .0 ∙ long-2 (c .before .before .before .before)
 
 slice-write-dst : tie.Need-slice-write-dst
 slice-write-dst c = search needs
@@ -30,28 +30,28 @@ slice-write-dst c = search needs
 slice-write-dst-2 : tie.Need-slice-write-dst-2
 slice-write-dst-2 c = simp length-set (omega arith)
 
-write-be64-requires : tie.Need-write-be64-requires
-write-be64-requires c κs = simp length-set (omega arith)
+write-le64-requires : tie.Need-write-le64-requires
+write-le64-requires c κs = simp length-set (omega arith)
 
-write-be64-requires-2 : tie.Need-write-be64-requires-2
-write-be64-requires-2 c κs = omega (arith, long-1 (c .before .before .before), c .before .before .before .before .before .before .pre)
+write-le64-requires-2 : tie.Need-write-le64-requires-2
+write-le64-requires-2 c κs = omega (arith, long-1 (c .before .before .before), c .before .before .before .before .before .before .pre)
 
-write-be32-requires : tie.Need-write-be32-requires
-write-be32-requires c κs = omega (arith, long-2 (c .before .before .before), c .before .before .before .before .before .before .before .before .before .before .pre)
+write-le32-requires : tie.Need-write-le32-requires
+write-le32-requires c κs = omega (arith, long-2 (c .before .before .before), c .before .before .before .before .before .before .before .before .before .before .pre)
 
-write-be32-requires-2 : tie.Need-write-be32-requires-2
-write-be32-requires-2 c κs = omega (arith, long-3 (c .before .before .before), c .before .before .before .before .before .before .before .before .before .before .before .before .before .before .pre)
+write-le32-requires-2 : tie.Need-write-le32-requires-2
+write-le32-requires-2 c κs = omega (arith, long-3 (c .before .before .before), c .before .before .before .before .before .before .before .before .before .before .before .before .before .before .pre)
 
 same-length : tie.Need-same-length
-same-length c = c .before .before .write-be322 .kept .0 ∙ long-3 (c .before .before .before .before .before .before)
+same-length c = c .before .before .write-le322 .kept .0 ∙ long-3 (c .before .before .before .before .before .before)
 
 returns : tie.Need-returns
 returns c =
     let a = c .before .before .before .before .before .before .before .before .before .before .before .before .before .before .before .before .before .args in
-    c .before .before .write-be322 .ensures
-    ∙ ap (λ (x : List ℕ). splice x 22 (toBe 4 (a .next))) (c .before .before .before .before .before .before .write-be32 .ensures
-    ∙ ap (λ (x : List ℕ). splice x 18 (toBe 4 (a .opened))) (c .before .before .before .before .before .before .before .before .before .before .write-be642 .ensures
-    ∙ ap (λ (x : List ℕ). splice x 10 (toBe 8 (a .serial))) (c .before .before .before .before .before .before .before .before .before .before .before .before .before .before .write-be64 .ensures)))
+    c .before .before .write-le322 .ensures
+    ∙ ap (λ (x : List ℕ). splice x 22 (toLe 4 (a .next))) (c .before .before .before .before .before .before .write-le32 .ensures
+    ∙ ap (λ (x : List ℕ). splice x 18 (toLe 4 (a .opened))) (c .before .before .before .before .before .before .before .before .before .before .write-le642 .ensures
+    ∙ ap (λ (x : List ℕ). splice x 10 (toLe 8 (a .serial))) (c .before .before .before .before .before .before .before .before .before .before .before .before .before .before .write-le64 .ensures)))
     ∙ front-written (a .dst .now) (a .live) (a .missing) (a .stamp) (a .serial) (a .opened) (a .next) (live-fits (c .before .before .before .before .before .before .before .before .before .before .before .before .before .before .before .before .before)) (missing-fits (c .before .before .before .before .before .before .before .before .before .before .before .before .before .before .before .before .before)) (c .before .before .before .before .before .before .before .before .before .before .before .before .before .before .before .before .before .pre)
 
 pub put-front-spec : {M : Type 1} → statement M
@@ -60,9 +60,9 @@ put-front-spec =
     (tie.spec
     slice-write-dst
     slice-write-dst-2
-    write-be64-requires
-    write-be64-requires-2
-    write-be32-requires
-    write-be32-requires-2
+    write-le64-requires
+    write-le64-requires-2
+    write-le32-requires
+    write-le32-requires-2
     same-length
     returns)

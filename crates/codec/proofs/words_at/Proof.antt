@@ -17,14 +17,14 @@ abbrev μ-loop : tie.MeasureT-loop
 loop-holds : tie.Need-loop-holds Inv-loop μ-loop
 loop-holds c = (omega arith, read-none 4 (c .before .args .at) (c .before .args .src .now) (replicate 8 0))
 
-mul-read-be32 : tie.Need-mul-read-be32 Inv-loop μ-loop
-mul-read-be32 c = omega arith
+mul-read-le32 : tie.Need-mul-read-le32 Inv-loop μ-loop
+mul-read-le32 c = omega arith
 
-add-read-be32 : tie.Need-add-read-be32 Inv-loop μ-loop
-add-read-be32 c = omega arith
+add-read-le32 : tie.Need-add-read-le32 Inv-loop μ-loop
+add-read-le32 c = omega arith
 
-read-be32-requires : tie.Need-read-be32-requires Inv-loop μ-loop
-read-be32-requires c κs = omega arith
+read-le32-requires : tie.Need-read-le32-requires Inv-loop μ-loop
+read-le32-requires c κs = omega arith
 
 mul-out : tie.Need-mul-out Inv-loop μ-loop
 mul-out c = omega arith
@@ -42,7 +42,7 @@ loop-again : tie.Need-loop-again Inv-loop μ-loop
 loop-again c =
     let a = c .before .before .before .before .args in
     let l = c .before .before .loop in
-    (omega arith, read-one 4 (a .at) (l .i) (a .src .now) (replicate 8 0) (l .out) (c .read-be32 .result) (omega arith) (l .inv .1) (c .read-be32 .ensures))
+    (omega arith, read-one 4 (a .at) (l .i) (a .src .now) (replicate 8 0) (l .out) (c .read-le32 .result) (omega arith) (l .inv .1) (c .read-le32 .ensures))
 
 returns : tie.Need-returns Inv-loop μ-loop
 returns c =
@@ -57,9 +57,9 @@ words-at-spec =
     Inv-loop
     μ-loop
     loop-holds
-    mul-read-be32
-    add-read-be32
-    read-be32-requires
+    mul-read-le32
+    add-read-le32
+    read-le32-requires
     mul-out
     array-write-out
     add-i

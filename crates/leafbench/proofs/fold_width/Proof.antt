@@ -2,13 +2,12 @@ use mathlib.Core.Path.{_≡_, ap, _∙_}
 use Prim.Native.Nat.{ℕ, _-_, _≤_}
 use native.Mathlib.Omega.{arith}
 use Rattle.defs.specs.Bytes.{xorAll}
-use Rattle.defs.specs.Memory.{numbersAt}
-use Rattle.leafbench.specs.Bench.{fold-none, fold-one}
+use Rattle.leafbench.specs.Bench.{longsIn, fold-none, fold-one}
 use Rattle.leafbench.proofs.fold_width.Statement.{statement}
 use Rattle.leafbench.proofs.fold_width.Tie as tie
 
 abbrev Inv-loop : tie.InvT-loop
-Inv-loop src n x₀ i₀ x i = (i ≤ n) × (x ≡ xorAll (numbersAt 8 i 0 src))
+Inv-loop src n x₀ i₀ x i = (i ≤ n) × (x ≡ xorAll (longsIn i src))
 
 abbrev μ-loop : tie.MeasureT-loop
 μ-loop src n x₀ i₀ x i = n - i
@@ -38,7 +37,7 @@ returns c =
     let l = c .before .loop in
     let a = c .before .before .before .args in
     let e : l .i ≡ a .n = omega arith in
-    l .inv .1 ∙ ap (λ (k : ℕ). xorAll (numbersAt 8 k 0 (a .src .now))) e
+    l .inv .1 ∙ ap (λ (k : ℕ). xorAll (longsIn k (a .src .now))) e
 
 pub fold-width-spec : {M : Type 1} → statement M
 fold-width-spec =

@@ -5,6 +5,7 @@ use lib.ListN.{length, take}
 use Rattle.defs.specs.Bytes.{toBe, splice}
 use Rattle.defs.specs.Lists.{upFrom, flat}
 use Rattle.codec.specs.Codec.{written-none, written-all}
+use Rattle.laws.specs.Be.{length-toBe}
 use Rattle.laws.specs.Ranges.{length-upFrom}
 use Rattle.leafbench.specs.Bench.{run-one}
 use Rattle.leafbench.proofs.run_width.Statement.{statement}
@@ -17,7 +18,7 @@ abbrev μ-loop : tie.MeasureT-loop
 μ-loop dst₀ n first low i₀ dst i = n - i
 
 loop-holds : tie.Need-loop-holds Inv-loop μ-loop
-loop-holds c = (omega arith, refl, written-none 8 0 (c .before .args .dst .now) (upFrom (c .before .args .first) (c .before .args .n)))
+loop-holds c = (omega arith, refl, written-none (toBe 8) 8 (length-toBe 8) 0 (c .before .args .dst .now) (upFrom (c .before .args .first) (c .before .args .n)))
 
 mul-write-be : tie.Need-mul-write-be Inv-loop μ-loop
 mul-write-be c = omega arith
@@ -48,7 +49,7 @@ returns : tie.Need-returns Inv-loop μ-loop
 returns c =
     let l = c .before .loop in
     let a = c .before .before .before .args in
-    written-all 8 0 (l .i) (a .dst .now) (l .dst) (upFrom (a .first) (a .n)) (omega (arith, length-upFrom (a .first) (a .n))) (l .inv .2)
+    written-all (toBe 8) 8 (length-toBe 8) 0 (l .i) (a .dst .now) (l .dst) (upFrom (a .first) (a .n)) (omega (arith, length-upFrom (a .first) (a .n))) (l .inv .2)
 
 pub run-width-spec : {M : Type 1} → statement M
 run-width-spec =
