@@ -1,2 +1,5 @@
 pub mod Flown
 pub mod Pieces
+pub mod Eighths
+pub mod Flocks
+pub mod Idled
