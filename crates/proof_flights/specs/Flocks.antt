@@ -28,7 +28,7 @@ use Rattle.tablesay.specs.Idle.{StateOk}
 use Rattle.tablesay.specs.Members.{keep-nothing, getD-in}
 use Rattle.tablesay.specs.Run.{flies, Lists, Healthy}
 use Rattle.tablesay.specs.Slots.{begin-number, begin-filled, begin-landed, begin-writes, add-filled, add-filled-other, add-number, free-is, some-flies}
-use Rattle.tablesay.specs.Tests.{clash, or-cases}
+use Rattle.tablesay.specs.Tests.{clash, or-cases, or-true-right}
 use Rattle.proof_flights.specs.Eighths.{waitsOf, Eighth, long-of, eighth-same, eighth-add}
 use Rattle.proof_flights.specs.Flown.{sentOf, Flights}
 
@@ -227,12 +227,20 @@ flies-add st ls i hi a t w j = go (ℕ-discrete j i)
     orf true = refl
     orf false = refl
 
-    ort : (b : Bool) → (b || true) ≡ true
-    ort true = refl
-    ort false = refl
-
     go : Dec (j ≡ i) → (flies st j || eqb j i) ≡ flies (addEntry st i a t w) j
-    go (yes e) = ap (λ (b : Bool). flies st j || b) (eq-eqb j i e) ∙ ort (flies st j)
+    go (yes e) = or-true-right (flies st j) (eqb j i) (eq-eqb j i e)
         ∙ sym (some-flies (addEntry st i a t w) j (λ q. let x : filledIn (addEntry st i a t w) j ≡ suc (filledIn st i) = ap (filledIn (addEntry st i a t w)) e ∙ add-filled st ls i hi a t w in let y : ⊥ = omega arith in y))
     go (no n) = ap (λ (b : Bool). flies st j || b) (ne-eqb j i n) ∙ orf (flies st j)
         ∙ ap not (free-is st j ∙ ap (λ (x : ℕ). eqb x 0) (sym (add-filled-other st ls i hi a t w j n)) ∙ sym (free-is (addEntry st i a t w) j))
+
+-- of an eighth that was in use too
+pub flies-stay : (st : State) → Lists st → (i : ℕ) → i < 8 → flies st i ≡ true → (a t w : ℕ) (j : ℕ) → flies st j ≡ flies (addEntry st i a t w) j
+flies-stay st ls i hi fi a t w j = go (ℕ-discrete j i) ∙ flies-add st ls i hi a t w j
+  where
+    orf : (c : Bool) → c ≡ (c || false)
+    orf true = refl
+    orf false = refl
+
+    go : Dec (j ≡ i) → flies st j ≡ (flies st j || eqb j i)
+    go (yes e) = ap (flies st) e ∙ fi ∙ sym (or-true-right (flies st j) (eqb j i) (eq-eqb j i e))
+    go (no n) = orf (flies st j) ∙ ap (λ (c : Bool). flies st j || c) (sym (ne-eqb j i n))
