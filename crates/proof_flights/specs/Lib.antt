@@ -6,3 +6,4 @@ pub mod Idled
 pub mod Sent
 pub mod Written
 pub mod Shut
+pub mod Reclaimed
