@@ -37,6 +37,14 @@ use Rattle.tablesay.specs.Slots.{add-filled, add-writes}
 use Rattle.tablesay.specs.Tests.{clash, cond-true, cond-false, not-so, eqb-self}
 use Rattle.proof_flights.specs.Flown.{sentOf}
 
+-- a block that fills the next position of eighth i, as one that waits
+abbrev pub freshly : Params → State → ℕ → ℕ → ℕ → List ℕ → Pending
+freshly p st i a t b = record { stripe = stripeIn st i; drive = dataDrive p (stripeIn st i) (filledIn st i); address = a; stamp = t; block = b }
+
+-- those that wait, with one more where it is a write
+abbrev pub plus : List Pending → ℕ → Pending → List Pending
+plus ws w x = ws ++ consIf (eqb w 1) x []
+
 -- the writes of a stripe among those that wait
 abbrev pub waitsOf : List Pending → ℕ → List Pending
 waitsOf ws s = keep (λ (w : Pending). eqb (w .stripe) s) ws
@@ -163,9 +171,8 @@ module _ (p : Params) (r : Ranged p) (v : View) (st : State) (ls : Lists st) (fl
   L : Long st
   L = long-of st ls
 
-  -- what a write adds to those that wait
   abbrev fresh : Pending
-  fresh = record { stripe = stripeIn st i; drive = dataDrive p (stripeIn st i) (filledIn st i); address = a; stamp = t; block = b }
+  fresh = freshly p st i a t b
 
   k8 : filledIn st i < 8
   k8 = omega (arith, data-count-high p r)
@@ -254,7 +261,7 @@ module _ (p : Params) (r : Ranged p) (v : View) (st : State) (ls : Lists st) (fl
       let eb : slotBlock p now i (dataDrive p (stripeIn st′ i) k) ≡ b = ap (λ (n : ℕ). slotBlock p now i (dataDrive p n k)) number-is ∙ placed-here p r st L fl long i il a t w b bl kl in
       λ x. record { stripe = number-is x; drive = dataDrive p (number-is x) k; address = en x .address; stamp = en x .stamp; block = eb x }
 
-  waits-now : waitsOf (ws ++ consIf (eqb w 1) fresh []) s ≡ map (sentOf p st′ now i) (keep (isWrite st′ i) (below (suc k)))
+  waits-now : waitsOf (plus ws w fresh) s ≡ map (sentOf p st′ now i) (keep (isWrite st′ i) (below (suc k)))
   waits-now =
       keep-append (λ (x : Pending). eqb (x .stripe) s) ws (consIf (eqb w 1) fresh [])
       ∙ ap₂ _++_ (o .waits-are
@@ -270,7 +277,7 @@ module _ (p : Params) (r : Ranged p) (v : View) (st : State) (ls : Lists st) (fl
           go true e = unfold keep consIf in rw (e, eqb-self s) (ap (λ (x : Pending). x ∷ []) (sym sent-new))
           go false e = unfold keep consIf in rw e
 
-  pub eighth-add : Eighth p v (addEntry st i a t w) (placed p st fl i a t w b .inflight) (ws ++ consIf (eqb w 1) fresh []) i
+  pub eighth-add : Eighth p v (addEntry st i a t w) (placed p st fl i a t w b .inflight) (plus ws w (freshly p st i a t b)) i
   eighth-add = record {
     few = subst (λ (n : ℕ). n ≤ dataCount p) (sym filled-is) kl;
     data-low = λ d hd q x.
@@ -283,7 +290,7 @@ module _ (p : Params) (r : Ranged p) (v : View) (st : State) (ls : Lists st) (fl
     full-ready = λ q. subst (λ (n : ℕ). slotBlock p now i (parityDrive p n) ≡ parity (p .B) (map (slotBlock p now i) (dataDrives p n))) (sym number-is)
         (placed-parity p r st L fl long i il a t w b bl kl (full-count q));
     waits-are =
-        ap (waitsOf (ws ++ consIf (eqb w 1) fresh [])) number-is ∙ waits-now ∙ ap (λ (n : ℕ). map (sentOf p st′ now i) (keep (isWrite st′ i) (below n))) (sym filled-is);
+        ap (waitsOf (plus ws w fresh)) number-is ∙ waits-now ∙ ap (λ (n : ℕ). map (sentOf p st′ now i) (keep (isWrite st′ i) (below n))) (sym filled-is);
     unmarked = λ e l h. let x = filled-is in mark-old e h (λ q. let bad : ⊥ = omega arith in bad) ∙ o .unmarked e (omega arith) h;
   }
     where

@@ -13,7 +13,6 @@ use lib.Seq.{getD-append-seam}
 use Rattle.defs.specs.declared.Params.{Params}
 use Rattle.defs.specs.declared.State.{State}
 use Rattle.defs.specs.Drives.{View, chunkAt, zoneOn}
-use Rattle.defs.specs.Layout.{dataDrive}
 use Rattle.defs.specs.Lists.{upFrom, below, consIf, keep, isIn}
 use Rattle.defs.specs.Memory.{stripeIn, filledIn, landedIn, isWrite, openSegment, isFull, beginStripe, addEntry}
 use Rattle.defs.specs.Params.{dataCount, inflightLen}
@@ -29,7 +28,7 @@ use Rattle.tablesay.specs.Members.{keep-nothing, getD-in}
 use Rattle.tablesay.specs.Run.{flies, Lists, Healthy}
 use Rattle.tablesay.specs.Slots.{begin-number, begin-filled, begin-landed, begin-writes, add-filled, add-filled-other, add-number, free-is, some-flies}
 use Rattle.tablesay.specs.Tests.{clash, or-cases, or-true-right}
-use Rattle.proof_flights.specs.Eighths.{waitsOf, Eighth, long-of, eighth-same, eighth-add}
+use Rattle.proof_flights.specs.Eighths.{freshly, plus, waitsOf, Eighth, long-of, eighth-same, eighth-add}
 use Rattle.proof_flights.specs.Flown.{sentOf, Flights}
 
 -- the eighths in use, and that each write that waits is in one of them
@@ -37,11 +36,24 @@ pub record Flock (p : Params) (v : View) (st : State) (fl : List ℕ) (ws : List
   pub each : (j : ℕ) → j < 8 → busy j ≡ true → Eighth p v st fl ws j
   pub waiting : (n : ℕ) → n < length ws → (i : ℕ) × (i < 8) × (busy i ≡ true) × (stripeIn st i ≡ getD ws n noPending .stripe)
 
+-- with a stripe in flight a segment is open
+pub open-of : (p : Params) (v : View) (st : State) → Healthy p v st → (j : ℕ) → j < 8 → flies st j ≡ true → (z : ℕ) × (st .opened ≡ suc z)
+open-of p v st h j hj fj = go (st .opened) refl
+  where
+    go : (n : ℕ) → st .opened ≡ n → (z : ℕ) × (st .opened ≡ suc z)
+    go zero e = clash fj (h .shut e j hj)
+    go (suc z) e = (z, e)
+
+-- a copy or padding adds none that waits
+pub none-more : (ws : List Pending) (x : Pending) → plus ws 0 x ≡ ws
+unfolding consIf
+none-more ws x = append-nil ws
+
 pub flock-of : (p : Params) (v : View) (st : State) (fl : List ℕ) (ws : List Pending) → Healthy p v st → StateOk p st → Flights p v st fl ws → Flock p v st fl ws (flies st)
 flock-of p v st fl ws h so f = record {
   each = λ j hj fj. record {
     few = so .slots-ok j hj .filled-ok;
-    data-low = λ d hd q x. let (z, e) = opened-at (st .opened) refl j hj fj in h .opens-at z e .flight j hj fj .lands d hd q .is-entry x .0;
+    data-low = λ d hd q x. let (z, e) = open-of p v st h j hj fj in h .opens-at z e .flight j hj fj .lands d hd q .is-entry x .0;
     landed-here = λ d hd q. f .landed-is j d hj fj hd q;
     full-landed = λ q. f .parity-full j hj fj q;
     full-ready = λ q. f .parity-ready j hj fj q;
@@ -50,10 +62,6 @@ flock-of p v st fl ws h so f = record {
   };
   waiting = f .pending-flies;
 }
-  where
-    opened-at : (n : ℕ) → st .opened ≡ n → (j : ℕ) → j < 8 → flies st j ≡ true → (z : ℕ) × (st .opened ≡ suc z)
-    opened-at zero e j hj fj = clash fj (h .shut e j hj)
-    opened-at (suc z) e j hj fj = (z, e)
 
 pub of-flock : (p : Params) (v : View) (st : State) (fl : List ℕ) (ws : List Pending) → Flock p v st fl ws (flies st) → Flights p v st fl ws
 of-flock p v st fl ws o = record {
@@ -165,10 +173,10 @@ module _ (p : Params) (r : Ranged p) (v : View) (st : State) (ls : Lists st) (fl
     (bi : busy i ≡ true) (a t w : ℕ) (b : List ℕ) (bl : length b ≡ p .B) (kl : filledIn st i < dataCount p) (hw : (w ≡ 0) ⊎ (w ≡ 1))
     (once : (j : ℕ) → j < 8 → busy j ≡ true → stripeIn st i ≡ stripeIn st j → j ≡ i) where
   abbrev new : Pending
-  new = record { stripe = stripeIn st i; drive = dataDrive p (stripeIn st i) (filledIn st i); address = a; stamp = t; block = b }
+  new = freshly p st i a t b
 
   abbrev ws′ : List Pending
-  ws′ = ws ++ consIf (eqb w 1) new []
+  ws′ = plus ws w new
 
   others-wait : (s : ℕ) → (stripeIn st i ≡ s → ⊥) → waitsOf ws′ s ≡ waitsOf ws s
   others-wait s n = keep-append (λ (x : Pending). eqb (x .stripe) s) ws (consIf (eqb w 1) new []) ∙ ap (λ (l : List Pending). waitsOf ws s ++ l) (go (eqb w 1)) ∙ append-nil (waitsOf ws s)
@@ -177,7 +185,11 @@ module _ (p : Params) (r : Ranged p) (v : View) (st : State) (ls : Lists st) (fl
       go true = unfold keep consIf in rw (ne-eqb (stripeIn st i) s n)
       go false = unfold keep consIf in refl
 
-  pub flock-add : Flock p v st fl ws busy → Flock p v (addEntry st i a t w) (placed p st fl i a t w b .inflight) (ws ++ consIf (eqb w 1) new []) busy
+  -- the eighth of write n, among the writes xs
+  abbrev Among : List Pending → ℕ → Type 0
+  Among xs n = (j : ℕ) × (j < 8) × (busy j ≡ true) × (stripeIn (addEntry st i a t w) j ≡ getD xs n noPending .stripe)
+
+  pub flock-add : Flock p v st fl ws busy → Flock p v (addEntry st i a t w) (placed p st fl i a t w b .inflight) (plus ws w (freshly p st i a t b)) busy
   flock-add o = record {
     each = λ j hj q. go j hj q (ℕ-discrete j i);
     waiting = λ n h. at n h (eqb w 1) refl;
@@ -195,17 +207,15 @@ module _ (p : Params) (r : Ranged p) (v : View) (st : State) (ls : Lists st) (fl
       go j hj q (no n) = eighth-same p r v v st (addEntry st i a t w) fl (placed p st fl i a t w b .inflight) ws ws′ j (add-same st (long-of st ls) i hi a t w k8 j n)
           (λ d hd. placed-other p r st (long-of st ls) fl long i hi a t w b bl kl j d hj hd (inl n)) (λ d b hd. same-open d b) (others-wait (stripeIn st j) (λ e. n (once j hj q e))) (o .each j hj q)
 
-      stays : (n : ℕ) (m : List Pending) → n < length ws → (j : ℕ) × (j < 8) × (busy j ≡ true) × (stripeIn (addEntry st i a t w) j ≡ getD (ws ++ m) n noPending .stripe)
+      stays : (n : ℕ) (m : List Pending) → n < length ws → Among (ws ++ m) n
       stays n m h =
           let (j, hj, bj, s) = o .waiting n h in
           (j, hj, bj, add-number st ls i hi a t w j ∙ s ∙ ap (λ (x : Pending). x .stripe) (sym (List·getD-append ws m noPending n h)))
 
-      at : (n : ℕ) → n < length (ws ++ consIf (eqb w 1) new []) → (c : Bool) → eqb w 1 ≡ c
-          → (j : ℕ) × (j < 8) × (busy j ≡ true) × (stripeIn (addEntry st i a t w) j ≡ getD (ws ++ consIf (eqb w 1) new []) n noPending .stripe)
-      at n h c e = subst (λ (x : Bool). (j : ℕ) × (j < 8) × (busy j ≡ true) × (stripeIn (addEntry st i a t w) j ≡ getD (ws ++ consIf x new []) n noPending .stripe)) (sym e)
-          (two c (subst (λ (x : Bool). n < length (ws ++ consIf x new [])) e h) (decLt n (length ws)))
+      at : (n : ℕ) → n < length ws′ → (c : Bool) → eqb w 1 ≡ c → Among ws′ n
+      at n h c e = subst (λ (x : Bool). Among (ws ++ consIf x new []) n) (sym e) (two c (subst (λ (x : Bool). n < length (ws ++ consIf x new [])) e h) (decLt n (length ws)))
         where
-          two : (c : Bool) → n < length (ws ++ consIf c new []) → Dec (n < length ws) → (j : ℕ) × (j < 8) × (busy j ≡ true) × (stripeIn (addEntry st i a t w) j ≡ getD (ws ++ consIf c new []) n noPending .stripe)
+          two : (c : Bool) → n < length (ws ++ consIf c new []) → Dec (n < length ws) → Among (ws ++ consIf c new []) n
           two c h (yes l) = stays n (consIf c new []) l
           two true h (no l) =
               let x : length (ws ++ (new ∷ [])) ≡ length ws + 1 = length-append ws (new ∷ []) in
@@ -229,7 +239,7 @@ flies-add st ls i hi a t w j = go (ℕ-discrete j i)
 
     go : Dec (j ≡ i) → (flies st j || eqb j i) ≡ flies (addEntry st i a t w) j
     go (yes e) = or-true-right (flies st j) (eqb j i) (eq-eqb j i e)
-        ∙ sym (some-flies (addEntry st i a t w) j (λ q. let x : filledIn (addEntry st i a t w) j ≡ suc (filledIn st i) = ap (filledIn (addEntry st i a t w)) e ∙ add-filled st ls i hi a t w in let y : ⊥ = omega arith in y))
+        ∙ sym (some-flies (addEntry st i a t w) j (λ q. let x = ap (filledIn (addEntry st i a t w)) e ∙ add-filled st ls i hi a t w in let y : ⊥ = omega arith in y))
     go (no n) = ap (λ (b : Bool). flies st j || b) (ne-eqb j i n) ∙ orf (flies st j)
         ∙ ap not (free-is st j ∙ ap (λ (x : ℕ). eqb x 0) (sym (add-filled-other st ls i hi a t w j n)) ∙ sym (free-is (addEntry st i a t w) j))
 

@@ -13,7 +13,7 @@ use Rattle.defs.specs.declared.Answer.the-variants.{Filled}
 use Rattle.defs.specs.Answers.{kind, values, isRefused, isCut, finished}
 use Rattle.defs.specs.Calls.{Check, Plan, mkPlan, After}
 use Rattle.defs.specs.Calls.Check.{rule, zones}
-use Rattle.defs.specs.Drives.{Store, Disk, storeDisk, storeAll}
+use Rattle.defs.specs.Drives.{Disk, storeDisk, storeAll}
 use Rattle.defs.specs.Engine.{Call, storeCount, lentBlock, verdict, lentOk, callOn, callDisk}
 use Rattle.defs.specs.Engine.Call.{write, land, close, reclaim, read, fill, restart, rebuild}
 use Rattle.defs.specs.History.{endsRun}
@@ -25,6 +25,7 @@ use Rattle.defs.specs.Read.Found.{nowhere, here, away}
 use Rattle.defs.specs.Segments.{Segment}
 use Rattle.hosts.specs.Shorts.{write-keeps, land-keeps, close-keeps, reclaim-keeps, read-keeps, fill-keeps, restart-keeps, rebuild-keeps}
 use Rattle.spec_demands.specs.Tables.{Pending, pendingBy, stillPending, pendingAfter}
+use Rattle.tablesay.specs.Checks.{Passes}
 use Rattle.tablesay.specs.Outcomes.{Ended, ended, refusal-kind, cut-cut}
 use Rattle.tablesay.specs.Outcomes.Ended.{ended-refused, ended-done, ended-cut}
 use Rattle.tablesay.specs.Run.{Run}
@@ -91,12 +92,24 @@ quiet-refused a q = quiet-kind a (kind a) refl (not-it 2 (omega arith)) (not-it 
 
 -- ---- nothing changed
 
+-- the same drives, memory and writes, told otherwise
+pub flown-as : (p : Params) (k : Disk) (m : Memory) (ws ws′ : List Pending) (old : List Segment) (x : Disk) (y : Memory) → x ≡ k → y ≡ m → ws ≡ ws′ → Flown p k m ws′ old → Flown p x y ws old
+flown-as p k m ws ws′ old x y ex ey ew f =
+    subst (λ (a : Disk). Flown p a y ws old) (sym ex) (subst (λ (a : Memory). Flown p k a ws old) (sym ey) (subst (λ (a : List Pending). Flown p k m a old) (sym ew) f))
+
 pub flown-still : (p : Params) (k : Disk) (m : Memory) (ws : List Pending) (old : List Segment) → Flown p k m ws old → (c : Call) (r : After Disk)
     → r .drives ≡ k → r .memory ≡ m → Quiet (r .answer) → Flown p (r .drives) (r .memory) (pendingAfter c (r .answer) ws) old
-flown-still p k m ws old f c r e g q =
-    subst (λ (x : Disk). Flown p x (r .memory) (pendingAfter c (r .answer) ws) old) (sym e)
-    (subst (λ (x : Memory). Flown p k x (pendingAfter c (r .answer) ws) old) (sym g)
-    (subst (λ (x : List Pending). Flown p k m x old) (sym (pending-quiet c (r .answer) ws q)) f))
+flown-still p k m ws old f c r e g q = flown-as p k m (pendingAfter c (r .answer) ws) ws old (r .drives) (r .memory) e g (pending-quiet c (r .answer) ws q) f
+
+-- a call as it ends: what is left once all is done, else nothing changed
+pub flown-ended : (p : Params) (k : Disk) (m : Memory) (ws : List Pending) (old : List Segment) → Flown p k m ws old → (c : Call) (cs : List Check) (q : Plan) (r : After Disk)
+    → (Passes cs → Flown p (storeAll (storeDisk p) (q .stores) k) (q .memory) (pendingAfter c (q .answer) ws) old)
+    → isCut (r .answer) ≡ false → Ended p k m cs q r → Flown p (r .drives) (r .memory) (pendingAfter c (r .answer) ws) old
+flown-ended p k m ws old f c cs q r done nc (ended-refused a e x y z) =
+    flown-still p k m ws old f c r y z (subst (λ (b : Answer). Quiet b) (sym x) (quiet-refused a (refusal-kind cs a e)))
+flown-ended p k m ws old f c cs q r done nc (ended-done h x y z) =
+    flown-as p _ _ _ _ old (r .drives) (r .memory) y z (ap (λ (b : Answer). pendingAfter c b ws) x) (done h)
+flown-ended p k m ws old f c cs q r done nc (ended-cut h x) = clash (ap isCut x ∙ cut-cut) nc
 
 -- a refusal of any call
 pub flown-refused : (p : Params) (k : Disk) (m : Memory) (ws : List Pending) (old : List Segment) → Flown p k m ws old → (c : Call) → isRefused (callDisk p k m c .answer) ≡ true
@@ -120,16 +133,10 @@ module _ (p : Params) (k : Disk) (m : Memory) (u : Run p k m) (ws : List Pending
   abbrev found : ℕ → Found
   found a = lookup p (m .state .missing) (m .addresses) a
 
-  -- a plan with no store that leaves memory as it is
-  unstored : (c : Call) (cs : List Check) (q : Plan) (r : After Disk) → q .stores ≡ [] → q .memory ≡ m → Quiet (q .answer) → isCut (r .answer) ≡ false → Ended p k m cs q r
-      → Flown p (r .drives) (r .memory) (pendingAfter c (r .answer) ws) old
-  unstored c cs q r es em qu nc (ended-refused a e x y z) = flown-still p k m ws old f c r y z (subst (λ (b : Answer). Quiet b) (sym x) (quiet-refused a (refusal-kind cs a e)))
-  unstored c cs q r es em qu nc (ended-done h x y z) =
-      flown-still p k m ws old f c r (y ∙ ap (λ (l : List Store). storeAll (storeDisk p) l k) es ∙ nothing) (z ∙ em) (subst (λ (b : Answer). Quiet b) (sym x) qu)
-    where
-      nothing : storeAll (storeDisk p) [] k ≡ k
-      nothing = unfold storeAll in refl
-  unstored c cs q r es em qu nc (ended-cut h x) = clash (ap isCut x ∙ cut-cut) nc
+  -- no store, and memory as it was
+  same : (c : Call) (a : Answer) → Quiet a → Flown p (storeAll (storeDisk p) [] k) m (pendingAfter c a ws) old
+  unfolding storeAll
+  same c a q = flown-as p k m (pendingAfter c a ws) ws old k m refl refl (pending-quiet c a ws q) f
 
   quiet-read : (x : Found) → Quiet (readAnswer p x)
   unfolding readAnswer kind
@@ -144,7 +151,7 @@ module _ (p : Params) (k : Disk) (m : Memory) (u : Run p k m) (ws : List Pending
   pub flown-read : (a : ℕ) → isCut (callDisk p k m (read a) .answer) ≡ false
       → Flown p (callDisk p k m (read a) .drives) (callDisk p k m (read a) .memory) (pendingAfter (read a) (callDisk p k m (read a) .answer) ws) old
   unfolding callDisk callOn verdict storeCount lentBlock readVerdict readChecks
-  flown-read a nc = unstored (read a) cs q _ refl refl (quiet-read (found a)) nc (ended p k m cs q 0 [])
+  flown-read a nc = flown-ended p k m ws old f (read a) cs q _ (λ h. same (read a) (readAnswer p (found a)) (quiet-read (found a))) nc (ended p k m cs q 0 [])
     where
       cs : List Check
       cs = rule 1 (not (inRange p)) ∷ rule 2 (not (lentOk p k m)) ∷ rule 4 (leb (p .L) a) ∷ zones (stateFaults p (m .state) ++ foundFaults p (seen p k) (m .state .missing) (found a)) ∷ []
@@ -155,7 +162,7 @@ module _ (p : Params) (k : Disk) (m : Memory) (u : Run p k m) (ws : List Pending
   pub flown-fill : (a : ℕ) (b : List ℕ) → isCut (callDisk p k m (fill a b) .answer) ≡ false
       → Flown p (callDisk p k m (fill a b) .drives) (callDisk p k m (fill a b) .memory) (pendingAfter (fill a b) (callDisk p k m (fill a b) .answer) ws) old
   unfolding callDisk callOn verdict storeCount lentBlock fillVerdict readChecks
-  flown-fill a b nc = unstored (fill a b) cs q _ refl refl quiet-filled nc (ended p k m cs q 0 b)
+  flown-fill a b nc = flown-ended p k m ws old f (fill a b) cs q _ (λ h. same (fill a b) Filled quiet-filled) nc (ended p k m cs q 0 b)
     where
       cs : List Check
       cs = rule 1 (not (inRange p)) ∷ rule 2 (not (lentOk p k m && eqb (length b) (p .B))) ∷ rule 4 (leb (p .L) a)

@@ -1,11 +1,10 @@
 -- Reclaim: a copy is a block sent that nobody waits for, and a reset takes a sealed segment away, which no stripe in flight is in. Assumes nothing.
 use mathlib.Core.Path.{_≡_, refl, sym, ap, ap₂, _∙_, subst}
-use mathlib.Core.List.{List, [], _∷_, _++_, map, append-nil}
+use mathlib.Core.List.{List, [], _∷_, _++_, map}
 use mathlib.Core.Bool.{Bool, true, false, cond, not, _&&_, _||_}
 use mathlib.Core.Logic.{_⊎_, inl}
 use Prim.Native.Nat.{ℕ, zero, suc, _+_, _-_, _^_, _<_}
 use native.Mathlib.Omega.{arith}
-use borrow.Author.Tests.{leb-false}
 use lib.Dec.{eqb}
 use lib.ListN.{length, getD}
 use Rattle.defs.specs.declared.Params.{Params}
@@ -13,17 +12,18 @@ use Rattle.defs.specs.declared.State.{State}
 use Rattle.defs.specs.declared.Answer.{Answer}
 use Rattle.defs.specs.declared.Answer.the-variants.{Copied, Reset}
 use Rattle.defs.specs.Answers.{kind, isCut}
-use Rattle.defs.specs.Calls.{Check, Plan, After}
+use Rattle.defs.specs.Calls.{Check, Plan}
 use Rattle.defs.specs.Calls.Check.{rule, zones}
 use Rattle.defs.specs.Counts.{aStamp}
-use Rattle.defs.specs.Drives.{noChunk, Zone, View, zoneAt, pointerAt, chunkAt, Store, storeView, Disk, storeDisk, storeAll, zoneOn, placeSegment, emptyZones, sealedIn, recordIn, recordAt, resetStores}
+use Rattle.defs.specs.Drives.{noChunk, Zone, View, zoneAt, pointerAt, chunkAt, Store, storeView, Disk, storeDisk, storeAll, zoneOn, placeSegment, sealedIn, recordIn, recordAt, resetStores}
 use Rattle.defs.specs.Engine.{storeCount, lentBlock, verdict, lentOk, callOn, callDisk}
 use Rattle.defs.specs.Engine.Call.{reclaim}
 use Rattle.defs.specs.Layout.{Rec}
-use Rattle.defs.specs.Lists.{Opt, consIf, isMember, keep, isNil, firstOr}
+use Rattle.defs.specs.Lists.{Opt, isMember, keep, isNil, firstOr}
 use Rattle.defs.specs.Memory.{Memory, mkMemory, openSegment, stateFaults}
 use Rattle.defs.specs.Params.{between, inRange, capacity, placeBlock, placeZone, placeDrive, drivesOf}
-use Rattle.defs.specs.Reclaim.{placesIn, tableFaults, segmentPlaces, liveIn, flying, Victim, victim, isNone, victimSegment, victimLive, idle, reclaimChecks, cleared, resetPlan, copyPlan, reclaimVerdict}
+use Rattle.defs.specs.Reclaim.{placesIn, tableFaults, segmentPlaces, liveIn, flying, Victim, victim, isNone, victimSegment, victimLive}
+use Rattle.defs.specs.Reclaim.{idle, reclaimChecks, cleared, resetPlan, copyPlan, reclaimVerdict}
 use Rattle.defs.specs.Segments.{Segment, segmentOf, counts}
 use Rattle.defs.specs.Write.{opens, noSerial, mustWait, scarce, Sending, sending}
 use Rattle.laws.specs.Geometry.{Ranged, ranged}
@@ -39,8 +39,7 @@ use Rattle.tablesay.specs.Going.{address-table, buffer-long}
 use Rattle.tablesay.specs.Idle.{StateOk, state-of}
 use Rattle.tablesay.specs.Live.{Pointed, places-pointed}
 use Rattle.tablesay.specs.Members.{In, keep-in, first-in, is-member}
-use Rattle.tablesay.specs.Outcomes.{Ended, ended, refusal-kind, cut-cut}
-use Rattle.tablesay.specs.Outcomes.Ended.{ended-refused, ended-done, ended-cut}
+use Rattle.tablesay.specs.Outcomes.{ended}
 use Rattle.tablesay.specs.Range.{capacity-over}
 use Rattle.tablesay.specs.Reads.{spot-block, spot-drive}
 use Rattle.tablesay.specs.Reclaiming.{taken, sealed-full}
@@ -52,12 +51,12 @@ use Rattle.tablesay.specs.Settled.{SameZones}
 use Rattle.tablesay.specs.Tests.{clash, or-left, or-right, cond-true, cond-false}
 use Rattle.tablesay.specs.Zones.{Shaped}
 use Rattle.views.specs.Views.{seen}
-use Rattle.proof_flights.specs.Flocks.{flock-of, of-flock, flock-same}
+use Rattle.proof_flights.specs.Flocks.{none-more, flock-of, of-flock, flock-same}
 use Rattle.proof_flights.specs.Flown.{Flights, Flown}
-use Rattle.proof_flights.specs.Idled.{Quiet, pending-quiet, quiet-kind, quiet-refused, flown-still}
+use Rattle.proof_flights.specs.Idled.{Quiet, pending-quiet, quiet-kind, flown-as, flown-ended}
 use Rattle.proof_flights.specs.Pieces.{parity-zones, remains-of-used, used-of-remains}
-use Rattle.proof_flights.specs.Sent.{leaves-sent}
-use Rattle.proof_flights.specs.Written.{well-of, seen-after, parity-none, flown-of, flown-after}
+use Rattle.proof_flights.specs.Sent.{some-empty, leaves-sent}
+use Rattle.proof_flights.specs.Written.{well-of, seen-after, parity-none, flown-of}
 
 -- ---- a sealed segment is reset
 
@@ -150,9 +149,11 @@ module _ (p : Params) (k : Disk) (m : Memory) (u : Run p k m) (ws : List Pending
       let sh = u .base .shaped in
       let full = sealed-full p v g (t .taken-sealed) in
       let cs = cleared p g (drivesOf p) (m .compact) in
-      flown-after p (storeAll (storeDisk p) (resetStores p g) k) (mkMemory st (m .addresses) cs (m .inflight)) _ ws old _ _ (ap (λ (l : List Store). storeAll (storeDisk p) l k) (stores-is g)) (memory-is g)
+      let k′ = storeAll (storeDisk p) (resetStores p g) k in
+      let m′ = mkMemory st (m .addresses) cs (m .inflight) in
+      flown-as p k′ m′ _ ws old _ _ (ap (λ (l : List Store). storeAll (storeDisk p) l k) (stores-is g)) (memory-is g)
       (ap (λ (y : Answer). pendingAfter (reclaim n) y ws) (answer-is g) ∙ pending-quiet (reclaim n) (Reset g) ws (quiet-reset g))
-      (flown-of p (storeAll (storeDisk p) (resetStores p g) k) (mkMemory st (m .addresses) cs (m .inflight)) ws old (storeAll storeView (resetStores p g) v)
+      (flown-of p k′ m′ ws old (storeAll storeView (resetStores p g) v)
       (seen-after p k m u (resetStores p g) (reset-roomy p rg v sh g hg) (reset-within p rg v sh g hg)) (we .none-missing)
       (flights-reset p rg v sh g hg st (we .healthy) so full (m .inflight) ws (f .flights (we .none-missing)))
       (parity-reset p rg v sh g hg st (we .healthy) so full old (parity-none p k m ws old f (we .none-missing))))
@@ -182,7 +183,8 @@ module _ (p : Params) (k : Disk) (m : Memory) (u : Run p k m) (ws : List Pending
       let q = firstOr 0 (idle p v st w) in
       let at! = address-table p k m u we in
       let i : In q (victimLive w) = idle-live q (first-in (idle p v st w) 0 ni) in
-      let t : Pointed p v q = places-pointed p rg v (m .addresses) at! q (live-in p (placesIn p (m .addresses)) (victimSegment w) q (subst (λ (x : List ℕ). In q x) (taken p v (m .addresses) nn .taken-live) i)) in
+      let i′ : In q (liveIn p (placesIn p (m .addresses)) (victimSegment w)) = subst (λ (x : List ℕ). In q x) (taken p v (m .addresses) nn .taken-live) i in
+      let t : Pointed p v q = places-pointed p rg v (m .addresses) at! q (live-in p (placesIn p (m .addresses)) (victimSegment w) q i′) in
       let c = t .cand in
       let kc = t .at-cand! in
       let d = placeDrive p q in
@@ -202,17 +204,17 @@ module _ (p : Params) (k : Disk) (m : Memory) (u : Run p k m) (ws : List Pending
       let bu = buffer-long p k m u we in
       let b = chunkAt v d (placeZone p q) (placeBlock p q) .block in
       let s = sends p rg v sh st (we .healthy) so (m .inflight) bu (rec q .address) (rec q .stamp) 0 b (subst (λ (y : Rec). y .address < 256 ^ 8) (sym er) (low .0))
-      (subst (λ (y : Rec). y .stamp < 256 ^ 8) (sym er) (low .1)) (omega arith) lb nw ns (λ z. zones-left (sc z)) in
+      (subst (λ (y : Rec). y .stamp < 256 ^ 8) (sym er) (low .1)) (omega arith) lb nw ns (λ z. some-empty p v 1 (sc z)) in
       let le = leaves-sent p rg v sh st (we .healthy) so (m .inflight) bu ws old (f .flights (we .none-missing)) (parity-none p k m ws old f (we .none-missing)) (rec q .address) (rec q .stamp) 0 b
-      (inl refl) lb nw ns (λ z. zones-left (sc z)) in
+      (inl refl) lb nw ns (λ z. some-empty p v 1 (sc z)) in
       let e = copied q in
       let k′ = storeAll (storeDisk p) (e .stores) k in
       let m′ = mkMemory (e .state) (m .addresses) (m .compact) (e .inflight) in
       let v′ = storeAll storeView (e .stores) v in
-      flown-after p k′ m′ _ ws old _ _ (ap (λ (l : List Store). storeAll (storeDisk p) l k) (stores-is q)) (memory-is q)
-      (ap (λ (y : Answer). pendingAfter (reclaim n) y ws) (answer-is q) ∙ pending-quiet (reclaim n) (Copied (aStamp (rec q .stamp)) (e .stripe) (e .drive)) ws (quiet-copied (rec q .stamp) (e .stripe) (e .drive)))
+      flown-as p k′ m′ _ ws old _ _ (ap (λ (l : List Store). storeAll (storeDisk p) l k) (stores-is q)) (memory-is q)
+      (ap (λ (y : Answer). pendingAfter (reclaim n) y ws) (answer-is q) ∙ pending-quiet (reclaim n) _ ws (quiet-copied (rec q .stamp) (e .stripe) (e .drive)))
       (flown-of p k′ m′ ws old v′ (seen-after p k m u (e .stores) (s .has-room) (s .all-within)) (s .missing-after ∙ we .none-missing)
-      (subst (λ (x : List Pending). Flights p v′ (e .state) (e .inflight) x) (none-more _) (le .0)) (le .1))
+      (subst (λ (x : List Pending). Flights p v′ (e .state) (e .inflight) x) (none-more ws _) (le .0)) (le .1))
     where
       idle-live : (q : ℕ) → In q (idle p v st w) → In q (victimLive w)
       idle-live q i = keep-in (λ q. not (flying p v st q)) (victimLive w) q (as! i) .0
@@ -228,19 +230,6 @@ module _ (p : Params) (k : Disk) (m : Memory) (u : Run p k m) (ws : List Pending
 
       chunk-long : (d g b : ℕ) → d < p .N → g < p .Z → b < capacity p → length (chunkAt v d g b .block) ≡ p .B
       chunk-long d g b hd hg hb = unfold chunkAt in u .base .shaped .zone-ok d g hd hg .sound b hb .block-long
-
-      zones-left : scarce p v 1 ≡ false → isNil (emptyZones p v) ≡ false
-      zones-left q = go (emptyZones p v) (few q)
-        where
-          few : scarce p v 1 ≡ false → 1 < length (emptyZones p v)
-          few q = unfold scarce in leb-false (length (emptyZones p v)) 1 q
-
-          go : (l : List ℕ) → 1 < length l → isNil l ≡ false
-          go [] h = absurd (let z : ⊥ = omega arith in z)
-          go (x ∷ l) h = unfold isNil in refl
-
-      none-more : (x : Pending) → ws ++ consIf (eqb 0 1) x [] ≡ ws
-      none-more x = unfold consIf in append-nil ws
 
       stores-is : (q : ℕ) → copyPlan p v m q .stores ≡ copied q .stores
       stores-is q = unfold copyPlan in refl
@@ -275,9 +264,4 @@ module _ (p : Params) (k : Disk) (m : Memory) (u : Run p k m) (ws : List Pending
   pub flown-reclaim : isCut (callDisk p k m (reclaim n) .answer) ≡ false
       → Flown p (callDisk p k m (reclaim n) .drives) (callDisk p k m (reclaim n) .memory) (pendingAfter (reclaim n) (callDisk p k m (reclaim n) .answer) ws) old
   unfolding callDisk callOn verdict storeCount lentBlock reclaimVerdict reclaimChecks
-  flown-reclaim nc = go _ nc (ended p k m checks plan n [])
-    where
-      go : (r : After Disk) → isCut (r .answer) ≡ false → Ended p k m checks plan r → Flown p (r .drives) (r .memory) (pendingAfter (reclaim n) (r .answer) ws) old
-      go r nc (ended-refused x e g h i) = flown-still p k m ws old f (reclaim n) r h i (subst (λ (y : Answer). Quiet y) (sym g) (quiet-refused x (refusal-kind checks x e)))
-      go r nc (ended-done c g h i) = flown-after p _ _ _ _ old (r .drives) (r .memory) h i (ap (λ (x : Answer). pendingAfter (reclaim n) x ws) g) (done c)
-      go r nc (ended-cut c g) = clash (ap isCut g ∙ cut-cut) nc
+  flown-reclaim nc = flown-ended p k m ws old f (reclaim n) checks plan _ done nc (ended p k m checks plan n [])

@@ -1,9 +1,9 @@
 -- A block is sent, by a write or a copy: it fills a position, begins a stripe, or opens a segment, whose headers add no stripe that counts. Assumes nothing.
 use mathlib.Core.Path.{_≡_, refl, sym, ap, ap₂, _∙_, subst}
-use mathlib.Core.List.{List, [], _++_}
+use mathlib.Core.List.{List, [], _∷_}
 use mathlib.Core.Bool.{Bool, true, false, not, _&&_, _||_}
 use mathlib.Core.Logic.{_⊎_, inl, inr}
-use Prim.Native.Nat.{ℕ, zero, suc, _^_, _<_}
+use Prim.Native.Nat.{ℕ, suc, _^_, _<_}
 use native.Mathlib.Decide.{ℕ-discrete}
 use native.Mathlib.Omega.{arith}
 use borrow.Author.Tests.{leb-false, eq-eqb, eqb-true, eqb-false}
@@ -14,11 +14,11 @@ use Rattle.defs.specs.declared.State.{State}
 use Rattle.defs.specs.Counts.{lastCount}
 use Rattle.defs.specs.Drives.{Zone, View, zoneAt, pointerAt, Store, storeView, storeAll, segmentNumbers, emptyOnAll, emptyZones, dataStored, headerStores}
 use Rattle.defs.specs.Layout.{dataDrive}
-use Rattle.defs.specs.Lists.{below, any, consIf, isNil, firstOr}
+use Rattle.defs.specs.Lists.{below, any, isNil, firstOr}
 use Rattle.defs.specs.Memory.{slotCount, stripeIn, filledIn, isFree, inFlight, freeSlot, fillingSlot, hasFilling, setOpen, beginStripe, addEntry}
 use Rattle.defs.specs.Params.{dataCount, inflightLen}
 use Rattle.defs.specs.Segments.{Segment, segmentOf, counts}
-use Rattle.defs.specs.Write.{mustOpen, opens, noSerial, otherGroup, mustWait, placed, Sending, openedBy, slotFor, begunBy, sending}
+use Rattle.defs.specs.Write.{mustOpen, opens, noSerial, otherGroup, mustWait, scarce, placed, Sending, openedBy, slotFor, begunBy, sending}
 use Rattle.laws.specs.Geometry.{Ranged, data-count-low}
 use Rattle.laws.specs.Ranges.{Test, test}
 use Rattle.laws.specs.Ranges.Test.{yes!, no! }
@@ -33,9 +33,21 @@ use Rattle.tablesay.specs.Settled.{SameZones, zones-used}
 use Rattle.tablesay.specs.Slots.{begin-number, begin-number-other, begin-filled, begin-filled-other, begin-lists, free-is}
 use Rattle.tablesay.specs.Tests.{clash, or-left, or-right, or-cases, or-true-right, not-so}
 use Rattle.tablesay.specs.Zones.{Shaped}
-use Rattle.proof_flights.specs.Flocks.{Flock, flock-of, of-flock, flock-busy, flock-bare, bare-flock, flock-begin, flock-add, flies-add, flies-stay}
+use Rattle.proof_flights.specs.Eighths.{freshly, plus}
+use Rattle.proof_flights.specs.Flocks.{Flock, open-of, flock-of, of-flock, flock-busy, flock-bare, bare-flock, flock-begin, flock-add, flies-add, flies-stay}
 use Rattle.proof_flights.specs.Flown.{Flights}
 use Rattle.proof_flights.specs.Pieces.{bare-counts, parity-zones, remains-of-used, used-of-remains}
+
+-- more zones than some number are empty: one is
+pub some-empty : (p : Params) (v : View) (n : ℕ) → scarce p v n ≡ false → isNil (emptyZones p v) ≡ false
+some-empty p v n q = go (emptyZones p v) (few q)
+  where
+    few : scarce p v n ≡ false → n < length (emptyZones p v)
+    few q = unfold scarce in leb-false (length (emptyZones p v)) n q
+
+    go : (l : List ℕ) → n < length l → isNil l ≡ false
+    go [] h = absurd (let z : ⊥ = omega arith in z)
+    go (x ∷ l) h = unfold isNil in refl
 
 -- ---- a segment is opened: parity stays right
 
@@ -82,7 +94,7 @@ module _ (p : Params) (r : Ranged p) (v : View) (sh : Shaped p v) (st : State) (
 
   -- what a block sent as q leaves
   abbrev Leaves : Sending → Type 0
-  Leaves q = Flights p (storeAll storeView (q .stores) v) (q .state) (q .inflight) (ws ++ consIf (eqb w 1) (record { stripe = q .stripe; drive = q .drive; address = a; stamp = t; block = b }) [])
+  Leaves q = Flights p (storeAll storeView (q .stores) v) (q .state) (q .inflight) (plus ws w (record { stripe = q .stripe; drive = q .drive; address = a; stamp = t; block = b }))
       × ParityMade p (storeAll storeView (q .stores) v) 0 old
 
   abbrev sentAs : List Store → State → ℕ → Sending
@@ -97,23 +109,16 @@ module _ (p : Params) (r : Ranged p) (v : View) (sh : Shaped p v) (st : State) (
   flock : Flock p v st fl ws (flies st)
   flock = flock-of p v st fl ws h so f
 
-  opened-at : (j : ℕ) → j < 8 → flies st j ≡ true → (z : ℕ) × (st .opened ≡ suc z)
-  opened-at j hj fj = go (st .opened) refl
-    where
-      go : (n : ℕ) → st .opened ≡ n → (z : ℕ) × (st .opened ≡ suc z)
-      go zero e = clash fj (h .shut e j hj)
-      go (suc z) e = (z, e)
-
   nothing : storeAll storeView [] v ≡ v
   unfolding storeAll
   nothing = refl
 
   unstored : (su : State) (i : ℕ) → Flights p v (addEntry su i a t w) (placed p su fl i a t w b .inflight)
-      (ws ++ consIf (eqb w 1) (record { stripe = stripeIn su i; drive = dataDrive p (stripeIn su i) (filledIn su i); address = a; stamp = t; block = b }) [])
+      (plus ws w (freshly p su i a t b))
       → Leaves (sentAs [] su i)
   unstored su i x = (
     subst (λ (y : View). Flights p y (addEntry su i a t w) (placed p su fl i a t w b .inflight)
-        (ws ++ consIf (eqb w 1) (record { stripe = stripeIn su i; drive = dataDrive p (stripeIn su i) (filledIn su i); address = a; stamp = t; block = b }) [])) (sym nothing) x,
+        (plus ws w (freshly p su i a t b))) (sym nothing) x,
     subst (λ (y : View). ParityMade p y 0 old) (sym nothing) pm,
   )
 
@@ -122,7 +127,7 @@ module _ (p : Params) (r : Ranged p) (v : View) (sh : Shaped p v) (st : State) (
   fills q =
       let (hi, fi, room) = filling-slot p st q in
       let i = fillingSlot p st in
-      let (z, e) = opened-at i hi fi in
+      let (z, e) = open-of p v st h i hi fi in
       let o = flock-add p r v st (h .lists) fl l ws (flies st) i hi fi a t w b lb room hw (λ j hj fj x. h .opens-at z e .once j i hj hi fj fi (sym x)) flock in
       subst (λ (x : Sending). Leaves x) (sym (sent-is q))
       (unstored st i (of-flock p v (addEntry st i a t w) (placed p st fl i a t w b .inflight) _
@@ -134,14 +139,14 @@ module _ (p : Params) (r : Ranged p) (v : View) (sh : Shaped p v) (st : State) (
   -- the next stripe number, in a state su with the same eighths
   begins-in : (u : View) (su : State) (xs : List Pending) → Lists su → (i : ℕ) → i < 8 → flies su i ≡ false → ((j : ℕ) → j < 8 → flies su j ≡ true → stripeIn su j < su .next)
       → Flock p u su fl xs (flies su)
-      → Flights p u (addEntry (beginStripe su i) i a t w) (placed p (beginStripe su i) fl i a t w b .inflight)
-      (xs ++ consIf (eqb w 1) (record { stripe = stripeIn (beginStripe su i) i; drive = dataDrive p (stripeIn (beginStripe su i) i) (filledIn (beginStripe su i) i); address = a; stamp = t; block = b }) [])
+      → Flights p u (addEntry (beginStripe su i) i a t w) (placed p (beginStripe su i) fl i a t w b .inflight) (plus xs w (freshly p (beginStripe su i) i a t b))
   begins-in u su xs ls i hi nf bg o =
       let sw = beginStripe su i in
       let lw = begin-lists su ls i hi in
       let room : filledIn sw i < dataCount p = (let e = begin-filled su ls i hi in let c = data-count-low p r in omega arith) in
       let o₁ = flock-begin p r u su ls fl xs i hi bg o nf in
-      let o₂ = flock-add p r u sw lw fl l xs (λ j. flies su j || eqb j i) i hi (or-true-right (flies su i) (eqb i i) (eq-eqb i i refl)) a t w b lb room hw (λ j hj q e. one j hj e (or-cases (flies su j) (eqb j i) q)) o₁ in
+      let here : (flies su i || eqb i i) ≡ true = or-true-right (flies su i) (eqb i i) (eq-eqb i i refl) in
+      let o₂ = flock-add p r u sw lw fl l xs (λ j. flies su j || eqb j i) i hi here a t w b lb room hw (λ j hj q e. one j hj e (or-cases (flies su j) (eqb j i) q)) o₁ in
       of-flock p u (addEntry sw i a t w) (placed p sw fl i a t w b .inflight) _
       (flock-busy p u (addEntry sw i a t w) (placed p sw fl i a t w b .inflight) _ (λ j. flies su j || eqb j i) (flies (addEntry sw i a t w)) (λ j hj. busy-now j ∙ flies-add sw lw i hi a t w j) o₂)
     where
@@ -165,17 +170,20 @@ module _ (p : Params) (r : Ranged p) (v : View) (sh : Shaped p v) (st : State) (
           go (no n) = ap (λ (c : Bool). not c || eqb j i) (free-is su j ∙ ap (λ (x : ℕ). eqb x 0) (sym (begin-filled-other su ls i hi j n)) ∙ sym (free-is (beginStripe su i) j))
 
   module _ (nf : hasFilling p st ≡ false) (nw : mustWait p st ≡ false) where
+    abbrev x₁ : Bool
+    x₁ = leb slotCount (length (inFlight st))
+
+    abbrev x₂ : Bool
+    x₂ = mustOpen p st && not (isNil (inFlight st))
+
+    abbrev x₃ : Bool
+    x₃ = not (mustOpen p st) && any (otherGroup p st) (inFlight st)
+
     wait-parts : (leb slotCount (length (inFlight st)) ≡ false) × (mustOpen p st && not (isNil (inFlight st)) ≡ false)
-    wait-parts =
-        let x = leb slotCount (length (inFlight st)) in
-        let y = mustOpen p st && not (isNil (inFlight st)) in
-        let z = not (mustOpen p st) && any (otherGroup p st) (inFlight st) in
-        let q1 = or-left (x || y) z inner in
-        (or-left x y q1, or-right x y q1)
+    wait-parts = let q = or-left (x₁ || x₂) x₃ (sym (ap (λ (c : Bool). not c && (x₁ || x₂ || x₃)) nf) ∙ as!) in (or-left x₁ x₂ q, or-right x₁ x₂ q)
       where
-        inner : leb slotCount (length (inFlight st)) || (mustOpen p st && not (isNil (inFlight st))) || (not (mustOpen p st) && any (otherGroup p st) (inFlight st)) ≡ false
-        inner = sym (ap (λ (c : Bool). not c && (leb slotCount (length (inFlight st)) || (mustOpen p st && not (isNil (inFlight st))) || (not (mustOpen p st) && any (otherGroup p st) (inFlight st)))) nf)
-            ∙ (unfold mustWait in nw)
+        as! : not (hasFilling p st) && (x₁ || x₂ || x₃) ≡ false
+        as! = unfold mustWait in nw
 
     free! : (freeSlot st < 8) × (flies st (freeSlot st) ≡ false)
     free! = free-slot st (few (wait-parts .0))
@@ -188,7 +196,7 @@ module _ (p : Params) (r : Ranged p) (v : View) (sh : Shaped p v) (st : State) (
     begins-stripe mo =
         subst (λ (x : Sending). Leaves x) (sym (sent-is mo))
         (unstored (beginStripe st (freeSlot st)) (freeSlot st)
-        (begins-in v st ws (h .lists) (freeSlot st) (free! .0) (free! .1) (λ j hj fj. let (z, e) = opened-at j hj fj in h .opens-at z e .flight j hj fj .begun) flock))
+        (begins-in v st ws (h .lists) (freeSlot st) (free! .0) (free! .1) (λ j hj fj. let (z, e) = open-of p v st h j hj fj in h .opens-at z e .flight j hj fj .begun) flock))
       where
         sent-is : mustOpen p st ≡ false → sent ≡ sentAs [] (beginStripe st (freeSlot st)) (freeSlot st)
         sent-is mo = unfold sending slotFor begunBy openedBy opens placed in rw (nf, mo)

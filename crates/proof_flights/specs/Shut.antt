@@ -1,6 +1,6 @@
 -- Closings: each open position of the filling stripe takes padding, as a position that fills. Assumes nothing.
 use mathlib.Core.Path.{_≡_, refl, sym, ap, _∙_, subst}
-use mathlib.Core.List.{List, [], _∷_, _++_, append-nil}
+use mathlib.Core.List.{List, [], _∷_, _++_}
 use mathlib.Core.Bool.{true, false, cond, not, _&&_, _||_}
 use mathlib.Core.Logic.{inl}
 use Prim.Native.Nat.{ℕ, zero, suc, _+_, _-_, _≤_, _<_}
@@ -13,15 +13,14 @@ use Rattle.defs.specs.declared.State.{State}
 use Rattle.defs.specs.declared.Answer.{Answer}
 use Rattle.defs.specs.declared.Answer.the-variants.{Closed}
 use Rattle.defs.specs.Answers.{kind, isCut}
-use Rattle.defs.specs.Calls.{Check, After}
+use Rattle.defs.specs.Calls.{Check}
 use Rattle.defs.specs.Calls.Check.{rule, zones}
 use Rattle.defs.specs.Closing.{padded, closeChecks, closePlan, closeVerdict}
 use Rattle.defs.specs.Counts.{paddingAddress}
 use Rattle.defs.specs.Drives.{View, Disk, storeDisk, storeAll}
 use Rattle.defs.specs.Engine.{storeCount, lentBlock, verdict, lentOk, callOn, callDisk}
 use Rattle.defs.specs.Engine.Call.{close}
-use Rattle.defs.specs.Layout.{dataDrive}
-use Rattle.defs.specs.Lists.{consIf, isNil}
+use Rattle.defs.specs.Lists.{isNil}
 use Rattle.defs.specs.Memory.{Memory, mkMemory, stripeIn, filledIn, fillingSlot, hasFilling, stateFaults, addEntry}
 use Rattle.defs.specs.Params.{dataCount, inRange, inflightLen}
 use Rattle.defs.specs.Reclaim.{tableFaults, victim, idle}
@@ -33,17 +32,17 @@ use Rattle.tablesay.specs.Checks.{Passes}
 use Rattle.tablesay.specs.Filling.{placed-long}
 use Rattle.tablesay.specs.Going.{buffer-long}
 use Rattle.tablesay.specs.Idle.{state-of}
-use Rattle.tablesay.specs.Outcomes.{Ended, ended, refusal-kind, cut-cut}
-use Rattle.tablesay.specs.Outcomes.Ended.{ended-refused, ended-done, ended-cut}
+use Rattle.tablesay.specs.Outcomes.{ended}
 use Rattle.tablesay.specs.Run.{flies, Lists, Run}
 use Rattle.tablesay.specs.Sending.{filling-slot}
 use Rattle.tablesay.specs.Slots.{add-filled, add-number, add-lists}
-use Rattle.tablesay.specs.Tests.{clash, or-left}
+use Rattle.tablesay.specs.Tests.{or-left}
 use Rattle.views.specs.Views.{seen}
-use Rattle.proof_flights.specs.Flocks.{Flock, flock-of, of-flock, flock-busy, flock-add, flies-stay}
+use Rattle.proof_flights.specs.Eighths.{freshly}
+use Rattle.proof_flights.specs.Flocks.{Flock, open-of, none-more, flock-of, of-flock, flock-busy, flock-add, flies-stay}
 use Rattle.proof_flights.specs.Flown.{Flown}
-use Rattle.proof_flights.specs.Idled.{Quiet, pending-quiet, quiet-kind, quiet-refused, flown-still}
-use Rattle.proof_flights.specs.Written.{well-of, parity-none, flown-of, flown-after}
+use Rattle.proof_flights.specs.Idled.{Quiet, pending-quiet, quiet-kind, flown-as, flown-ended}
+use Rattle.proof_flights.specs.Written.{well-of, parity-none, flown-of}
 
 -- ---- positions filled with padding
 
@@ -59,13 +58,8 @@ module _ (p : Params) (r : Ranged p) (v : View) (ws : List Pending) (i : ℕ) (h
       let sw = addEntry su i paddingAddress 0 0 in
       let fl′ = placed p su fl i paddingAddress 0 0 b .inflight in
       let o₁ = flock-add p r v su ls fl l ws (flies su) i hi fi paddingAddress 0 0 b (length-replicate (p .B) 0) room (inl refl) al o in
-      flock-busy p v sw fl′ ws (flies su) (flies sw) (λ j hj. flies-stay su ls i hi fi paddingAddress 0 0 j) (subst (λ (x : List Pending). Flock p v sw fl′ x (flies su)) (same (new su b)) o₁)
-    where
-      new : State → List ℕ → Pending
-      new su b = record { stripe = stripeIn su i; drive = dataDrive p (stripeIn su i) (filledIn su i); address = paddingAddress; stamp = 0; block = b }
-
-      same : (x : Pending) → ws ++ consIf (eqb 0 1) x [] ≡ ws
-      same x = unfold consIf in append-nil ws
+      flock-busy p v sw fl′ ws (flies su) (flies sw) (λ j hj. flies-stay su ls i hi fi paddingAddress 0 0 j)
+      (subst (λ (x : List Pending). Flock p v sw fl′ x (flies su)) (none-more ws (freshly p su i paddingAddress 0 b)) o₁)
 
   pads : (x : ℕ) (su : State) (fl : List ℕ) → Lists su → length fl ≡ inflightLen p → flies su i ≡ true → filledIn su i + x ≤ dataCount p → Alone su → Flock p v su fl ws (flies su)
       → Flock p v (padded p i x su fl .state) (padded p i x su fl .inflight) ws (flies (padded p i x su fl .state))
@@ -113,20 +107,13 @@ module _ (p : Params) (k : Disk) (m : Memory) (u : Run p k m) (ws : List Pending
       let q = padded p i x st (m .inflight) in
       let h = we .healthy in
       let o = pads p rg v ws i hi x st (m .inflight) (h .lists) (buffer-long p k m u we) fi (omega arith)
-      (λ j hj fj e. let (z, op) = opened-at i hi fi (λ s. h .shut s i hi) in h .opens-at z op .once j i hj hi fj fi (sym e))
+      (λ j hj fj e. let (z, op) = open-of p v st h i hi fi in h .opens-at z op .once j i hj hi fj fi (sym e))
       (flock-of p v st (m .inflight) ws h so (f .flights (we .none-missing))) in
-      flown-after p k (mkMemory (q .state) (m .addresses) (m .compact) (q .inflight)) _ ws old _ _ stores-are memory-is
+      flown-as p k (mkMemory (q .state) (m .addresses) (m .compact) (q .inflight)) _ ws old _ _ stores-are memory-is
       (ap (λ (y : Answer). pendingAfter (close n) y ws) answer-is ∙ pending-quiet (close n) (Closed (stripeIn st i)) ws (quiet-closed (stripeIn st i)))
       (flown-of p k (mkMemory (q .state) (m .addresses) (m .compact) (q .inflight)) ws old v refl (pads-missing p rg v ws i hi x st (m .inflight) ∙ we .none-missing)
       (of-flock p v (q .state) (q .inflight) ws o) (parity-none p k m ws old f (we .none-missing)))
     where
-      opened-at : (i : ℕ) → i < 8 → flies st i ≡ true → (st .opened ≡ 0 → flies st i ≡ false) → (z : ℕ) × (st .opened ≡ suc z)
-      opened-at i hi fi s = go (st .opened) refl
-        where
-          go : (n : ℕ) → st .opened ≡ n → (z : ℕ) × (st .opened ≡ suc z)
-          go zero e = clash fi (s e)
-          go (suc z) e = (z, e)
-
       stores-are : storeAll (storeDisk p) (closePlan p m .stores) k ≡ k
       stores-are = unfold closePlan storeAll in refl
 
@@ -144,9 +131,4 @@ module _ (p : Params) (k : Disk) (m : Memory) (u : Run p k m) (ws : List Pending
   pub flown-close : isCut (callDisk p k m (close n) .answer) ≡ false
       → Flown p (callDisk p k m (close n) .drives) (callDisk p k m (close n) .memory) (pendingAfter (close n) (callDisk p k m (close n) .answer) ws) old
   unfolding callDisk callOn verdict storeCount lentBlock closeVerdict closeChecks
-  flown-close nc = go _ nc (ended p k m checks (closePlan p m) n [])
-    where
-      go : (r : After Disk) → isCut (r .answer) ≡ false → Ended p k m checks (closePlan p m) r → Flown p (r .drives) (r .memory) (pendingAfter (close n) (r .answer) ws) old
-      go r nc (ended-refused x e g h i) = flown-still p k m ws old f (close n) r h i (subst (λ (y : Answer). Quiet y) (sym g) (quiet-refused x (refusal-kind checks x e)))
-      go r nc (ended-done c g h i) = flown-after p _ _ _ _ old (r .drives) (r .memory) h i (ap (λ (x : Answer). pendingAfter (close n) x ws) g) (done c)
-      go r nc (ended-cut c g) = clash (ap isCut g ∙ cut-cut) nc
+  flown-close nc = flown-ended p k m ws old f (close n) checks (closePlan p m) _ done nc (ended p k m checks (closePlan p m) n [])
