@@ -1,0 +1,5 @@
+pub mod Numbers
+pub mod Groups
+pub mod Zone
+pub mod Segment
+pub mod Accepted
