@@ -3,3 +3,5 @@ pub mod Groups
 pub mod Zone
 pub mod Segment
 pub mod Accepted
+pub mod Alike
+pub mod Said
