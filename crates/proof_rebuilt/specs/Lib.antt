@@ -5,3 +5,4 @@ pub mod Segment
 pub mod Accepted
 pub mod Alike
 pub mod Said
+pub mod Theorem
