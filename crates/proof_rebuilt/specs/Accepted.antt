@@ -1,58 +1,56 @@
--- After a rebuild the same segments remain with none missing, and a restart finds nothing wrong: fault by fault, on the rebuilt drive and on the others.
+-- After a rebuild the same segments remain with none missing, and a restart finds nothing wrong: fault by fault, on the rebuilt drive and on the others. Assumes nothing.
 use mathlib.Core.Path.{_≡_, refl, sym, ap, ap₂, _∙_, subst}
 use mathlib.Core.List.{List, [], _∷_, map}
 use mathlib.Core.Bool.{Bool, true, false, not, _&&_, _||_}
-use Prim.Native.Nat.{ℕ, zero, suc, _+_, _≤_, _<_}
+use Prim.Native.Nat.{ℕ, suc, _+_, _≤_, _<_}
 use native.Mathlib.Nat.{zero-add, add-zero}
-use native.Mathlib.Decide.{ℕ-discrete}
-use borrow.Author.Tests.{lt-ltb, le-ltb, eq-eqb, ne-eqb, eqb-false, not-true, not-false}
+use borrow.Author.Tests.{lt-ltb, le-ltb, eq-eqb, ne-eqb, not-true}
 use native.Mathlib.Omega.{arith}
 use lib.Dec.{leb, ltb, eqb}
-use lib.ListN.{length, getD, take, drop, length-map}
+use lib.ListN.{length, getD, length-map}
 use Rattle.defs.specs.declared.Params.{Params}
 use Rattle.defs.specs.Drives.{mkChunk, noChunk, Zone, noZone, View, zoneAt, pointerAt, segmentNumbers, zoneOn, blocksOf, footersOf, zeroSpare}
-use Rattle.defs.specs.Faults.{pointerFaults, sameChunk, headerFault, serialFault, outside, twice, stripeFault, badRec, storedBad, decodedBad, addressFault, footersStored, sameBlocks, footerFaultIn, footerFault, clashes, segmentFault, segmentFaults}
+use Rattle.defs.specs.Faults.{pointerFaults, sameChunk, headerFault, serialFault, outside, twice, stripeFault, badRec, storedBad, decodedBad, addressFault, footersStored, sameBlocks, footerFaultIn}
+use Rattle.defs.specs.Faults.{footerFault, clashes, segmentFault, segmentFaults}
 use Rattle.defs.specs.Layout.{isData, group, inGroupOf, headerBlock, headerSerial, headerCopied, Rec, mkRec}
 use Rattle.defs.specs.Lists.{upFrom, below, all, any, keep, sameList, tally, isIn}
-use Rattle.defs.specs.Params.{footers, capacity, named, drivesOf, present, absent}
+use Rattle.defs.specs.Params.{capacity, named, drivesOf, present, absent}
 use Rattle.defs.specs.Segments.{lowDrive, headerAt, leftBy1, isCopy, remaining, Segment, segmentOf, segments, recsOn, counts, counted, recOf, unsealed}
 use Rattle.laws.specs.Geometry.{Ranged}
 use Rattle.laws.specs.Mask.{isIn-empty}
 use Rattle.laws.specs.Ranges.{Test, test, and-left, and-right, and-both, map-map, getD-map, sameList-refl}
 use Rattle.laws.specs.Ranges.Test.{yes!, no! }
 use Rattle.tablesay.specs.Accept.{Accepted, pointer-ok, faults-apart}
-use Rattle.tablesay.specs.Counting.{Different}
 use Rattle.tablesay.specs.Frame.{any-map}
-use Rattle.tablesay.specs.Losing.{named-in}
-use Rattle.tablesay.specs.Members.{In, map-in, in-map, in-keep, keep-in, all-in, in-all, none-in, in-none, any-in, in-any, keep-cong, map-cong, keep-nothing, keep-map, in-below, below-in, in-getD, getD-in}
+use Rattle.tablesay.specs.Members.{In, map-in, in-keep, keep-in, all-in, in-all, none-in, in-none, any-in, in-any, keep-cong, map-cong, keep-nothing, keep-map, in-below, below-in, in-getD, getD-in}
 use Rattle.tablesay.specs.Rebuilding.{counted-low, counted-in}
 use Rattle.tablesay.specs.Segs.{present-in, in-present, remaining-low, zone-by, seg-is, serial-is, copied-is}
 use Rattle.tablesay.specs.Settled.{present-all, low-first}
 use Rattle.tablesay.specs.Tables.{remains, remaining-is, in-remaining, remaining-in}
 use Rattle.tablesay.specs.Tests.{clash, and-false-left, and-false-right, or-neither, or-left, or-right, not-so, same-test}
-use Rattle.tablesay.specs.Zones.{Shaped}
 use Rattle.proof_rebuilt.specs.Groups.{rank-group}
 use Rattle.proof_rebuilt.specs.Numbers.{rank-of}
 use Rattle.proof_rebuilt.specs.Segment.{decoded-stripe, same-full, recs-rebuilt, recs-other, header-of, head-serial, head-copied, same-serial, same-copied}
-use Rattle.proof_rebuilt.specs.Zone.{rebuiltView, other-here, zone-other, zone-dropped, rebuilt-low, rebuilt-open, rebuilt-some}
+use Rattle.proof_rebuilt.specs.Zone.{rebuiltView, Loss, lost, by-drive, zone-other, zone-dropped, rebuilt-low, rebuilt-open, rebuilt-some}
 
-module _ (p : Params) (r : Ranged p) (v : View) (sh : Shaped p v) (d : ℕ) (hd : d < p .N) (acc : Accepted p v (named d)) where
+module _ (p : Params) (v : View) (d : ℕ) (lo : Loss p v d) where
+  abbrev r : Ranged p
+  r = lo .ranged
+
+  abbrev hd : d < p .N
+  hd = lo .drive-low
+
+  abbrev acc : Accepted p v (named d)
+  acc = lo .accepts
+
   abbrev gone : ℕ
   gone = named d
 
   abbrev u : View
   u = rebuiltView p v d
 
-  -- each drive is the rebuilt one or as it was
-  by-drive : {P : ℕ → Type 0} → P d → ((e : ℕ) → e < p .N → isIn gone e ≡ false → P e) → (e : ℕ) → e < p .N → P e
-  by-drive {P} a f e he = go (ℕ-discrete e d)
-    where
-      go : Dec (e ≡ d) → P e
-      go (yes q) = subst P (sym q) a
-      go (no q) = f e he (other-here p r d hd e he q)
-
   same-zone : (e z : ℕ) → e < p .N → z < p .Z → isIn gone e ≡ false → zoneAt u e z ≡ zoneAt v e z
-  same-zone e z he hz pr = zone-other p r v sh d hd e z he hz pr
+  same-zone e z he hz pr = zone-other p v d lo e z he hz pr
 
   -- ---- what remains
 
@@ -65,7 +63,7 @@ module _ (p : Params) (r : Ranged p) (v : View) (sh : Shaped p v) (d : ℕ) (hd 
     where
       go : Test (remains p v gone z) → remains p v gone z ≡ true
       go (yes! h) = h
-      go (no! h) = clash (eq-eqb (pointerAt u d z) 0 (zone-dropped p r v sh d hd z hz h)) (not-true (eqb (pointerAt u d z) 0) q)
+      go (no! h) = clash (eq-eqb (pointerAt u d z) 0 (zone-dropped p v d lo z hz h)) (not-true (eqb (pointerAt u d z) 0) q)
 
   left-remains : (z : ℕ) → In z (leftBy1 p u 0) → In z (remaining p v gone)
   unfolding leftBy1 segmentNumbers zoneOn
@@ -88,8 +86,8 @@ module _ (p : Params) (r : Ranged p) (v : View) (sh : Shaped p v) (d : ℕ) (hd 
   filled-all z m =
       let (hz, rm) = remaining-in p v gone z m in
       in-all (filled u z) (present p 0)
-      (λ e i. by-drive {P = λ e. filled u z e ≡ true}
-      (ap not (ne-eqb (pointerAt u d z) 0 (λ q. let a = rebuilt-some p r v sh d hd z hz rm in let b = pointer-zone u d z in let bad : ⊥ = omega arith in bad)))
+      (λ e i. by-drive p v d lo {P = λ e. filled u z e ≡ true}
+      (ap not (ne-eqb (pointerAt u d z) 0 (λ q. let a = rebuilt-some p v d lo z hz rm in let b = pointer-zone u d z in let bad : ⊥ = omega arith in bad)))
       (λ e he pr. ap (λ (n : ℕ). not (eqb n 0)) (pointer-zone u e z ∙ ap (λ (q : Zone). q .pointer) (same-zone e z he hz pr) ∙ sym (pointer-zone v e z))
       ∙ all-in (filled v z) (present p gone) (was rm) e (in-present p gone e he pr))
       e (present-in p 0 e i .0))
@@ -107,10 +105,11 @@ module _ (p : Params) (r : Ranged p) (v : View) (sh : Shaped p v) (d : ℕ) (hd 
       let cv = headerCopied (headerAt v k z) in
       let fu : ℕ → Bool = λ h. not (eqb h z) && eqb (headerSerial (headerAt u l h)) cu in
       let fv : ℕ → Bool = λ h. not (eqb h z) && eqb (headerSerial (headerAt v k h)) cv in
-      let ec : cu ≡ cv = ap (λ (e : ℕ). headerCopied (headerAt u e z)) (low-first p r) ∙ head-copied p r v sh d hd acc z m ∙ copied-is p v gone z in
+      let ec : cu ≡ cv = ap (λ (e : ℕ). headerCopied (headerAt u e z)) (low-first p r) ∙ head-copied p v d lo z m ∙ copied-is p v gone z in
       let (h, i, t) = any-in fu (leftBy1 p u 0) (and-right (not (eqb cu 0)) (any fu (leftBy1 p u 0)) q) in
       let n = left-remains h i in
-      let es : headerSerial (headerAt u l h) ≡ headerSerial (headerAt v k h) = ap (λ (e : ℕ). headerSerial (headerAt u e h)) (low-first p r) ∙ head-serial p r v sh d hd acc h n ∙ serial-is p v gone h in
+      let es : headerSerial (headerAt u l h) ≡ headerSerial (headerAt v k h) =
+      ap (λ (e : ℕ). headerSerial (headerAt u e h)) (low-first p r) ∙ head-serial p v d lo h n ∙ serial-is p v gone h in
       clash (and-both (not (eqb cv 0)) (any fv (leftBy1 p v gone)) (ap (λ (c : ℕ). not (eqb c 0)) (sym ec) ∙ and-left (not (eqb cu 0)) (any fu (leftBy1 p u 0)) q)
       (in-any fv (leftBy1 p v gone) h (remaining-left h n .0) (ap₂ (λ (a b : ℕ). not (eqb h z) && eqb a b) (sym es) (sym ec) ∙ t)))
       (remaining-left z m .1))
@@ -136,13 +135,13 @@ module _ (p : Params) (r : Ranged p) (v : View) (sh : Shaped p v) (d : ℕ) (hd 
       let hz = below-in (p .Z) z i in
       in-none (λ e. ltb (capacity p) (pointerAt u e z)) (present p 0)
       (λ e j. le-ltb (capacity p) (pointerAt u e z) (subst (λ (n : ℕ). n ≤ capacity p) (sym (pointer-zone u e z))
-      (by-drive {P = λ e. zoneAt u e z .pointer ≤ capacity p} (here z hz (test (remains p v gone z)))
+      (by-drive p v d lo {P = λ e. zoneAt u e z .pointer ≤ capacity p} (here z hz (test (remains p v gone z)))
       (λ e he pr. subst (λ (q : Zone). q .pointer ≤ capacity p) (sym (same-zone e z he hz pr)) (subst (λ (n : ℕ). n ≤ capacity p) (pointer-zone v e z) (pointer-ok p v gone acc e z he hz pr)))
       e (present-in p 0 e j .0)))))
     where
       here : (z : ℕ) → z < p .Z → Test (remains p v gone z) → zoneAt u d z .pointer ≤ capacity p
-      here z hz (yes! q) = rebuilt-low p r v sh d hd z hz q
-      here z hz (no! q) = let a = zone-dropped p r v sh d hd z hz q in let b = pointer-zone u d z in omega arith
+      here z hz (yes! q) = rebuilt-low p v d lo z hz q
+      here z hz (no! q) = let a = zone-dropped p v d lo z hz q in let b = pointer-zone u d z in omega arith
 
   -- ---- serials and unsealed segments: by number, serials and sealed or not
 
@@ -163,9 +162,9 @@ module _ (p : Params) (r : Ranged p) (v : View) (sh : Shaped p v) (d : ℕ) (hd 
   unfolding head
   same-head g m =
       let e1 = seg-is p u 0 g ∙ sym (seg-is p v gone g) in
-      let e2 = same-serial p r v sh d hd acc g m in
-      let e3 = same-copied p r v sh d hd acc g m in
-      let e4 = same-full p r v sh d hd acc g m in
+      let e2 = same-serial p v d lo g m in
+      let e3 = same-copied p v d lo g m in
+      let e4 = same-full p v d lo g m in
       λ i. record { seg = e1 i; serial = e2 i; copied = e3 i; full = e4 i; zonesBy = []; recs = [] }
 
   same-heads : map head (segments p u 0) ≡ map head (segments p v gone)
@@ -190,7 +189,7 @@ module _ (p : Params) (r : Ranged p) (v : View) (sh : Shaped p v) (d : ℕ) (hd 
 
     -- a test of each drive
     none-of : (f : ℕ → Bool) → f d ≡ false → ((e : ℕ) → e < p .N → isIn gone e ≡ false → f e ≡ false) → any f (present p 0) ≡ false
-    none-of f a h = in-none f (present p 0) (λ e i. by-drive {P = λ e. f e ≡ false} a h e (present-in p 0 e i .0))
+    none-of f a h = in-none f (present p 0) (λ e i. by-drive p v d lo {P = λ e. f e ≡ false} a h e (present-in p 0 e i .0))
 
     no-header-fault : headerFault p 0 y ≡ false
     unfolding headerFault zoneOn
@@ -198,7 +197,7 @@ module _ (p : Params) (r : Ranged p) (v : View) (sh : Shaped p v) (d : ℕ) (hd 
         (λ e i.
         let he = present-in p 0 e i .0 in
         let t : sameChunk (getD (getD (y .zonesBy) e noZone .blocks) 0 noChunk) (headerBlock p e (y .seg) (y .serial) (y .copied)) zeroSpare ≡ true =
-        rw (zone-by p u 0 g e he, header-of p r v sh d hd acc g m e he, seg-is p u 0 g, same-serial p r v sh d hd acc g m, same-copied p r v sh d hd acc g m)
+        rw (zone-by p u 0 g e he, header-of p v d lo g m e he, seg-is p u 0 g, same-serial p v d lo g m, same-copied p v d lo g m)
         (fine (headerBlock p e g (x .serial) (x .copied))) in
         ap not t)
       where
@@ -217,7 +216,7 @@ module _ (p : Params) (r : Ranged p) (v : View) (sh : Shaped p v) (d : ℕ) (hd 
     made = map (λ s. recOf p gone x s d) ss
 
     made-stripe : (j : ℕ) → j < length ss → getD made j (mkRec 0 0 0) .stripe ≡ getD ss j 0
-    made-stripe j h = ap (λ (b : Rec). b .stripe) (getD-map (λ s. recOf p gone x s d) ss j (mkRec 0 0 0) 0 h) ∙ decoded-stripe p r v sh d hd acc g m (getD ss j 0)
+    made-stripe j h = ap (λ (b : Rec). b .stripe) (getD-map (λ s. recOf p gone x s d) ss j (mkRec 0 0 0) 0 h) ∙ decoded-stripe p v d lo g m (getD ss j 0)
 
     made-long : length made ≡ length ss
     made-long = length-map ss (λ s. recOf p gone x s d)
@@ -255,14 +254,14 @@ module _ (p : Params) (r : Ranged p) (v : View) (sh : Shaped p v) (d : ℕ) (hd 
     no-stripe-fault : stripeFault p 0 y ≡ false
     unfolding stripeFault
     no-stripe-fault = none-of (λ e. outside p 0 (recsOn y e) || twice (recsOn y e))
-        (ap (λ (l : List Rec). outside p 0 l || twice l) (recs-rebuilt p r v sh d hd acc g m)
+        (ap (λ (l : List Rec). outside p 0 l || twice l) (recs-rebuilt p v d lo g m)
         ∙ or-neither (outside p 0 made) (twice made)
         (none-outside 0 made (λ i h. let h2 : i < length ss = subst (λ (n : ℕ). i < n) made-long h in ap₂ (λ (a b : ℕ). inGroupOf p a b) (zero-add i) (made-stripe i h2) ∙ in-group i h2))
         (none-twice made (λ i j a b e.
         let ha : i < length ss = subst (λ (n : ℕ). i < n) made-long a in
         let hb : j < length ss = subst (λ (n : ℕ). j < n) made-long b in
         sym (place-in i ha) ∙ ap (λ (s : ℕ). tally (counts p gone x) (below s)) (sym (made-stripe i ha) ∙ e ∙ made-stripe j hb) ∙ place-in j hb)))
-        (λ e he pr. ap (λ (l : List Rec). outside p 0 l || twice l) (recs-other p r v sh d hd acc g m e he pr)
+        (λ e he pr. ap (λ (l : List Rec). outside p 0 l || twice l) (recs-other p v d lo g m e he pr)
         ∙ none-in (λ e. outside p 0 (recsOn x e) || twice (recsOn x e)) (present p gone) (faults-apart p v gone acc g m .no-stripe-fault) e (in-present p gone e he pr))
 
     -- ---- addresses
@@ -273,14 +272,15 @@ module _ (p : Params) (r : Ranged p) (v : View) (sh : Shaped p v) (d : ℕ) (hd 
         let fa : Bool = any (λ e. any (storedBad p e) (recsOn x e)) (present p gone) in
         let fb : Bool = any (λ e. any (decodedBad p gone x e) ss) (absent p gone) in
         let q : fa || fb ≡ false = faults-apart p v gone acc g m .no-address-fault in
+        let qd = none-in (λ e. any (decodedBad p gone x e) ss) (absent p gone) (or-right fa fb q) d gone-in in
         or-neither (any (λ e. any (storedBad p e) (recsOn y e)) (present p 0)) (any (λ e. any (decodedBad p 0 y e) (counted p 0 y)) (absent p 0))
         (none-of (λ e. any (storedBad p e) (recsOn y e))
-        (ap (any (storedBad p d)) (recs-rebuilt p r v sh d hd acc g m) ∙ in-none (storedBad p d) made (λ b i. fine b i (none-in (λ e. any (decodedBad p gone x e) ss) (absent p gone) (or-right fa fb q) d gone-in)))
-        (λ e he pr. ap (any (storedBad p e)) (recs-other p r v sh d hd acc g m e he pr) ∙ none-in (λ e. any (storedBad p e) (recsOn x e)) (present p gone) (or-left fa fb q) e (in-present p gone e he pr)))
+        (ap (any (storedBad p d)) (recs-rebuilt p v d lo g m) ∙ in-none (storedBad p d) made (λ b i. fine b i qd))
+        (λ e he pr. ap (any (storedBad p e)) (recs-other p v d lo g m e he pr) ∙ none-in (λ e. any (storedBad p e) (recsOn x e)) (present p gone) (or-left fa fb q) e (in-present p gone e he pr)))
         (in-none (λ e. any (decodedBad p 0 y e) (counted p 0 y)) (absent p 0) (λ e i. absurd (gone-none e i)))
       where
         gone-in : In d (absent p gone)
-        gone-in = unfold absent drivesOf in in-keep (isIn gone) (below (p .N)) d (in-below (p .N) d hd) (named-in p r d hd)
+        gone-in = unfold absent drivesOf in in-keep (isIn gone) (below (p .N)) d (in-below (p .N) d hd) (lost p v d lo)
 
         gone-none : (e : ℕ) → In e (absent p 0) → ⊥
         gone-none e i = clash (off e i) (isIn-empty e)
@@ -292,7 +292,7 @@ module _ (p : Params) (r : Ranged p) (v : View) (sh : Shaped p v) (d : ℕ) (hd 
         fine b i q = let (s, j, e) = map-in (λ s. recOf p gone x s d) ss b i in ap (storedBad p d) e ∙ stored! s ∙ none-in (decodedBad p gone x d) ss q s j
           where
             stored! : (s : ℕ) → storedBad p d (recOf p gone x s d) ≡ decodedBad p gone x d s
-            stored! s = unfold storedBad decodedBad in ap (λ (n : ℕ). isData p n d && badRec p (recOf p gone x s d)) (decoded-stripe p r v sh d hd acc g m s)
+            stored! s = unfold storedBad decodedBad in ap (λ (n : ℕ). isData p n d && badRec p (recOf p gone x s d)) (decoded-stripe p v d lo g m s)
 
     -- ---- footers of an unsealed segment
 
@@ -301,20 +301,17 @@ module _ (p : Params) (r : Ranged p) (v : View) (sh : Shaped p v) (d : ℕ) (hd 
     no-footer-fault = go (test (x .full))
       where
         few : (q : Zone) → q .pointer ≤ suc (p .S) → footerFaultIn p q ≡ false
-        few q h = nothing (footersStored p q) zero!
+        few q h = unfold footerFaultIn in rw zero! (unfold sameBlocks blocksOf footersOf upFrom in refl)
           where
             zero! : footersStored p q ≡ 0
             zero! = unfold footersStored in omega arith
 
-            nothing : (n : ℕ) → n ≡ 0 → footerFaultIn p q ≡ false
-            nothing n e = unfold footerFaultIn in rw zero! (unfold sameBlocks blocksOf footersOf upFrom in refl)
-
         go : Test (x .full) → not (y .full) && any (λ e. footerFaultIn p (getD (y .zonesBy) e noZone)) (present p 0) ≡ false
-        go (yes! q) = and-false-left (not (y .full)) (any (λ e. footerFaultIn p (getD (y .zonesBy) e noZone)) (present p 0)) (ap not (same-full p r v sh d hd acc g m ∙ q))
+        go (yes! q) = and-false-left (not (y .full)) (any (λ e. footerFaultIn p (getD (y .zonesBy) e noZone)) (present p 0)) (ap not (same-full p v d lo g m ∙ q))
         go (no! q) = and-false-right (not (y .full)) (any (λ e. footerFaultIn p (getD (y .zonesBy) e noZone)) (present p 0))
             (none-of (λ e. footerFaultIn p (getD (y .zonesBy) e noZone))
             (ap (footerFaultIn p) (zone-by p u 0 g d hd)
-            ∙ few (zoneAt u d g) (let a = rebuilt-open p r v sh d hd g hg (remaining-in p v gone g m .1) q in let b = counted-low p gone x in omega arith))
+            ∙ few (zoneAt u d g) (let a = rebuilt-open p v d lo g hg (remaining-in p v gone g m .1) q in let b = counted-low p gone x in omega arith))
             (λ e he pr. ap (footerFaultIn p) (zone-by p u 0 g e he ∙ same-zone e g he hg pr ∙ sym (zone-by p v gone g e he))
             ∙ none-in (λ e. footerFaultIn p (getD (x .zonesBy) e noZone)) (present p gone) (were q) e (in-present p gone e he pr)))
           where
@@ -334,7 +331,11 @@ module _ (p : Params) (r : Ranged p) (v : View) (sh : Shaped p v) (d : ℕ) (hd 
         let f4 = addressFault p 0 y in
         let f5 = footerFault p 0 y in
         let f6 = clashes (segments p u 0) y in
-        or-neither (f1 || f2 || f3 || f4 || f5) f6 (or-neither (f1 || f2 || f3 || f4) f5 (or-neither (f1 || f2 || f3) f4 (or-neither (f1 || f2) f3 (or-neither f1 f2 no-header-fault no-serial-fault) no-stripe-fault) no-address-fault) no-footer-fault) no-clash
+        let q2 = or-neither f1 f2 no-header-fault no-serial-fault in
+        let q3 = or-neither (f1 || f2) f3 q2 no-stripe-fault in
+        let q4 = or-neither (f1 || f2 || f3) f4 q3 no-address-fault in
+        let q5 = or-neither (f1 || f2 || f3 || f4) f5 q4 no-footer-fault in
+        or-neither (f1 || f2 || f3 || f4 || f5) f6 q5 no-clash
 
   -- nothing is wrong with none missing
   pub rebuilt-accepted : Accepted p u 0

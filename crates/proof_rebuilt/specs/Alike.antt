@@ -1,5 +1,5 @@
--- Two lists of candidates, one for one alike: the rule picks alike ones, where it puts alike ones in the same order.
-use mathlib.Core.Path.{_≡_, refl, sym, ap, ap₂, _∙_, subst}
+-- Two lists of candidates, one for one alike: the rule picks alike ones, where it puts alike ones in the same order. Assumes nothing.
+use mathlib.Core.Path.{_≡_, refl, ap, _∙_, subst}
 use mathlib.Core.List.{List, [], _∷_, _++_, map}
 use mathlib.Core.Bool.{Bool, true, false, cond, _&&_, _||_}
 use mathlib.Core.Logic.{inl, inr}
@@ -93,7 +93,8 @@ beats-same c e b f s1 s2 r1 r2 d1 d2 h =
     whole er ed o = ltb (b .stamp) (c .stamp) || (eqb (c .stamp) (b .stamp) && (ltb (b .serial) (c .serial) || (er && (ltb (c .drive) (b .drive) || (ed && o)))))
 
     last : Test (eqb (c .serial) (b .serial)) → Test (eqb (c .drive) (b .drive))
-        → whole (eqb (c .serial) (b .serial)) (eqb (c .drive) (b .drive)) (ltb (c .offset) (b .offset)) ≡ whole (eqb (c .serial) (b .serial)) (eqb (c .drive) (b .drive)) (ltb (e .offset) (f .offset))
+        → whole (eqb (c .serial) (b .serial)) (eqb (c .drive) (b .drive)) (ltb (c .offset) (b .offset))
+        ≡ whole (eqb (c .serial) (b .serial)) (eqb (c .drive) (b .drive)) (ltb (e .offset) (f .offset))
     last (no! q) t = rw q
     last (yes! q) (no! t) = rw t
     last (yes! q) (yes! t) = ap (whole (eqb (c .serial) (b .serial)) (eqb (c .drive) (b .drive))) (h (eqb-true (c .serial) (b .serial) q) (eqb-true (c .drive) (b .drive) t))

@@ -1,8 +1,8 @@
--- An accepted image with a drive missing: where a stripe counts, all stripes of the groups before it count, so a counted stripe's place among them is in its group.
+-- An accepted image with a drive missing: where a stripe counts, all stripes of the groups before it count, so a counted stripe's place among them is in its group. Assumes nothing.
 use mathlib.Core.Path.{_≡_, refl, sym, ap, _∙_, subst}
-use mathlib.Core.List.{List, [], map}
+use mathlib.Core.List.{List, map}
 use mathlib.Core.Bool.{Bool, true, false, _&&_}
-use Prim.Native.Nat.{ℕ, suc, _+_, _-_, _*_, _/_, _%_, _≤_, _<_}
+use Prim.Native.Nat.{ℕ, _+_, _-_, _*_, _/_, _%_, _≤_, _<_}
 use native.Mathlib.Nat.{div-add-mod', div-lt-iff-lt-mul, mod-lt}
 use borrow.Author.Tests.{ltb-true, eqb-true}
 use native.Mathlib.Omega.{arith}
@@ -13,7 +13,7 @@ use lib.Arith.{digits-div}
 use Rattle.defs.specs.declared.Params.{Params}
 use Rattle.defs.specs.Drives.{Zone, View, zoneAt, pointerAt, zoneOn, sealedIn, dataStored, recordIn}
 use Rattle.defs.specs.Layout.{group, inGroupOf, Rec, mkRec}
-use Rattle.defs.specs.Lists.{below, keep, tally, isIn}
+use Rattle.defs.specs.Lists.{below, tally, isIn}
 use Rattle.defs.specs.Params.{capacity, present}
 use Rattle.defs.specs.Segments.{remaining, Segment, recordsIn, segmentOf, offsetOn, hasChunk, counts, counted}
 use Rattle.laws.specs.Geometry.{Ranged}
@@ -24,7 +24,7 @@ use Rattle.tablesay.specs.Members.{In, in-all, all-in, keep-all, below-in, getD
 use Rattle.tablesay.specs.Range.{capacity-is}
 use Rattle.tablesay.specs.Reads.{counts-in}
 use Rattle.tablesay.specs.Segs.{present-in, in-present, length-records, record-at, chunk-at, has-chunk}
-use Rattle.proof_rebuilt.specs.Numbers.{rank-low, rank-high, different-take, all-there}
+use Rattle.proof_rebuilt.specs.Numbers.{rank-high, different-take, all-there}
 
 module _ (p : Params) (r : Ranged p) (v : View) (gone : ℕ) (acc : Accepted p v gone) (g : ℕ) (m : In g (remaining p v gone)) where
   abbrev x : Segment
@@ -47,8 +47,10 @@ module _ (p : Params) (r : Ranged p) (v : View) (gone : ℕ) (acc : Accepted p v
     at-group : (o : ℕ) → o < dataStored p q → (at o < p .S) × (group p (at o) ≡ group p o)
     unfolding inGroupOf
     at-group o h =
-        let a : ltb (at o) (p .S) && eqb (group p (at o)) (group p o) ≡ true = in-groups p v gone acc g e o m he pr h in
-        (ltb-true (at o) (p .S) (and-left (ltb (at o) (p .S)) (eqb (group p (at o)) (group p o)) a), eqb-true (group p (at o)) (group p o) (and-right (ltb (at o) (p .S)) (eqb (group p (at o)) (group p o)) a))
+        let f1 = ltb (at o) (p .S) in
+        let f2 = eqb (group p (at o)) (group p o) in
+        let a : f1 && f2 ≡ true = in-groups p v gone acc g e o m he pr h in
+        (ltb-true (at o) (p .S) (and-left f1 f2 a), eqb-true (group p (at o)) (group p o) (and-right f1 f2 a))
 
     -- the first n offsets have all stripes below n, where they have no other
     reach : (n : ℕ) → n ≤ dataStored p q → ((o : ℕ) → o < n → at o < n) → (t : ℕ) → t < n → hasChunk x t e ≡ true

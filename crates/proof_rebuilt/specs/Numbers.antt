@@ -1,5 +1,5 @@
--- Numbers kept from a range stand in rising order, each at the count of those kept below it; different numbers below a bound, as many as it, are all of them.
-use mathlib.Core.Path.{_≡_, refl, sym, ap, _∙_, subst}
+-- Numbers kept from a range stand in rising order, each at the count of those kept below it; different numbers below a bound, as many as it, are all of them. Assumes nothing.
+use mathlib.Core.Path.{_≡_, refl, ap, _∙_}
 use mathlib.Core.List.{List, [], _∷_, _++_}
 use mathlib.Core.Bool.{Bool, true, false}
 use mathlib.Core.Logic.{inl, inr}
@@ -12,7 +12,7 @@ use lib.Dec.{ltb}
 use lib.ListN.{length, getD, take, length-append, List·getD-append}
 use lib.Seq.{getD-append-add}
 use Rattle.defs.specs.Lists.{upFrom, below, isMember, consIf, keep, tally}
-use Rattle.laws.specs.Ranges.{Test, test, upFrom-add, keep-append, keep-hit, keep-none, keep-below-snoc, below-none, length-below, tally-le}
+use Rattle.laws.specs.Ranges.{Test, test, upFrom-add, keep-append, keep-hit, keep-none, keep-below-snoc, below-none, length-below}
 use Rattle.laws.specs.Ranges.Test.{yes!, no! }
 use Rattle.tablesay.specs.Counting.{Different, different-few}
 use Rattle.tablesay.specs.Laid.{in-take}

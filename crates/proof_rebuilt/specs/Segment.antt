@@ -1,13 +1,11 @@
--- A segment that remains, read after the rebuild with none missing: same header, sealed or not as before, the same stripes count, and every chunk of them is the one
--- that was stored or decoded.
+-- A segment that remains, read after the rebuild with none missing: header, sealed or not, and counted stripes are as before, each chunk as stored or decoded. Assumes nothing.
 use mathlib.Core.Path.{_≡_, refl, sym, ap, ap₂, _∙_, subst}
-use mathlib.Core.List.{List, [], _∷_, map}
-use mathlib.Core.Bool.{Bool, true, false, cond, not, _&&_}
+use mathlib.Core.List.{List, [], map}
+use mathlib.Core.Bool.{Bool, true, false, not}
 use mathlib.Core.Logic.{inl}
-use Prim.Native.Nat.{ℕ, suc, _+_, _*_, _/_, _%_, _^_, _≤_, _<_}
+use Prim.Native.Nat.{ℕ, suc, _+_, _*_, _/_, _%_, _^_, _<_}
 use native.Mathlib.Nat.{div-lt-iff-lt-mul}
-use native.Mathlib.Decide.{ℕ-discrete}
-use borrow.Author.Tests.{eq-eqb, ne-eqb, eqb-true, not-false}
+use borrow.Author.Tests.{eq-eqb, ne-eqb, not-false}
 use native.Mathlib.Omega.{arith}
 use lib.Dec.{eqb}
 use lib.ListN.{length, getD, drop, length-map}
@@ -17,31 +15,30 @@ use Rattle.defs.specs.Bytes.{part, xorAll}
 use Rattle.defs.specs.Drives.{Chunk, mkChunk, noChunk, Zone, noZone, View, zoneAt, pointerAt, chunkAt, zoneOn, sealedIn, dataStored, blocksOf, recordIn, zeroSpare}
 use Rattle.defs.specs.Faults.{sameChunk, headerFault}
 use Rattle.defs.specs.Layout.{headerWidths, headerBlock, headerSerial, headerCopied, Rec, mkRec, recordBytes, recordOf, footerBlock, footerRecord}
-use Rattle.defs.specs.Lists.{below, any, keep, indexOf, sameList, tally, isIn}
+use Rattle.defs.specs.Lists.{below, any, indexOf, sameList, tally, isIn}
 use Rattle.defs.specs.Params.{spareLen, perFooter, footers, capacity, named, present}
 use Rattle.defs.specs.Parity.{Piece, parityRec, parityPiece}
 use Rattle.defs.specs.Segments.{lowDrive, headerAt, remaining, Segment, recordsIn, segmentOf, recsOn, offsetOn, hasChunk, counts, counted, storedPiece, pieceOf, storedRec, recOf}
 use Rattle.laws.specs.Geometry.{Ranged, per-footer-low, footers-cover}
 use Rattle.laws.specs.Mask.{isIn-empty}
-use Rattle.laws.specs.Ranges.{Test, test, and-left, and-right, map-map, getD-map, getD-map-below, length-below, sameList-true}
-use Rattle.laws.specs.Ranges.Test.{yes!, no! }
+use Rattle.laws.specs.Ranges.{and-left, and-right, map-map, getD-map, getD-map-below, sameList-true}
 use Rattle.laws.specs.Xor.{xorAll-lt}
 use Rattle.tablesay.specs.Accept.{Accepted, faults-apart}
 use Rattle.tablesay.specs.Bounds.{blocks-at, record-low}
 use Rattle.tablesay.specs.Laid.{length-record, Long, getD-footer, field-low, serial-low, header-serial, header-copied, record-back}
-use Rattle.tablesay.specs.Losing.{named-in, low-present}
-use Rattle.tablesay.specs.Members.{In, map-in, in-map, in-keep, all-in, in-all, none-in, any-in, in-any, all-cong, keep-cong, in-below, below-in, in-getD, getD-in, index-is}
+use Rattle.tablesay.specs.Losing.{low-present}
+use Rattle.tablesay.specs.Members.{In, map-in, in-map, in-keep, all-in, in-all, none-in, in-any, keep-cong, in-below, below-in, in-getD, index-is}
 use Rattle.tablesay.specs.Range.{capacity-is, capacity-over}
 use Rattle.tablesay.specs.Reads.{counts-in}
-use Rattle.tablesay.specs.Rebuilding.{counted-low, counted-in, pieceChunk}
+use Rattle.tablesay.specs.Rebuilding.{counted-in, pieceChunk}
 use Rattle.tablesay.specs.Segs.{present-in, in-present, zone-by, recs-here, seg-is, serial-is, copied-is, full-is, chunk-at, length-records}
 use Rattle.tablesay.specs.Settled.{present-all, low-first}
 use Rattle.tablesay.specs.Tables.{remains, remaining-in}
-use Rattle.tablesay.specs.Tests.{clash, same-test, cond-true, cond-false}
-use Rattle.tablesay.specs.Zones.{Bytes, Shaped}
-use Rattle.proof_rebuilt.specs.Groups.{sealed-all, rankOf}
+use Rattle.tablesay.specs.Tests.{same-test}
+use Rattle.tablesay.specs.Zones.{Bytes}
+use Rattle.proof_rebuilt.specs.Groups.{sealed-all}
 use Rattle.proof_rebuilt.specs.Numbers.{rank-low, rank-at, rank-of}
-use Rattle.proof_rebuilt.specs.Zone.{rebuiltView, other-here, zone-other, rebuilt-open, rebuilt-full, rebuilt-header, rebuilt-piece, rebuilt-foot, rebuilt-stored}
+use Rattle.proof_rebuilt.specs.Zone.{rebuiltView, Loss, lost, by-drive, zone-other, rebuilt-full, rebuilt-header, rebuilt-piece, rebuilt-foot, rebuilt-stored}
 
 -- ---- records that are read back
 
@@ -78,7 +75,16 @@ piece-rec p gone x s d = go (isIn gone d) refl
     go true e = unfold pieceOf recOf parityPiece in rw e (ap (parityRec s) alike)
     go false e = unfold pieceOf recOf storedPiece storedRec in rw e
 
-module _ (p : Params) (r : Ranged p) (v : View) (sh : Shaped p v) (d : ℕ) (hd : d < p .N) (acc : Accepted p v (named d)) (g : ℕ) (m : In g (remaining p v (named d))) where
+module _ (p : Params) (v : View) (d : ℕ) (lo : Loss p v d) (g : ℕ) (m : In g (remaining p v (named d))) where
+  abbrev r : Ranged p
+  r = lo .ranged
+
+  abbrev hd : d < p .N
+  hd = lo .drive-low
+
+  abbrev acc : Accepted p v (named d)
+  acc = lo .accepts
+
   abbrev gone : ℕ
   gone = named d
 
@@ -97,25 +103,14 @@ module _ (p : Params) (r : Ranged p) (v : View) (sh : Shaped p v) (d : ℕ) (hd 
   abbrev ss : List ℕ
   ss = counted p gone x
 
-  lost : isIn gone d ≡ true
-  lost = named-in p r d hd
-
   hg : g < p .Z
   hg = remaining-in p v gone g m .0
 
   rm : remains p v gone g ≡ true
   rm = remaining-in p v gone g m .1
 
-  -- each drive is the rebuilt one or as it was
-  by-drive : {P : ℕ → Type 0} → P d → ((e : ℕ) → e < p .N → isIn gone e ≡ false → P e) → (e : ℕ) → e < p .N → P e
-  by-drive {P} a f e he = go (ℕ-discrete e d)
-    where
-      go : Dec (e ≡ d) → P e
-      go (yes q) = subst P (sym q) a
-      go (no q) = f e he (other-here p r d hd e he q)
-
   same-zone : (e : ℕ) → e < p .N → isIn gone e ≡ false → zoneAt u e g ≡ zoneAt v e g
-  same-zone e he pr = zone-other p r v sh d hd e g he hg pr
+  same-zone e he pr = zone-other p v d lo e g he hg pr
 
   -- ---- sealed or not
 
@@ -126,13 +121,13 @@ module _ (p : Params) (r : Ranged p) (v : View) (sh : Shaped p v) (d : ℕ) (hd 
       (λ e i. let (he, pr) = present-in p gone e i in
       ap (λ (z : Zone). eqb (z .pointer) (capacity p)) (sym (same-zone e he pr)) ∙ all-in (λ e. eqb (zoneAt u e g .pointer) (capacity p)) (present p 0) q e (present-all p e he)))
       (λ q. in-all (λ e. eqb (zoneAt u e g .pointer) (capacity p)) (present p 0)
-      (λ e i. by-drive {P = λ e. eqb (zoneAt u e g .pointer) (capacity p) ≡ true} (here q)
+      (λ e i. by-drive p v d lo {P = λ e. eqb (zoneAt u e g .pointer) (capacity p) ≡ true} (here q)
       (λ e he pr. ap (λ (z : Zone). eqb (z .pointer) (capacity p)) (same-zone e he pr) ∙ all-in (λ e. eqb (zoneAt v e g .pointer) (capacity p)) (present p gone) q e (in-present p gone e he pr))
       e (present-in p 0 e i .0)))
     where
       here : w ≡ true → eqb (zoneAt u d g .pointer) (capacity p) ≡ true
       here q = eq-eqb (zoneAt u d g .pointer) (capacity p)
-          (rebuilt-full p r v sh d hd g hg rm (full-is p v gone g ∙ q)
+          (rebuilt-full p v d lo g hg rm (full-is p v gone g ∙ q)
           ∙ (let a = sealed-all p r v gone acc g m q in let c = capacity-is p r in let z : suc (length ss + footers p) ≡ capacity p = omega arith in z))
 
   pub same-full : y .full ≡ x .full
@@ -142,7 +137,7 @@ module _ (p : Params) (r : Ranged p) (v : View) (sh : Shaped p v) (d : ℕ) (hd 
 
   decoded : (s : ℕ) → recOf p gone x s d ≡ parityRec s (map (storedRec x s) (present p gone))
   unfolding recOf
-  decoded s = rw lost
+  decoded s = rw (lost p v d lo)
 
   pub decoded-stripe : (s : ℕ) → recOf p gone x s d .stripe ≡ s
   unfolding parityRec
@@ -152,7 +147,7 @@ module _ (p : Params) (r : Ranged p) (v : View) (sh : Shaped p v) (d : ℕ) (hd 
   stored-low s e c i =
       let (he, pr) = present-in p gone e i in
       let k = chunk-at p v gone g e s he pr (counts-in p gone x s e c he pr) in
-      subst (λ (b : Rec). (b .address < 256 ^ 8) × (b .stamp < 256 ^ 8)) (sym (k .its-record)) (record-low p (zoneAt v e g) (sh .zone-ok e g he hg) w (offsetOn x e s))
+      subst (λ (b : Rec). (b .address < 256 ^ 8) × (b .stamp < 256 ^ 8)) (sym (k .its-record)) (record-low p (zoneAt v e g) (lo .shaped .zone-ok e g he hg) w (offsetOn x e s))
 
   decoded-low : (s : ℕ) → counts p gone x s ≡ true → (recOf p gone x s d .address < 256 ^ 8) × (recOf p gone x s d .stamp < 256 ^ 8)
   decoded-low s c = subst (λ (b : Rec). (b .address < 256 ^ 8) × (b .stamp < 256 ^ 8)) (sym (decoded s)) both
@@ -197,7 +192,7 @@ module _ (p : Params) (r : Ranged p) (v : View) (sh : Shaped p v) (d : ℕ) (hd 
       go : (b : Bool) → w ≡ b → recordIn p w (zoneAt u d g) j ≡ recOf p gone x (getD ss j 0) d
       go false q =
           ap (λ (b : Bool). recordIn p b (zoneAt u d g) j) q
-          ∙ spare-back p (zoneAt u d g) j (pieceAt j) (rebuilt-piece p r v sh d hd g hg rm j h) (fit .address8) (fit .stamp8) (fit .stripe4) ∙ piece-rec p gone x (getD ss j 0) d
+          ∙ spare-back p (zoneAt u d g) j (pieceAt j) (rebuilt-piece p v d lo g hg rm j h) (fit .address8) (fit .stamp8) (fit .stripe4) ∙ piece-rec p gone x (getD ss j 0) d
       go true q =
           let n = sealed-all p r v gone acc g m q in
           let i = j / perFooter p in
@@ -205,7 +200,7 @@ module _ (p : Params) (r : Ranged p) (v : View) (sh : Shaped p v) (d : ℕ) (hd 
           let hi : i < footers p = div-lt-iff-lt-mul kp .1 (let z = footers-cover p r in let t : j < footers p * perFooter p = omega arith in t) in
           ap (λ (b : Bool). recordIn p b (zoneAt u d g) j) q
           ∙ footer-back p r (zoneAt u d g) made j (pieceAt j .rec) made-long made-low made-at
-          (rebuilt-foot p r v sh d hd g hg rm (full-is p v gone g ∙ q) n i hi) (fit .address8) (fit .stamp8) (fit .stripe4)
+          (rebuilt-foot p v d lo g hg rm (full-is p v gone g ∙ q) n i hi) (fit .address8) (fit .stamp8) (fit .stripe4)
           ∙ piece-rec p gone x (getD ss j 0) d
         where
           made-is : length made ≡ length ss
@@ -228,7 +223,7 @@ module _ (p : Params) (r : Ranged p) (v : View) (sh : Shaped p v) (d : ℕ) (hd 
       ∙ ext-getD (mkRec 0 0 0) (recordsIn p w (zoneAt u d g)) (map (λ s. recOf p gone x s d) ss) (long ∙ sym (length-map ss (λ s. recOf p gone x s d))) each
     where
       n : dataStored p (zoneAt u d g) ≡ length ss
-      n = rebuilt-stored p r v sh d hd g hg rm acc
+      n = rebuilt-stored p v d lo g hg rm
 
       long : length (recordsIn p w (zoneAt u d g)) ≡ length ss
       long = length-records p w (zoneAt u d g) ∙ n
@@ -247,8 +242,8 @@ module _ (p : Params) (r : Ranged p) (v : View) (sh : Shaped p v) (d : ℕ) (hd 
   -- ---- headers
 
   pub header-of : (e : ℕ) → e < p .N → getD (zoneAt u e g .blocks) 0 noChunk ≡ mkChunk (headerBlock p e g (x .serial) (x .copied)) zeroSpare
-  header-of e he = by-drive {P = λ e. getD (zoneAt u e g .blocks) 0 noChunk ≡ mkChunk (headerBlock p e g (x .serial) (x .copied)) zeroSpare}
-      (rebuilt-header p r v sh d hd g hg rm) (λ e he pr. ap (λ (q : Zone). getD (q .blocks) 0 noChunk) (same-zone e he pr) ∙ there e he pr) e he
+  header-of e he = by-drive p v d lo {P = λ e. getD (zoneAt u e g .blocks) 0 noChunk ≡ mkChunk (headerBlock p e g (x .serial) (x .copied)) zeroSpare}
+      (rebuilt-header p v d lo g hg rm) (λ e he pr. ap (λ (q : Zone). getD (q .blocks) 0 noChunk) (same-zone e he pr) ∙ there e he pr) e he
     where
       there : (e : ℕ) → e < p .N → isIn gone e ≡ false → getD (zoneAt v e g .blocks) 0 noChunk ≡ mkChunk (headerBlock p e g (x .serial) (x .copied)) zeroSpare
       there e he pr = go
@@ -277,7 +272,9 @@ module _ (p : Params) (r : Ranged p) (v : View) (sh : Shaped p v) (d : ℕ) (hd 
 
   header-bytes : Bytes (headerAt v (lowDrive p gone) g)
   unfolding headerAt chunkAt zoneOn
-  header-bytes = let (he, pr) = present-in p gone (lowDrive p gone) (low-present p r d hd) in sh .zone-ok (lowDrive p gone) g he hg .sound 0 (omega (arith, capacity-over p r)) .block-bytes (inl refl)
+  header-bytes =
+      let (he, pr) = present-in p gone (lowDrive p gone) (low-present p r d hd) in
+      lo .shaped .zone-ok (lowDrive p gone) g he hg .sound 0 (omega (arith, capacity-over p r)) .block-bytes (inl refl)
 
   serials-low : (x .serial < 256 ^ 8) × (x .copied < 256 ^ 8)
   serials-low = (
@@ -313,14 +310,6 @@ module _ (p : Params) (r : Ranged p) (v : View) (sh : Shaped p v) (d : ℕ) (hd 
   has-rebuilt s i = ap (any (of s)) recs-rebuilt
       ∙ in-any (of s) (map (λ t. recOf p gone x t d) ss) (recOf p gone x s d) (in-map (λ t. recOf p gone x t d) ss s i) (eq-eqb (recOf p gone x s d .stripe) s (decoded-stripe s))
 
-  rebuilt-has : (s : ℕ) → hasChunk y s d ≡ true → In s ss
-  unfolding hasChunk
-  rebuilt-has s q =
-      let (b, i, e) = any-in (of s) (map (λ t. recOf p gone x t d) ss) (sym (ap (any (of s)) recs-rebuilt) ∙ q) in
-      let (t, j, f) = map-in (λ t. recOf p gone x t d) ss b i in
-      let z : t ≡ s = sym (ap (λ (b : Rec). b .stripe) f ∙ decoded-stripe t) ∙ eqb-true (b .stripe) s e in
-      subst (λ (n : ℕ). In n ss) z j
-
   same-has : (s e : ℕ) → e < p .N → isIn gone e ≡ false → hasChunk y s e ≡ hasChunk x s e
   unfolding hasChunk
   same-has s e he pr = ap (any (of s)) (recs-other e he pr)
@@ -329,7 +318,7 @@ module _ (p : Params) (r : Ranged p) (v : View) (sh : Shaped p v) (d : ℕ) (hd 
   unfolding counts
   same-counts s hs = same-test (counts p 0 y s) (counts p gone x s)
       (λ q. in-all (hasChunk x s) (present p gone) (λ e i. let (he, pr) = present-in p gone e i in sym (same-has s e he pr) ∙ all-in (hasChunk y s) (present p 0) q e (present-all p e he)))
-      (λ q. in-all (hasChunk y s) (present p 0) (λ e i. by-drive {P = λ e. hasChunk y s e ≡ true} (has-rebuilt s (in-counted q))
+      (λ q. in-all (hasChunk y s) (present p 0) (λ e i. by-drive p v d lo {P = λ e. hasChunk y s e ≡ true} (has-rebuilt s (in-counted q))
       (λ e he pr. same-has s e he pr ∙ all-in (hasChunk x s) (present p gone) q e (in-present p gone e he pr)) e (present-in p 0 e i .0)))
     where
       in-counted : counts p gone x s ≡ true → In s ss
@@ -373,7 +362,7 @@ module _ (p : Params) (r : Ranged p) (v : View) (sh : Shaped p v) (d : ℕ) (hd 
       let bad : ⊥ = omega arith in bad))
 
   pub same-piece : (s e : ℕ) → s < p .S → counts p gone x s ≡ true → e < p .N → pieceOf p 0 y s e ≡ pieceOf p gone x s e
-  same-piece s e h c he = by-drive {P = λ e. pieceOf p 0 y s e ≡ pieceOf p gone x s e} (none! d ∙ here) (λ e he pr. none! e ∙ there e he pr) e he
+  same-piece s e h c he = by-drive p v d lo {P = λ e. pieceOf p 0 y s e ≡ pieceOf p gone x s e} (none! d ∙ here) (λ e he pr. none! e ∙ there e he pr) e he
     where
       none! : (e : ℕ) → pieceOf p 0 y s e ≡ storedPiece y s e
       none! e = unfold pieceOf in rw (isIn-empty e)
@@ -392,7 +381,7 @@ module _ (p : Params) (r : Ranged p) (v : View) (sh : Shaped p v) (d : ℕ) (hd 
       block! =
           let (l, e) = rank-in s h c in
           ap₂ (λ (q : Zone) (n : ℕ). getD (q .blocks) (1 + n) noChunk .block) (zone-by p u 0 g d hd) (offset-rebuilt s h c)
-          ∙ ap (λ (k : Chunk). k .block) (rebuilt-piece p r v sh d hd g hg rm (rank s) l) ∙ chunk! (pieceAt (rank s)) ∙ ap (λ (n : ℕ). pieceOf p gone x n d .block) e
+          ∙ ap (λ (k : Chunk). k .block) (rebuilt-piece p v d lo g hg rm (rank s) l) ∙ chunk! (pieceAt (rank s)) ∙ ap (λ (n : ℕ). pieceOf p gone x n d .block) e
         where
           chunk! : (q : Piece) → pieceChunk q .block ≡ q .block
           chunk! q = unfold pieceChunk in refl

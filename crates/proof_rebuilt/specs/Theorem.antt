@@ -1,12 +1,12 @@
--- What demand 2 claims of a rebuild that finished, between the uncut calls after a restart: only the named drive's rebuild finishes, and then the last two files apply.
+-- What demand 2 claims of a rebuild that finished, between the uncut calls after a restart: only the named drive's rebuild finishes, and then Accepted and Said apply. Assumes nothing.
 use mathlib.Core.Path.{_≡_, refl, sym, ap, _∙_, subst}
-use mathlib.Core.List.{List, [], _∷_, _++_}
-use mathlib.Core.Bool.{Bool, true, false, cond, not, _&&_, _||_}
+use mathlib.Core.List.{List, [], _∷_}
+use mathlib.Core.Bool.{true, false, not, _&&_, _||_}
 use mathlib.Core.Logic.{_⊎_, inl, inr}
 use Prim.Native.Nat.{ℕ, _<_}
 use borrow.Author.Tests.{eq-eqb, ltb-true, leb-true, eqb-true, not-false}
 use native.Mathlib.Omega.{arith}
-use lib.Dec.{leb, ltb, eqb, lit≤}
+use lib.Dec.{ltb, eqb, lit≤}
 use Rattle.defs.specs.declared.Params.{Params}
 use Rattle.defs.specs.declared.Answer.{Answer}
 use Rattle.defs.specs.declared.Answer.the-variants.{Cut, Restarted, Rebuilt}
@@ -14,19 +14,17 @@ use Rattle.defs.specs.declared.Report.{Report}
 use Rattle.defs.specs.Answers.{kind, isRefused, isRefusedAs}
 use Rattle.defs.specs.Calls.{Check, firstRefusal, Plan, mkPlan, decided, outcome}
 use Rattle.defs.specs.Calls.Check.{rule}
-use Rattle.defs.specs.Counts.{lastCount}
 use Rattle.defs.specs.Demands.{saidAt}
-use Rattle.defs.specs.Drives.{View, storeView, Disk, storeDisk, storeAll}
+use Rattle.defs.specs.Drives.{View, Disk, storeDisk, storeAll}
 use Rattle.defs.specs.Engine.Call.{restart, rebuild}
 use Rattle.defs.specs.Engine.{storeCount, lentBlock, verdict, lentOk, callOn, callDisk}
-use Rattle.defs.specs.Faults.{imageChecks, pointerFaults, segmentFaults}
-use Rattle.defs.specs.History.{World, mkWorld}
-use Rattle.defs.specs.Lists.{isNil}
+use Rattle.defs.specs.Faults.{imageChecks}
+use Rattle.defs.specs.History.{mkWorld}
 use Rattle.defs.specs.Memory.{Memory}
 use Rattle.defs.specs.Params.{inRange, noDrive, named}
 use Rattle.defs.specs.Rebuild.{namesMissing, rebuildChecks, rebuildStores, rebuildVerdict}
-use Rattle.defs.specs.Restart.{freeZones, reportOf, namesDrive, rewrites, restartChecks, restartPlan, restartVerdict}
-use Rattle.defs.specs.Segments.{segments, greatestSerial}
+use Rattle.defs.specs.Restart.{reportOf, restartChecks, restartPlan, restartVerdict}
+use Rattle.defs.specs.Segments.{segments}
 use Rattle.laws.specs.Geometry.{Ranged, ranged}
 use Rattle.laws.specs.Mask.{only-none}
 use Rattle.laws.specs.Ranges.{and-left, and-right}
@@ -34,9 +32,9 @@ use Rattle.spec_demands.specs.Engines.{callWorld, onValues, viewIn}
 use Rattle.spec_demands.specs.Tables.{Rebuilds}
 use Rattle.views.specs.Views.{seen, view-stores}
 use Rattle.tablesay.specs.Accept.{Accepted, checks-of}
-use Rattle.tablesay.specs.Checks.{Passes, Clear, clear}
+use Rattle.tablesay.specs.Checks.{Clear, clear}
 use Rattle.tablesay.specs.Idle.{whole-of}
-use Rattle.tablesay.specs.Losing.{named-in, named-some}
+use Rattle.tablesay.specs.Losing.{named-some}
 use Rattle.tablesay.specs.Outcomes.{Ended, ended, refusal-kind, cut-mild}
 use Rattle.tablesay.specs.Outcomes.Ended.{ended-refused, ended-done, ended-cut}
 use Rattle.tablesay.specs.Range.{capacity-word}
@@ -46,7 +44,7 @@ use Rattle.tablesay.specs.Tests.{clash, false-true, or-right}
 use Rattle.tablesay.specs.Zones.{all-fit}
 use Rattle.proof_rebuilt.specs.Accepted.{rebuilt-accepted}
 use Rattle.proof_rebuilt.specs.Said.{rebuilt-said}
-use Rattle.proof_rebuilt.specs.Zone.{rebuiltView}
+use Rattle.proof_rebuilt.specs.Zone.{rebuiltView, Loss, lost}
 
 -- ---- a restart of drives on which nothing is wrong
 
@@ -76,7 +74,8 @@ restart-mild p k m n acc = go (ended p k m checks plan n [])
     answer-is : plan .answer ≡ Restarted (reportOf p (named noDrive) (segments p (seen p k) (named noDrive)))
     answer-is = unfold restartPlan in refl
 
-    go : Ended p k m checks plan (outcome p (storeDisk p) n k m [] (decided (firstRefusal checks) plan)) → isRefusedAs 9 (outcome p (storeDisk p) n k m [] (decided (firstRefusal checks) plan) .answer) ≡ false
+    go : Ended p k m checks plan (outcome p (storeDisk p) n k m [] (decided (firstRefusal checks) plan))
+        → isRefusedAs 9 (outcome p (storeDisk p) n k m [] (decided (firstRefusal checks) plan) .answer) ≡ false
     go (ended-refused a e f g h) = ap (isRefusedAs 9) f ∙ clear checks fine a e
     go (ended-done c f g h) = ap (isRefusedAs 9) (f ∙ answer-is) ∙ restarted-mild (reportOf p (named noDrive) (segments p (seen p k) (named noDrive)))
     go (ended-cut c f) = ap (isRefusedAs 9) f ∙ cut-mild
@@ -92,9 +91,8 @@ module _ (p : Params) (k : Disk) (m : Memory) (u : Run p k m) (d n : ℕ) where
 
   -- the named drive is the missing one, and nothing is wrong on the others
   record Done : Type 0 where
-    drive-low : d < p .N
+    loses : Loss p v d
     named-so : m .state .missing ≡ named d
-    accepts : Accepted p v (named d)
     leaves : callDisk p k m (rebuild d n) .drives ≡ storeAll (storeDisk p) (rebuildStores p d (segments p v (named d))) k
 
   rebuild-done : eqb (kind (callDisk p k m (rebuild d n) .answer)) 13 ≡ true → Done
@@ -124,7 +122,11 @@ module _ (p : Params) (k : Disk) (m : Memory) (u : Run p k m) (d n : ℕ) where
 
       go : Ended p k m checks plan (outcome p (storeDisk p) n k m [] (decided (firstRefusal checks) plan)) → Done
       go (ended-refused a e f g h) = absurd (refused-not a (refusal-kind checks a e) (ap (λ (b : Answer). eqb (kind b) 13) (sym f) ∙ q))
-      go (ended-done c f g h) = let (hd, e) = names (c .0) in record { drive-low = hd; named-so = e; accepts = accepts-of hd e (u .mode); leaves = g }
+      go (ended-done c f g h) = let (hd, e) = names (c .0) in record {
+        loses = record { ranged = rg; shaped = u .base .shaped; drive-low = hd; accepts = accepts-of hd e (u .mode) };
+        named-so = e;
+        leaves = g;
+      }
       go (ended-cut c f) = absurd (cut-not (ap (λ (b : Answer). eqb (kind b) 13) (sym f) ∙ q))
 
   -- the view that it leaves
@@ -133,19 +135,20 @@ module _ (p : Params) (k : Disk) (m : Memory) (u : Run p k m) (d n : ℕ) where
   rebuild-view o =
       let ss = rebuildStores p d (segments p v (named d)) in
       let sh = u .base .shaped in
-      let lost = named-in p rg d (o .drive-low) in
+      let hd = o .loses .drive-low in
+      let nd = lost p v d (o .loses) in
       ap (seen p) (o .leaves)
       ∙ view-stores p k ss (capacity-word p rg) (whole-of p k m (u .base .lent))
-      (all-fit p v ss (sh .sized) (rebuild-within p rg v sh d (o .drive-low) lost) (rebuild-roomy p rg v sh d (o .drive-low) lost))
+      (all-fit p v ss (sh .sized) (rebuild-within p rg v sh d hd nd) (rebuild-roomy p rg v sh d hd nd))
 
   rebuilds-done : Done → Rebuilds onValues p (mkWorld k m) (callWorld p (mkWorld k m) (rebuild d n))
   unfolding viewIn callWorld
   rebuilds-done o = record {
     says-same = λ a h.
-        ap (λ (t : View). saidAt p t 0 a) (rebuild-view o) ∙ rebuilt-said p rg v (u .base .shaped) d (o .drive-low) (o .accepts) a
+        ap (λ (t : View). saidAt p t 0 a) (rebuild-view o) ∙ rebuilt-said p v d (o .loses) a
         ∙ ap (λ (g : ℕ). saidAt p v g a) (sym (o .named-so));
     accepted = λ w i e. restart-mild p (w .disk) (w .memory) i
-        (subst (λ (t : View). Accepted p t 0) (sym (ap (seen p) e ∙ rebuild-view o)) (rebuilt-accepted p rg v (u .base .shaped) d (o .drive-low) (o .accepts)));
+        (subst (λ (t : View). Accepted p t 0) (sym (ap (seen p) e ∙ rebuild-view o)) (rebuilt-accepted p v d (o .loses)));
   }
 
 -- demand 2, of a rebuild that finished

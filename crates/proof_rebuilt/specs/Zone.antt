@@ -1,59 +1,80 @@
--- The drives after a rebuild: the other drives are as before; on the named one a segment that remains has its header, its counted chunks and, sealed, its footers, and
--- any other zone is empty.
-use mathlib.Core.Path.{_≡_, refl, sym, ap, ap₂, _∙_, subst}
+-- The zones after a rebuild, from its stores: other drives are as before; on the named one, header, counted chunks and footers of what remains, and nothing else. Assumes nothing.
+use mathlib.Core.Path.{_≡_, refl, sym, ap, _∙_, subst}
 use mathlib.Core.List.{List, [], _∷_, _++_, map}
 use mathlib.Core.Bool.{Bool, true, false, cond}
-use Prim.Native.Nat.{ℕ, zero, suc, _+_, _-_, _≤_, _<_, min}
+use Prim.Native.Nat.{ℕ, suc, _+_, _≤_, _<_}
 use native.Mathlib.Nat.{zero-add}
+use native.Mathlib.Decide.{ℕ-discrete}
 use borrow.Author.Tests.{ne-eqb}
 use native.Mathlib.Omega.{arith}
 use lib.ListN.{length, getD, length-append, length-map, List·getD-append}
 use lib.Seq.{getD-append-add}
 use Rattle.defs.specs.declared.Params.{Params}
-use Rattle.defs.specs.Drives.{Chunk, mkChunk, noChunk, Zone, View, zoneAt, pointerAt, Store, resetZone, storeView, storeAll, sealedIn, dataStored, zeroSpare}
+use Rattle.defs.specs.Drives.{Chunk, mkChunk, noChunk, Zone, View, zoneAt, pointerAt, Store, resetZone, storeView, storeAll, dataStored, zeroSpare}
 use Rattle.defs.specs.Drives.Store.{reset}
 use Rattle.defs.specs.Layout.{headerBlock, mkRec, recordBytes, footerBlock}
 use Rattle.defs.specs.Lists.{below, isIn}
 use Rattle.defs.specs.Params.{footers, capacity, named}
 use Rattle.defs.specs.Parity.{Piece, mkPiece}
 use Rattle.defs.specs.Rebuild.{rebuiltZone, rebuildStores}
-use Rattle.defs.specs.Segments.{remaining, Segment, segmentOf, segments, counted, pieceOf}
+use Rattle.defs.specs.Segments.{Segment, segmentOf, segments, counted, pieceOf}
 use Rattle.laws.specs.Geometry.{Ranged}
 use Rattle.laws.specs.Mask.{isIn-only}
-use Rattle.laws.specs.Ranges.{Test, test, length-below, getD-map, getD-map-below}
-use Rattle.laws.specs.Ranges.Test.{yes!, no! }
+use Rattle.laws.specs.Ranges.{length-below, getD-map, getD-map-below}
 use Rattle.tablesay.specs.Accept.{Accepted}
 use Rattle.tablesay.specs.Losing.{named-in}
-use Rattle.tablesay.specs.Members.{In}
-use Rattle.tablesay.specs.Puts.{putAt, putAll, puts-pointer, puts-new}
+use Rattle.tablesay.specs.Puts.{putAll, puts-pointer, puts-new}
 use Rattle.tablesay.specs.Range.{capacity-is, capacity-over}
 use Rattle.tablesay.specs.Rebuilding.{counted-low, pieceChunk, rebuilt-chunks, rebuilt-is, hits-here, rebuild-agrees}
 use Rattle.tablesay.specs.Segs.{full-is}
 use Rattle.tablesay.specs.Tables.{remains, in-remaining}
-use Rattle.tablesay.specs.Zones.{Shaped, zoneStore, hits, zone-after}
+use Rattle.tablesay.specs.Zones.{Shaped, zoneStore, zone-after}
 use Rattle.proof_rebuilt.specs.Groups.{sealed-all}
 
 -- the view that a rebuild of drive d leaves
 unfoldable pub rebuiltView : Params → View → ℕ → View
 rebuiltView p v d = storeAll storeView (rebuildStores p d (segments p v (named d))) v
 
-module _ (p : Params) (r : Ranged p) (d : ℕ) (hd : d < p .N) where
-  -- no other drive is missing
-  pub other-here : (e : ℕ) → e < p .N → (e ≡ d → ⊥) → isIn (named d) e ≡ false
-  unfolding named
-  other-here e he ne = isIn-only d e (omega (arith, r .drives-high)) (omega (arith, r .drives-high)) ∙ ne-eqb e d ne
+-- drive d is missing, and nothing is wrong on the others
+pub record Loss (p : Params) (v : View) (d : ℕ) : Type 0 where
+  pub ranged : Ranged p
+  pub shaped : Shaped p v
+  pub drive-low : d < p .N
+  pub accepts : Accepted p v (named d)
 
-module _ (p : Params) (r : Ranged p) (v : View) (sh : Shaped p v) (d : ℕ) (hd : d < p .N) where
+module _ (p : Params) (v : View) (d : ℕ) (lo : Loss p v d) where
+  abbrev r : Ranged p
+  r = lo .ranged
+
+  abbrev sh : Shaped p v
+  sh = lo .shaped
+
+  abbrev hd : d < p .N
+  hd = lo .drive-low
+
   abbrev gone : ℕ
   gone = named d
 
   abbrev u : View
   u = rebuiltView p v d
 
-  lost : isIn (named d) d ≡ true
+  pub lost : isIn gone d ≡ true
   lost = named-in p r d hd
 
-  pub zone-other : (e z : ℕ) → e < p .N → z < p .Z → isIn (named d) e ≡ false → zoneAt (rebuiltView p v d) e z ≡ zoneAt v e z
+  -- no other drive is missing
+  pub other-here : (e : ℕ) → e < p .N → (e ≡ d → ⊥) → isIn gone e ≡ false
+  unfolding named
+  other-here e he ne = let h = r .drives-high in isIn-only d e (omega arith) (omega arith) ∙ ne-eqb e d ne
+
+  -- each drive is the rebuilt one or as it was
+  pub by-drive : {P : ℕ → Type 0} → P d → ((e : ℕ) → e < p .N → isIn gone e ≡ false → P e) → (e : ℕ) → e < p .N → P e
+  by-drive {P} a f e he = go (ℕ-discrete e d)
+    where
+      go : Dec (e ≡ d) → P e
+      go (yes q) = subst P (sym q) a
+      go (no q) = f e he (other-here e he q)
+
+  pub zone-other : (e z : ℕ) → e < p .N → z < p .Z → isIn gone e ≡ false → zoneAt u e z ≡ zoneAt v e z
   unfolding rebuiltView
   zone-other e z he hz q = sym (rebuild-agrees p r v sh d hd lost e z he hz q)
 
@@ -68,7 +89,7 @@ module _ (p : Params) (r : Ranged p) (v : View) (sh : Shaped p v) (d : ℕ) (hd 
       first l q = unfold storeAll zoneStore in refl
 
   -- a zone whose segment doesn't remain
-  pub zone-dropped : (z : ℕ) → z < p .Z → remains p v (named d) z ≡ false → pointerAt (rebuiltView p v d) d z ≡ 0
+  pub zone-dropped : (z : ℕ) → z < p .Z → remains p v gone z ≡ false → pointerAt u d z ≡ 0
   unfolding pointerAt
   zone-dropped z hz q =
       ap (λ (y : Zone). y .pointer) (zone-by-stores z hz) ∙ ap (λ (b : Bool). storeAll zoneStore (cond b (rebuiltZone p d (segmentOf p v gone z)) []) (resetZone (zoneAt v d z)) .pointer) q
@@ -79,7 +100,7 @@ module _ (p : Params) (r : Ranged p) (v : View) (sh : Shaped p v) (d : ℕ) (hd 
 
   -- ---- the zone of a segment that remains
 
-  module _ (g : ℕ) (hg : g < p .Z) (rm : remains p v (named d) g ≡ true) where
+  module _ (g : ℕ) (hg : g < p .Z) (rm : remains p v gone g ≡ true) where
     abbrev x : Segment
     x = segmentOf p v gone g
 
@@ -94,7 +115,7 @@ module _ (p : Params) (r : Ranged p) (v : View) (sh : Shaped p v) (d : ℕ) (hd 
 
     -- what the footers are made of
     abbrev pub sparesLost : List (List ℕ)
-    sparesLost = map (λ (q : Piece). recordBytes (q .rec)) (map (λ s. pieceOf p (named d) (segmentOf p v (named d) g) s d) (counted p (named d) (segmentOf p v (named d) g)))
+    sparesLost = map (λ (q : Piece). recordBytes (q .rec)) (map (λ s. pieceOf p gone x s d) ss)
 
     abbrev feet : List Chunk
     feet = map (λ i. mkChunk (footerBlock p sparesLost i) zeroSpare) (below (footers p))
@@ -155,37 +176,38 @@ module _ (p : Params) (r : Ranged p) (v : View) (sh : Shaped p v) (d : ℕ) (hd 
         ∙ puts-new d g chunks y i h (omega arith)
 
     -- the pointer
-    pub rebuilt-low : zoneAt (rebuiltView p v d) d g .pointer ≤ capacity p
+    pub rebuilt-low : zoneAt u d g .pointer ≤ capacity p
     rebuilt-low = subst (λ (n : ℕ). n ≤ capacity p) (sym pointer-long) chunks-low
 
-    pub rebuilt-open : segmentOf p v (named d) g .full ≡ false → zoneAt (rebuiltView p v d) d g .pointer ≡ suc (length (counted p (named d) (segmentOf p v (named d) g)))
+    pub rebuilt-open : x .full ≡ false → zoneAt u d g .pointer ≡ suc (length ss)
     rebuilt-open e = pointer-long ∙ chunks-long false e ∙ (let z : suc (length ss + 0) ≡ suc (length ss) = omega arith in z)
 
-    pub rebuilt-full : segmentOf p v (named d) g .full ≡ true
-        → zoneAt (rebuiltView p v d) d g .pointer ≡ suc (length (counted p (named d) (segmentOf p v (named d) g)) + footers p)
+    pub rebuilt-full : x .full ≡ true
+        → zoneAt u d g .pointer ≡ suc (length ss + footers p)
     rebuilt-full e = pointer-long ∙ chunks-long true e ∙ ap (λ (n : ℕ). suc (length ss + n)) feet-long
 
-    pub rebuilt-some : 1 ≤ zoneAt (rebuiltView p v d) d g .pointer
+    pub rebuilt-some : 1 ≤ zoneAt u d g .pointer
     rebuilt-some = go (x .full) refl
       where
         go : (b : Bool) → x .full ≡ b → 1 ≤ zoneAt u d g .pointer
         go b e = let a = pointer-long in let c = chunks-long b e in omega arith
 
     -- its blocks
-    pub rebuilt-header : getD (zoneAt (rebuiltView p v d) d g .blocks) 0 noChunk ≡ mkChunk (headerBlock p d g (segmentOf p v (named d) g .serial) (segmentOf p v (named d) g .copied)) zeroSpare
+    pub rebuilt-header : getD (zoneAt u d g .blocks) 0 noChunk ≡ mkChunk (headerBlock p d g (x .serial) (x .copied)) zeroSpare
     rebuilt-header =
         let a = chunks-long (x .full) refl in
         chunk-is 0 (omega arith) ∙ ap (λ (l : List Chunk). getD l 0 noChunk) (chunks-are (x .full) refl)
 
-    after-first : (b : Bool) → x .full ≡ b → (i : ℕ) → i < length ss + length (cond b feet []) → getD (zoneAt u d g .blocks) (1 + i) noChunk ≡ getD (map pieceChunk pieces ++ cond b feet []) i noChunk
+    after-first : (b : Bool) → x .full ≡ b → (i : ℕ) → i < length ss + length (cond b feet [])
+        → getD (zoneAt u d g .blocks) (1 + i) noChunk ≡ getD (map pieceChunk pieces ++ cond b feet []) i noChunk
     after-first b e i h =
         let a = chunks-long b e in
         chunk-is (1 + i) (omega arith) ∙ ap (λ (l : List Chunk). getD l (1 + i) noChunk) (chunks-are b e)
         ∙ ap (λ (n : ℕ). getD (first ∷ (map pieceChunk pieces ++ cond b feet [])) n noChunk) (let z : 1 + i ≡ suc i = omega arith in z)
 
-    pub rebuilt-piece : (j : ℕ) → j < length (counted p (named d) (segmentOf p v (named d) g))
-        → getD (zoneAt (rebuiltView p v d) d g .blocks) (1 + j) noChunk
-        ≡ pieceChunk (pieceOf p (named d) (segmentOf p v (named d) g) (getD (counted p (named d) (segmentOf p v (named d) g)) j 0) d)
+    pub rebuilt-piece : (j : ℕ) → j < length ss
+        → getD (zoneAt u d g .blocks) (1 + j) noChunk
+        ≡ pieceChunk (pieceOf p gone x (getD ss j 0) d)
     rebuilt-piece j h =
         let none! : Piece = mkPiece [] (mkRec 0 0 0) in
         let l : j < length (map pieceChunk pieces) = subst (λ (n : ℕ). j < n) (sym pieces-long) h in
@@ -194,8 +216,8 @@ module _ (p : Params) (r : Ranged p) (v : View) (sh : Shaped p v) (d : ℕ) (hd 
         ∙ List·getD-append (map pieceChunk pieces) (cond (x .full) feet []) noChunk j l
         ∙ getD-map pieceChunk pieces j noChunk none! l2 ∙ ap pieceChunk (getD-map (λ s. pieceOf p gone x s d) ss j none! 0 h)
 
-    pub rebuilt-foot : segmentOf p v (named d) g .full ≡ true → length (counted p (named d) (segmentOf p v (named d) g)) ≡ p .S → (i : ℕ) → i < footers p
-        → getD (zoneAt (rebuiltView p v d) d g .blocks) (1 + p .S + i) noChunk ≡ mkChunk (footerBlock p sparesLost i) zeroSpare
+    pub rebuilt-foot : x .full ≡ true → length ss ≡ p .S → (i : ℕ) → i < footers p
+        → getD (zoneAt u d g .blocks) (1 + p .S + i) noChunk ≡ mkChunk (footerBlock p sparesLost i) zeroSpare
     rebuilt-foot e n i h =
         let f = feet-long in
         let l = pieces-long in
@@ -204,8 +226,8 @@ module _ (p : Params) (r : Ranged p) (v : View) (sh : Shaped p v) (d : ℕ) (hd 
         ∙ getD-append-add (map pieceChunk pieces) feet i noChunk ∙ getD-map-below (λ i. mkChunk (footerBlock p sparesLost i) zeroSpare) (footers p) i noChunk h
 
     -- its data blocks are the counted ones
-    pub rebuilt-stored : Accepted p v (named d) → dataStored p (zoneAt (rebuiltView p v d) d g) ≡ length (counted p (named d) (segmentOf p v (named d) g))
-    rebuilt-stored acc = go (x .full) refl
+    pub rebuilt-stored : dataStored p (zoneAt u d g) ≡ length ss
+    rebuilt-stored = go (x .full) refl
       where
         min-is : (y : Zone) (n : ℕ) → y .pointer ≡ suc n → n ≤ p .S → dataStored p y ≡ n
         min-is y n e l = unfold dataStored in omega arith
@@ -214,5 +236,5 @@ module _ (p : Params) (r : Ranged p) (v : View) (sh : Shaped p v) (d : ℕ) (hd 
         min-over y n k e l = unfold dataStored in omega arith
 
         go : (b : Bool) → x .full ≡ b → dataStored p (zoneAt u d g) ≡ length ss
-        go true e = min-over (zoneAt u d g) (length ss) (footers p) (rebuilt-full e) (sealed-all p r v gone acc g (in-remaining p v gone g hg rm) (sym (full-is p v gone g) ∙ e))
+        go true e = min-over (zoneAt u d g) (length ss) (footers p) (rebuilt-full e) (sealed-all p r v gone (lo .accepts) g (in-remaining p v gone g hg rm) (sym (full-is p v gone g) ∙ e))
         go false e = min-is (zoneAt u d g) (length ss) (rebuilt-open e) few
