@@ -131,7 +131,7 @@ module _ (p : Params) (r : Ranged p) (v : View) (sh : Shaped p v) where
     abbrev lostEnd : List Chunk
     lostEnd = cond (x .full) lostFooters []
 
-    pub rebuilt-chunks : List Chunk
+    unfoldable pub rebuilt-chunks : List Chunk
     rebuilt-chunks = mkChunk (headerBlock p d g (x .serial) (x .copied)) zeroSpare ∷ (map pieceChunk lostPieces ++ lostEnd)
 
     pub rebuilt-room : Room p 0 (map (putAt d g) rebuilt-chunks)
@@ -187,7 +187,7 @@ module _ (p : Params) (r : Ranged p) (v : View) (sh : Shaped p v) where
         let q = rebuilt-is d g hg hd lost in
         ap (hits e y) q ∙ hits-puts e y d g (rebuilt-chunks (named d) g d hg hd lost) ∙ ap (λ (l : List Store). cond (eqb d e && eqb g y) l []) (sym q)
 
-    hits-here : (z : ℕ) → z < p .Z → hits d z stores ≡ reset d z ∷ cond (remains p v (named d) z) (rebuiltZone p d (segmentOf p v (named d) z)) []
+    pub hits-here : (z : ℕ) → z < p .Z → hits d z stores ≡ reset d z ∷ cond (remains p v (named d) z) (rebuiltZone p d (segmentOf p v (named d) z)) []
     unfolding rebuildStores segments
     hits-here z hz =
         hits-append d z (map (λ y. reset d y) (below (p .Z))) (flat (rebuiltZone p d) (map (segmentOf p v (named d)) (remaining p v (named d))))

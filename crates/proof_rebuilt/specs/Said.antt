@@ -1,0 +1,278 @@
+-- After a rebuild each address reads with none missing as it did with the drive missing: the candidates are alike one for one, and so is the one that holds. Assumes nothing.
+use mathlib.Core.Path.{_≡_, refl, sym, ap, ap₂, _∙_, subst}
+use mathlib.Core.List.{List, map}
+use mathlib.Core.Bool.{true, false, cond}
+use Prim.Native.Nat.{ℕ, _<_}
+use native.Mathlib.Decide.{ℕ-discrete}
+use lib.Dec.{ltb}
+use Rattle.defs.specs.declared.Params.{Params}
+use Rattle.defs.specs.Demands.{saidBlock, saidAt}
+use Rattle.defs.specs.Drives.{View, zoneAt, zoneOn, placeSegment, sealedIn, recordIn, recordAt}
+use Rattle.defs.specs.History.Seen.{got}
+use Rattle.defs.specs.Layout.{dataDrive, dataDrives, Rec}
+use Rattle.defs.specs.Lists.{Opt, below, flat, isIn}
+use Rattle.defs.specs.Lists.Opt.{none, some}
+use Rattle.defs.specs.Params.{dataCount, named}
+use Rattle.defs.specs.Parity.{Piece}
+use Rattle.defs.specs.Rank.{Cand, beats, best, candsOf}
+use Rattle.defs.specs.Segments.{remaining, Segment, segmentOf, segments, offsetOn, counts, counted, pieceOf, offsetOf, candOf, segmentCands, candidates}
+use Rattle.laws.specs.Geometry.{Ranged, data-drive-lt}
+use Rattle.laws.specs.Mask.{isIn-empty}
+use Rattle.laws.specs.Ranges.{Test, test}
+use Rattle.laws.specs.Ranges.Test.{yes!, no! }
+use Rattle.tablesay.specs.Accept.{Accepted, serials-differ}
+use Rattle.tablesay.specs.Base.{cand-zone, offset-here, offset-away, its-chunk}
+use Rattle.tablesay.specs.Members.{In, map-in, flat-map, below-in}
+use Rattle.tablesay.specs.Reads.{Spot, spot-of}
+use Rattle.tablesay.specs.Rebuilding.{counted-in}
+use Rattle.tablesay.specs.Segs.{CandAt}
+use Rattle.tablesay.specs.Tests.{cond-true, cond-false}
+use Rattle.proof_rebuilt.specs.Accepted.{same-remaining}
+use Rattle.proof_rebuilt.specs.Alike.{Alike, AlikeOr, alike-map, alike-flat, alike-best, beats-same}
+use Rattle.proof_rebuilt.specs.Numbers.{rank-order}
+use Rattle.proof_rebuilt.specs.Segment.{same-serial, same-counts, same-counted, offset-other, offset-rebuilt, same-piece, same-rec}
+use Rattle.proof_rebuilt.specs.Zone.{rebuiltView, Loss, lost, other-here}
+
+-- what is said of a candidate is its piece
+said-is : (p : Params) → Ranged p → (v : View) (gone : ℕ) (c : Cand) (k : CandAt p v gone c)
+    → saidBlock p v gone (some c) ≡ got (pieceOf p gone (segmentOf p v gone (k .of)) (k .stripe) (c .drive) .block)
+unfolding saidBlock placeSegment recordAt zoneOn
+said-is p r v gone c k =
+    let t : Spot p v gone c = spot-of p r v gone c k in
+    let stripe : ℕ → ℕ = λ g. cond (isIn gone (c .drive)) (c .offset) (recordIn p (sealedIn p v gone g) (zoneAt v (c .drive) g) (c .offset) .stripe) in
+    ap (λ (g : ℕ). got (pieceOf p gone (segmentOf p v gone g) (stripe g) (c .drive) .block)) (cand-zone p r v gone c k t)
+    ∙ ap (λ (s : ℕ). got (pieceOf p gone (segmentOf p v gone (k .of)) s (c .drive) .block)) (its-stripe! t (test (isIn gone (c .drive))))
+  where
+    its-stripe! : Spot p v gone c → Test (isIn gone (c .drive))
+        → cond (isIn gone (c .drive)) (c .offset) (recordIn p (sealedIn p v gone (k .of)) (zoneAt v (c .drive) (k .of)) (c .offset) .stripe) ≡ k .stripe
+    its-stripe! t (yes! b) =
+        cond-true (isIn gone (c .drive)) (c .offset) (recordIn p (sealedIn p v gone (k .of)) (zoneAt v (c .drive) (k .of)) (c .offset) .stripe) b
+        ∙ offset-away p r v gone c k t b
+    its-stripe! t (no! b) =
+        cond-false (isIn gone (c .drive)) (c .offset) (recordIn p (sealedIn p v gone (k .of)) (zoneAt v (c .drive) (k .of)) (c .offset) .stripe) b
+        ∙ ap (λ (o : ℕ). recordIn p (sealedIn p v gone (k .of)) (zoneAt v (c .drive) (k .of)) o .stripe) (offset-here p r v gone c k t b) ∙ its-chunk p r v gone c k t b .its-stripe
+
+module _ (p : Params) (v : View) (d : ℕ) (lo : Loss p v d) where
+  abbrev r : Ranged p
+  r = lo .ranged
+
+  abbrev hd : d < p .N
+  hd = lo .drive-low
+
+  abbrev acc : Accepted p v (named d)
+  acc = lo .accepts
+
+  abbrev gone : ℕ
+  gone = named d
+
+  abbrev u : View
+  u = rebuiltView p v d
+
+  abbrev x : ℕ → Segment
+  x g = segmentOf p v gone g
+
+  abbrev y : ℕ → Segment
+  y g = segmentOf p u 0 g
+
+  -- a candidate before and after
+  record Pair (c e : Cand) : Type 0 where
+    of : ℕ
+    stripe : ℕ
+    position : ℕ
+    remains : In of (remaining p v gone)
+    stripe-low : stripe < p .S
+    it-counts : counts p gone (x of) stripe ≡ true
+    position-low : position < dataCount p
+    was : c ≡ candOf p gone (x of) stripe (dataDrive p stripe position)
+    is-now : e ≡ candOf p 0 (y of) stripe (dataDrive p stripe position)
+
+  -- ---- fields
+
+  module _ (g s e : ℕ) (m : In g (remaining p v gone)) (hs : s < p .S) (c : counts p gone (x g) s ≡ true) (he : e < p .N) where
+    same-address : candOf p gone (x g) s e .address ≡ candOf p 0 (y g) s e .address
+    unfolding candOf
+    same-address = sym (ap (λ (b : Rec). b .address) (same-rec p v d lo g m s e hs c he))
+
+    same-stamp : candOf p gone (x g) s e .stamp ≡ candOf p 0 (y g) s e .stamp
+    unfolding candOf
+    same-stamp = sym (ap (λ (b : Rec). b .stamp) (same-rec p v d lo g m s e hs c he))
+
+    same-cand-serial : candOf p gone (x g) s e .serial ≡ candOf p 0 (y g) s e .serial
+    unfolding candOf
+    same-cand-serial = sym (same-serial p v d lo g m)
+
+  cand-drive : (q : ℕ) (z : Segment) (s e : ℕ) → candOf p q z s e .drive ≡ e
+  unfolding candOf
+  cand-drive q z s e = refl
+
+  cand-serial : (q : ℕ) (z : Segment) (s e : ℕ) → candOf p q z s e .serial ≡ z .serial
+  unfolding candOf
+  cand-serial q z s e = refl
+
+  cand-offset : (q : ℕ) (z : Segment) (s e : ℕ) → candOf p q z s e .offset ≡ offsetOf q z s e
+  unfolding candOf
+  cand-offset q z s e = refl
+
+  -- offsets of a segment and drive keep their order
+  same-order : (g s t e : ℕ) → In g (remaining p v gone) → s < p .S → t < p .S → counts p gone (x g) s ≡ true → counts p gone (x g) t ≡ true → e < p .N
+      → ltb (offsetOf gone (x g) s e) (offsetOf gone (x g) t e) ≡ ltb (offsetOf 0 (y g) s e) (offsetOf 0 (y g) t e)
+  same-order g s t e m hs ht cs ct he = go (ℕ-discrete e d)
+    where
+      now : (s e : ℕ) → offsetOf 0 (y g) s e ≡ offsetOn (y g) e s
+      now s e = unfold offsetOf in cond-false (isIn 0 e) s (offsetOn (y g) e s) (isIn-empty e)
+
+      away : (s : ℕ) → offsetOf gone (x g) s d ≡ s
+      away s = unfold offsetOf in cond-true (isIn gone d) s (offsetOn (x g) d s) (lost p v d lo)
+
+      kept : (s : ℕ) → isIn gone e ≡ false → offsetOf gone (x g) s e ≡ offsetOn (x g) e s
+      kept s q = unfold offsetOf in cond-false (isIn gone e) s (offsetOn (x g) e s) q
+
+      here : ltb (offsetOf gone (x g) s d) (offsetOf gone (x g) t d) ≡ ltb (offsetOf 0 (y g) s d) (offsetOf 0 (y g) t d)
+      here =
+          ap₂ ltb (away s) (away t) ∙ rank-order (counts p gone (x g)) s t cs ct
+          ∙ sym (ap₂ ltb (now s d ∙ offset-rebuilt p v d lo g m s hs cs) (now t d ∙ offset-rebuilt p v d lo g m t ht ct))
+
+      go : Dec (e ≡ d) → ltb (offsetOf gone (x g) s e) (offsetOf gone (x g) t e) ≡ ltb (offsetOf 0 (y g) s e) (offsetOf 0 (y g) t e)
+      go (yes q) = subst (λ (e : ℕ). ltb (offsetOf gone (x g) s e) (offsetOf gone (x g) t e) ≡ ltb (offsetOf 0 (y g) s e) (offsetOf 0 (y g) t e)) (sym q) here
+      go (no q) =
+          let pr = other-here p v d lo e he q in
+          ap₂ ltb (kept s pr) (kept t pr) ∙ sym (ap₂ ltb (now s e ∙ offset-other p v d lo g m s e he pr) (now t e ∙ offset-other p v d lo g m t e he pr))
+
+  module _ (c e : Cand) (k : Pair c e) where
+    abbrev drive : ℕ
+    drive = dataDrive p (k .stripe) (k .position)
+
+    drive-low : drive < p .N
+    drive-low = data-drive-lt p (k .stripe) (k .position) (k .position-low)
+
+    -- a field that is the same before and after
+    pair-field : (f : Cand → ℕ) → f (candOf p gone (x (k .of)) (k .stripe) drive) ≡ f (candOf p 0 (y (k .of)) (k .stripe) drive) → f c ≡ f e
+    pair-field f q = ap f (k .was) ∙ q ∙ sym (ap f (k .is-now))
+
+    pair-address : c .address ≡ e .address
+    pair-address = pair-field (λ (b : Cand). b .address) (same-address (k .of) (k .stripe) drive (k .remains) (k .stripe-low) (k .it-counts) drive-low)
+
+    pair-stamp : c .stamp ≡ e .stamp
+    pair-stamp = pair-field (λ (b : Cand). b .stamp) (same-stamp (k .of) (k .stripe) drive (k .remains) (k .stripe-low) (k .it-counts) drive-low)
+
+    pair-serial : c .serial ≡ e .serial
+    pair-serial = pair-field (λ (b : Cand). b .serial) (same-cand-serial (k .of) (k .stripe) drive (k .remains) (k .stripe-low) (k .it-counts) drive-low)
+
+    old-serial : c .serial ≡ x (k .of) .serial
+    old-serial = ap (λ (b : Cand). b .serial) (k .was) ∙ cand-serial gone (x (k .of)) (k .stripe) drive
+
+    old-drive : c .drive ≡ drive
+    old-drive = ap (λ (b : Cand). b .drive) (k .was) ∙ cand-drive gone (x (k .of)) (k .stripe) drive
+
+    new-drive : e .drive ≡ drive
+    new-drive = ap (λ (b : Cand). b .drive) (k .is-now) ∙ cand-drive 0 (y (k .of)) (k .stripe) drive
+
+    pair-drive : c .drive ≡ e .drive
+    pair-drive = old-drive ∙ sym new-drive
+
+    old-offset : c .offset ≡ offsetOf gone (x (k .of)) (k .stripe) drive
+    old-offset = ap (λ (b : Cand). b .offset) (k .was) ∙ cand-offset gone (x (k .of)) (k .stripe) drive
+
+    new-offset : e .offset ≡ offsetOf 0 (y (k .of)) (k .stripe) drive
+    new-offset = ap (λ (b : Cand). b .offset) (k .is-now) ∙ cand-offset 0 (y (k .of)) (k .stripe) drive
+
+    old-at : CandAt p v gone c
+    old-at = record {
+      of = k .of;
+      stripe = k .stripe;
+      position = k .position;
+      remains = k .remains;
+      stripe-low = k .stripe-low;
+      it-counts = k .it-counts;
+      position-low = k .position-low;
+      it-is = k .was;
+    }
+
+    new-at : CandAt p u 0 e
+    new-at = record {
+      of = k .of;
+      stripe = k .stripe;
+      position = k .position;
+      remains = subst (λ (l : List ℕ). In (k .of) l) (sym (same-remaining p v d lo)) (k .remains);
+      stripe-low = k .stripe-low;
+      it-counts = same-counts p v d lo (k .of) (k .remains) (k .stripe) (k .stripe-low) ∙ k .it-counts;
+      position-low = k .position-low;
+      it-is = k .is-now;
+    }
+
+    -- what is said of it
+    pair-said : saidBlock p u 0 (some e) ≡ saidBlock p v gone (some c)
+    unfolding old-at new-at
+    pair-said =
+        said-is p r u 0 e new-at ∙ ap (λ (z : ℕ). got (pieceOf p 0 (y (k .of)) (k .stripe) z .block)) new-drive
+        ∙ ap (λ (q : Piece). got (q .block)) (same-piece p v d lo (k .of) (k .remains) (k .stripe) drive (k .stripe-low) (k .it-counts) drive-low)
+        ∙ sym (said-is p r v gone c old-at ∙ ap (λ (z : ℕ). got (pieceOf p gone (x (k .of)) (k .stripe) z .block)) old-drive)
+
+  -- the rule tells two pairs alike
+  pair-beats : (c e b f : Cand) → Pair c e → Pair b f → beats c b ≡ beats e f
+  pair-beats c e b f k l = beats-same c e b f (pair-stamp c e k) (pair-stamp b f l) (pair-serial c e k) (pair-serial b f l) (pair-drive c e k) (pair-drive b f l)
+      (λ qs qd. order (segment (sym (old-serial c e k) ∙ qs ∙ old-serial b f l)) (sym (old-drive c e k) ∙ qd ∙ old-drive b f l))
+    where
+      segment : x (k .of) .serial ≡ x (l .of) .serial → l .of ≡ k .of
+      segment q = go (ℕ-discrete (l .of) (k .of))
+        where
+          go : Dec (l .of ≡ k .of) → l .of ≡ k .of
+          go (yes z) = z
+          go (no z) = absurd (serials-differ p v gone acc (k .of) (l .of) (k .remains) (l .remains) z (sym q))
+
+      order : l .of ≡ k .of → drive c e k ≡ drive b f l → ltb (c .offset) (b .offset) ≡ ltb (e .offset) (f .offset)
+      order qo qd =
+          ap₂ ltb (old-offset c e k) (old-offset b f l ∙ ap₂ (λ (g z : ℕ). offsetOf gone (x g) (l .stripe) z) qo (sym qd))
+          ∙ same-order (k .of) (k .stripe) (l .stripe) (drive c e k) (k .remains) (k .stripe-low) (l .stripe-low) (k .it-counts)
+          (subst (λ (g : ℕ). counts p gone (x g) (l .stripe) ≡ true) qo (l .it-counts)) (drive-low c e k)
+          ∙ sym (ap₂ ltb (new-offset c e k) (new-offset b f l ∙ ap₂ (λ (g z : ℕ). offsetOf 0 (y g) (l .stripe) z) qo (sym qd)))
+
+  -- ---- all candidates
+
+  pair-stripe : (g s : ℕ) → In g (remaining p v gone) → In s (counted p gone (x g)) → Alike Pair (map (candOf p gone (x g) s) (dataDrives p s)) (map (candOf p 0 (y g) s) (dataDrives p s))
+  unfolding dataDrives
+  pair-stripe g s m i =
+      let (hs, c) = counted-in p gone (x g) s i in
+      alike-map Pair (candOf p gone (x g) s) (candOf p 0 (y g) s) (map (dataDrive p s) (below (dataCount p)))
+      (λ e j.
+      let (n, k, q) = map-in (dataDrive p s) (below (dataCount p)) e j in
+      record {
+        of = g;
+        stripe = s;
+        position = n;
+        remains = m;
+        stripe-low = hs;
+        it-counts = c;
+        position-low = below-in (dataCount p) n k;
+        was = ap (candOf p gone (x g) s) q;
+        is-now = ap (candOf p 0 (y g) s) q;
+      })
+
+  pair-segment : (g : ℕ) → In g (remaining p v gone) → Alike Pair (segmentCands p gone (x g)) (segmentCands p 0 (y g))
+  unfolding segmentCands
+  pair-segment g m =
+      subst (λ (l : List ℕ). Alike Pair (flat (λ s. map (candOf p gone (x g) s) (dataDrives p s)) (counted p gone (x g))) (flat (λ s. map (candOf p 0 (y g) s) (dataDrives p s)) l))
+      (sym (same-counted p v d lo g m))
+      (alike-flat Pair (λ s. map (candOf p gone (x g) s) (dataDrives p s)) (λ s. map (candOf p 0 (y g) s) (dataDrives p s)) (counted p gone (x g)) (λ s i. pair-stripe g s m i))
+
+  pair-all : Alike Pair (candidates p gone (segments p v gone)) (candidates p 0 (segments p u 0))
+  unfolding candidates segments
+  pair-all =
+      let a : flat (segmentCands p gone) (map x (remaining p v gone)) ≡ flat (λ g. segmentCands p gone (x g)) (remaining p v gone) = flat-map (segmentCands p gone) x (remaining p v gone) in
+      let b : flat (segmentCands p 0) (map y (remaining p u 0)) ≡ flat (λ g. segmentCands p 0 (y g)) (remaining p v gone) =
+      flat-map (segmentCands p 0) y (remaining p u 0) ∙ ap (flat (λ g. segmentCands p 0 (y g))) (same-remaining p v d lo) in
+      subst (λ (l : List Cand). Alike Pair l (flat (segmentCands p 0) (map y (remaining p u 0)))) (sym a)
+      (subst (λ (l : List Cand). Alike Pair (flat (λ g. segmentCands p gone (x g)) (remaining p v gone)) l) (sym b)
+      (alike-flat Pair (λ g. segmentCands p gone (x g)) (λ g. segmentCands p 0 (y g)) (remaining p v gone) pair-segment))
+
+  -- the drives say the same
+  pub rebuilt-said : (a : ℕ) → saidAt p u 0 a ≡ saidAt p v gone a
+  unfolding saidAt
+  rebuilt-said a = go (best none (candsOf a (candidates p gone (segments p v gone)))) (best none (candsOf a (candidates p 0 (segments p u 0))))
+      (alike-best Pair pair-beats a pair-address (candidates p gone (segments p v gone)) (candidates p 0 (segments p u 0)) pair-all)
+    where
+      go : (b f : Opt Cand) → AlikeOr Pair b f → saidBlock p u 0 f ≡ saidBlock p v gone b
+      go none none q = unfold saidBlock in refl
+      go none (some f) q = absurd q
+      go (some b) none q = absurd q
+      go (some b) (some f) q = pair-said b f q

@@ -1,0 +1,399 @@
+-- A segment that remains, read after the rebuild with none missing: header, sealed or not, and counted stripes are as before, each chunk as stored or decoded. Assumes nothing.
+use mathlib.Core.Path.{_≡_, refl, sym, ap, ap₂, _∙_, subst}
+use mathlib.Core.List.{List, [], map}
+use mathlib.Core.Bool.{Bool, true, false, not}
+use mathlib.Core.Logic.{inl}
+use Prim.Native.Nat.{ℕ, suc, _+_, _*_, _/_, _%_, _^_, _<_}
+use native.Mathlib.Nat.{div-lt-iff-lt-mul}
+use borrow.Author.Tests.{eq-eqb, ne-eqb, not-false}
+use native.Mathlib.Omega.{arith}
+use lib.Dec.{eqb}
+use lib.ListN.{length, getD, drop, length-map}
+use lib.Seq.{ext-getD, getD-drop}
+use Rattle.defs.specs.declared.Params.{Params}
+use Rattle.defs.specs.Bytes.{part, xorAll}
+use Rattle.defs.specs.Drives.{Chunk, mkChunk, noChunk, Zone, noZone, View, zoneAt, pointerAt, chunkAt, zoneOn, sealedIn, dataStored, blocksOf, recordIn, zeroSpare}
+use Rattle.defs.specs.Faults.{sameChunk, headerFault}
+use Rattle.defs.specs.Layout.{headerWidths, headerBlock, headerSerial, headerCopied, Rec, mkRec, recordBytes, recordOf, footerBlock, footerRecord}
+use Rattle.defs.specs.Lists.{below, any, indexOf, sameList, tally, isIn}
+use Rattle.defs.specs.Params.{spareLen, perFooter, footers, capacity, named, present}
+use Rattle.defs.specs.Parity.{Piece, parityRec, parityPiece}
+use Rattle.defs.specs.Segments.{lowDrive, headerAt, remaining, Segment, recordsIn, segmentOf, recsOn, offsetOn, hasChunk, counts, counted, storedPiece, pieceOf, storedRec, recOf}
+use Rattle.laws.specs.Geometry.{Ranged, per-footer-low, footers-cover}
+use Rattle.laws.specs.Mask.{isIn-empty}
+use Rattle.laws.specs.Ranges.{and-left, and-right, map-map, getD-map, getD-map-below, sameList-true}
+use Rattle.laws.specs.Xor.{xorAll-lt}
+use Rattle.tablesay.specs.Accept.{Accepted, faults-apart}
+use Rattle.tablesay.specs.Bounds.{blocks-at, record-low}
+use Rattle.tablesay.specs.Laid.{length-record, Long, getD-footer, field-low, serial-low, header-serial, header-copied, record-back}
+use Rattle.tablesay.specs.Losing.{low-present}
+use Rattle.tablesay.specs.Members.{In, map-in, in-map, in-keep, all-in, in-all, none-in, in-any, keep-cong, in-below, below-in, in-getD, index-is}
+use Rattle.tablesay.specs.Range.{capacity-is, capacity-over}
+use Rattle.tablesay.specs.Reads.{counts-in}
+use Rattle.tablesay.specs.Rebuilding.{counted-in, pieceChunk}
+use Rattle.tablesay.specs.Segs.{present-in, in-present, zone-by, recs-here, seg-is, serial-is, copied-is, full-is, chunk-at, length-records}
+use Rattle.tablesay.specs.Settled.{present-all, low-first}
+use Rattle.tablesay.specs.Tables.{remains, remaining-in}
+use Rattle.tablesay.specs.Tests.{same-test}
+use Rattle.tablesay.specs.Zones.{Bytes}
+use Rattle.proof_rebuilt.specs.Groups.{sealed-all}
+use Rattle.proof_rebuilt.specs.Numbers.{rank-low, rank-at, rank-of}
+use Rattle.proof_rebuilt.specs.Zone.{rebuiltView, Loss, lost, by-drive, zone-other, rebuilt-full, rebuilt-header, rebuilt-piece, rebuilt-foot, rebuilt-stored}
+
+-- ---- records that are read back
+
+-- by spare
+spare-back : (p : Params) (q : Zone) (j : ℕ) (c : Piece) → getD (q .blocks) (1 + j) noChunk ≡ pieceChunk c
+    → c .rec .address < 256 ^ 8 → c .rec .stamp < 256 ^ 8 → c .rec .stripe < 256 ^ 4 → recordIn p false q j ≡ c .rec
+unfolding recordIn pieceChunk
+spare-back p q j c e a t s = ap (λ (y : Chunk). recordOf (y .spare)) e ∙ record-back (c .rec) a t s
+
+-- by footer
+footer-back : (p : Params) → Ranged p → (q : Zone) (ss : List (List ℕ)) (j : ℕ) (b : Rec) → Long spareLen ss → j < length ss → getD ss j [] ≡ recordBytes b
+    → getD (q .blocks) (1 + p .S + j / perFooter p) noChunk ≡ mkChunk (footerBlock p ss (j / perFooter p)) zeroSpare
+    → b .address < 256 ^ 8 → b .stamp < 256 ^ 8 → b .stripe < 256 ^ 4 → recordIn p true q j ≡ b
+unfolding recordIn footerRecord
+footer-back p r q ss j b l h e f a t s =
+    let k = perFooter p in
+    let i = j / k in
+    let ef : getD (blocksOf (drop (1 + p .S) (q .blocks))) i [] ≡ footerBlock p ss i =
+    blocks-at (drop (1 + p .S) (q .blocks)) i ∙ ap (λ (c : Chunk). c .block) (getD-drop (1 + p .S) (q .blocks) i noChunk ∙ f) in
+    ap (λ (y : List ℕ). recordOf (part (spareLen * (j % k)) spareLen y)) ef ∙ ap recordOf (getD-footer p r ss j l h ∙ e) ∙ record-back b a t s
+
+-- numbers of 8 bytes, all together
+xor-low : (l : List ℕ) → ((n : ℕ) → In n l → n < 256 ^ 8) → xorAll l < 256 ^ 8
+xor-low l h = xorAll-lt 64 l (λ i k. h (getD l i 0) (in-getD l i 0 k))
+
+-- the record of a piece is the record alone
+pub piece-rec : (p : Params) (gone : ℕ) (x : Segment) (s d : ℕ) → pieceOf p gone x s d .rec ≡ recOf p gone x s d
+piece-rec p gone x s d = go (isIn gone d) refl
+  where
+    alike : map (λ (q : Piece). q .rec) (map (storedPiece x s) (present p gone)) ≡ map (storedRec x s) (present p gone)
+    alike = map-map (λ (q : Piece). q .rec) (storedPiece x s) (present p gone) ∙ (unfold storedPiece storedRec in refl)
+
+    go : (b : Bool) → isIn gone d ≡ b → pieceOf p gone x s d .rec ≡ recOf p gone x s d
+    go true e = unfold pieceOf recOf parityPiece in rw e (ap (parityRec s) alike)
+    go false e = unfold pieceOf recOf storedPiece storedRec in rw e
+
+module _ (p : Params) (v : View) (d : ℕ) (lo : Loss p v d) (g : ℕ) (m : In g (remaining p v (named d))) where
+  abbrev r : Ranged p
+  r = lo .ranged
+
+  abbrev hd : d < p .N
+  hd = lo .drive-low
+
+  abbrev acc : Accepted p v (named d)
+  acc = lo .accepts
+
+  abbrev gone : ℕ
+  gone = named d
+
+  abbrev u : View
+  u = rebuiltView p v d
+
+  abbrev x : Segment
+  x = segmentOf p v gone g
+
+  abbrev y : Segment
+  y = segmentOf p u 0 g
+
+  abbrev w : Bool
+  w = sealedIn p v gone g
+
+  abbrev ss : List ℕ
+  ss = counted p gone x
+
+  hg : g < p .Z
+  hg = remaining-in p v gone g m .0
+
+  rm : remains p v gone g ≡ true
+  rm = remaining-in p v gone g m .1
+
+  same-zone : (e : ℕ) → e < p .N → isIn gone e ≡ false → zoneAt u e g ≡ zoneAt v e g
+  same-zone e he pr = zone-other p v d lo e g he hg pr
+
+  -- ---- sealed or not
+
+  pub same-sealed : sealedIn p u 0 g ≡ w
+  unfolding sealedIn zoneOn pointerAt
+  same-sealed = same-test (sealedIn p u 0 g) w
+      (λ q. in-all (λ e. eqb (zoneAt v e g .pointer) (capacity p)) (present p gone)
+      (λ e i. let (he, pr) = present-in p gone e i in
+      ap (λ (z : Zone). eqb (z .pointer) (capacity p)) (sym (same-zone e he pr)) ∙ all-in (λ e. eqb (zoneAt u e g .pointer) (capacity p)) (present p 0) q e (present-all p e he)))
+      (λ q. in-all (λ e. eqb (zoneAt u e g .pointer) (capacity p)) (present p 0)
+      (λ e i. by-drive p v d lo {P = λ e. eqb (zoneAt u e g .pointer) (capacity p) ≡ true} (here q)
+      (λ e he pr. ap (λ (z : Zone). eqb (z .pointer) (capacity p)) (same-zone e he pr) ∙ all-in (λ e. eqb (zoneAt v e g .pointer) (capacity p)) (present p gone) q e (in-present p gone e he pr))
+      e (present-in p 0 e i .0)))
+    where
+      here : w ≡ true → eqb (zoneAt u d g .pointer) (capacity p) ≡ true
+      here q = eq-eqb (zoneAt u d g .pointer) (capacity p)
+          (rebuilt-full p v d lo g hg rm (full-is p v gone g ∙ q)
+          ∙ (let a = sealed-all p r v gone acc g m q in let c = capacity-is p r in let z : suc (length ss + footers p) ≡ capacity p = omega arith in z))
+
+  pub same-full : y .full ≡ x .full
+  same-full = full-is p u 0 g ∙ same-sealed ∙ sym (full-is p v gone g)
+
+  -- ---- the decoded records fit
+
+  decoded : (s : ℕ) → recOf p gone x s d ≡ parityRec s (map (storedRec x s) (present p gone))
+  unfolding recOf
+  decoded s = rw (lost p v d lo)
+
+  pub decoded-stripe : (s : ℕ) → recOf p gone x s d .stripe ≡ s
+  unfolding parityRec
+  decoded-stripe s = ap (λ (b : Rec). b .stripe) (decoded s)
+
+  stored-low : (s e : ℕ) → counts p gone x s ≡ true → In e (present p gone) → (storedRec x s e .address < 256 ^ 8) × (storedRec x s e .stamp < 256 ^ 8)
+  stored-low s e c i =
+      let (he, pr) = present-in p gone e i in
+      let k = chunk-at p v gone g e s he pr (counts-in p gone x s e c he pr) in
+      subst (λ (b : Rec). (b .address < 256 ^ 8) × (b .stamp < 256 ^ 8)) (sym (k .its-record)) (record-low p (zoneAt v e g) (lo .shaped .zone-ok e g he hg) w (offsetOn x e s))
+
+  decoded-low : (s : ℕ) → counts p gone x s ≡ true → (recOf p gone x s d .address < 256 ^ 8) × (recOf p gone x s d .stamp < 256 ^ 8)
+  decoded-low s c = subst (λ (b : Rec). (b .address < 256 ^ 8) × (b .stamp < 256 ^ 8)) (sym (decoded s)) both
+    where
+      each : (f : Rec → ℕ) → ((e : ℕ) → In e (present p gone) → f (storedRec x s e) < 256 ^ 8) → xorAll (map f (map (storedRec x s) (present p gone))) < 256 ^ 8
+      each f h = xor-low (map f (map (storedRec x s) (present p gone))) (λ n i.
+          let (b, j, q) = map-in f (map (storedRec x s) (present p gone)) n i in
+          let (e, k, z) = map-in (storedRec x s) (present p gone) b j in
+          subst (λ (t : ℕ). t < 256 ^ 8) (sym (q ∙ ap f z)) (h e k))
+
+      both : (parityRec s (map (storedRec x s) (present p gone)) .address < 256 ^ 8) × (parityRec s (map (storedRec x s) (present p gone)) .stamp < 256 ^ 8)
+      both = unfold parityRec in (each (λ (b : Rec). b .address) (λ e i. stored-low s e c i .0), each (λ (b : Rec). b .stamp) (λ e i. stored-low s e c i .1))
+
+  -- ---- records of the rebuilt zone
+
+  abbrev pieceAt : ℕ → Piece
+  pieceAt j = pieceOf p gone x (getD ss j 0) d
+
+  abbrev made : List (List ℕ)
+  made = map (λ (c : Piece). recordBytes (c .rec)) (map (λ s. pieceOf p gone x s d) ss)
+
+  counted-at : (j : ℕ) → j < length ss → (getD ss j 0 < p .S) × (counts p gone x (getD ss j 0) ≡ true)
+  counted-at j h = counted-in p gone x (getD ss j 0) (in-getD ss j 0 h)
+
+  record Fits8 (b : Rec) : Type 0 where
+    address8 : b .address < 256 ^ 8
+    stamp8 : b .stamp < 256 ^ 8
+    stripe4 : b .stripe < 256 ^ 4
+
+  fits-at : (j : ℕ) → j < length ss → Fits8 (recOf p gone x (getD ss j 0) d)
+  fits-at j h =
+      let (l, c) = counted-at j h in
+      let f = decoded-low (getD ss j 0) c in
+      record { address8 = f .0; stamp8 = f .1; stripe4 = subst (λ (n : ℕ). n < 256 ^ 4) (sym (decoded-stripe (getD ss j 0))) (omega (arith, r .stripes-high)) }
+
+  record-of : (j : ℕ) → j < length ss → recordIn p w (zoneAt u d g) j ≡ recOf p gone x (getD ss j 0) d
+  record-of j h = go w refl
+    where
+      fit : Fits8 (pieceAt j .rec)
+      fit = subst (λ (b : Rec). Fits8 b) (sym (piece-rec p gone x (getD ss j 0) d)) (fits-at j h)
+
+      go : (b : Bool) → w ≡ b → recordIn p w (zoneAt u d g) j ≡ recOf p gone x (getD ss j 0) d
+      go false q =
+          ap (λ (b : Bool). recordIn p b (zoneAt u d g) j) q
+          ∙ spare-back p (zoneAt u d g) j (pieceAt j) (rebuilt-piece p v d lo g hg rm j h) (fit .address8) (fit .stamp8) (fit .stripe4) ∙ piece-rec p gone x (getD ss j 0) d
+      go true q =
+          let n = sealed-all p r v gone acc g m q in
+          let i = j / perFooter p in
+          let kp : 0 < perFooter p = omega (arith, per-footer-low p r) in
+          let hi : i < footers p = div-lt-iff-lt-mul kp .1 (let z = footers-cover p r in let t : j < footers p * perFooter p = omega arith in t) in
+          ap (λ (b : Bool). recordIn p b (zoneAt u d g) j) q
+          ∙ footer-back p r (zoneAt u d g) made j (pieceAt j .rec) made-long made-low made-at
+          (rebuilt-foot p v d lo g hg rm (full-is p v gone g ∙ q) n i hi) (fit .address8) (fit .stamp8) (fit .stripe4)
+          ∙ piece-rec p gone x (getD ss j 0) d
+        where
+          made-is : length made ≡ length ss
+          made-is = length-map (map (λ s. pieceOf p gone x s d) ss) (λ (c : Piece). recordBytes (c .rec)) ∙ length-map ss (λ s. pieceOf p gone x s d)
+
+          made-low : j < length made
+          made-low = subst (λ (n : ℕ). j < n) (sym made-is) h
+
+          made-long : Long spareLen made
+          made-long b i = let (c, k, e) = map-in (λ (c : Piece). recordBytes (c .rec)) (map (λ s. pieceOf p gone x s d) ss) b i in ap length e ∙ length-record (c .rec)
+
+          made-at : getD made j [] ≡ recordBytes (pieceAt j .rec)
+          made-at =
+              ap (λ (l : List (List ℕ)). getD l j []) (map-map (λ (c : Piece). recordBytes (c .rec)) (λ s. pieceOf p gone x s d) ss)
+              ∙ getD-map (λ s. recordBytes (pieceOf p gone x s d .rec)) ss j [] 0 h
+
+  pub recs-rebuilt : recsOn y d ≡ map (λ s. recOf p gone x s d) ss
+  recs-rebuilt =
+      recs-here p u 0 g d hd (isIn-empty d) ∙ ap (λ (b : Bool). recordsIn p b (zoneAt u d g)) same-sealed
+      ∙ ext-getD (mkRec 0 0 0) (recordsIn p w (zoneAt u d g)) (map (λ s. recOf p gone x s d) ss) (long ∙ sym (length-map ss (λ s. recOf p gone x s d))) each
+    where
+      n : dataStored p (zoneAt u d g) ≡ length ss
+      n = rebuilt-stored p v d lo g hg rm
+
+      long : length (recordsIn p w (zoneAt u d g)) ≡ length ss
+      long = length-records p w (zoneAt u d g) ∙ n
+
+      each : (j : ℕ) → j < length (recordsIn p w (zoneAt u d g)) → getD (recordsIn p w (zoneAt u d g)) j (mkRec 0 0 0) ≡ getD (map (λ s. recOf p gone x s d) ss) j (mkRec 0 0 0)
+      each j h =
+          let h2 : j < length ss = subst (λ (k : ℕ). j < k) long h in
+          row j (subst (λ (k : ℕ). j < k) (sym n) h2) ∙ record-of j h2 ∙ sym (getD-map (λ s. recOf p gone x s d) ss j (mkRec 0 0 0) 0 h2)
+        where
+          row : (j : ℕ) → j < dataStored p (zoneAt u d g) → getD (recordsIn p w (zoneAt u d g)) j (mkRec 0 0 0) ≡ recordIn p w (zoneAt u d g) j
+          row j h = unfold recordsIn in getD-map-below (recordIn p w (zoneAt u d g)) (dataStored p (zoneAt u d g)) j (mkRec 0 0 0) h
+
+  pub recs-other : (e : ℕ) → e < p .N → isIn gone e ≡ false → recsOn y e ≡ recsOn x e
+  recs-other e he pr = recs-here p u 0 g e he (isIn-empty e) ∙ ap₂ (λ (b : Bool) (q : Zone). recordsIn p b q) same-sealed (same-zone e he pr) ∙ sym (recs-here p v gone g e he pr)
+
+  -- ---- headers
+
+  pub header-of : (e : ℕ) → e < p .N → getD (zoneAt u e g .blocks) 0 noChunk ≡ mkChunk (headerBlock p e g (x .serial) (x .copied)) zeroSpare
+  header-of e he = by-drive p v d lo {P = λ e. getD (zoneAt u e g .blocks) 0 noChunk ≡ mkChunk (headerBlock p e g (x .serial) (x .copied)) zeroSpare}
+      (rebuilt-header p v d lo g hg rm) (λ e he pr. ap (λ (q : Zone). getD (q .blocks) 0 noChunk) (same-zone e he pr) ∙ there e he pr) e he
+    where
+      there : (e : ℕ) → e < p .N → isIn gone e ≡ false → getD (zoneAt v e g .blocks) 0 noChunk ≡ mkChunk (headerBlock p e g (x .serial) (x .copied)) zeroSpare
+      there e he pr = go
+        where
+          c : Chunk
+          c = getD (getD (x .zonesBy) e noZone .blocks) 0 noChunk
+
+          fine : sameChunk c (headerBlock p e (zoneOn (x .seg) e) (x .serial) (x .copied)) zeroSpare ≡ true
+          fine = unfold headerFault in (not-false (sameChunk c (headerBlock p e (zoneOn (x .seg) e) (x .serial) (x .copied)) zeroSpare)
+              (none-in (λ e. not (sameChunk (getD (getD (x .zonesBy) e noZone .blocks) 0 noChunk) (headerBlock p e (zoneOn (x .seg) e) (x .serial) (x .copied)) zeroSpare)) (present p gone)
+              (faults-apart p v gone acc g m .no-header-fault) e (in-present p gone e he pr)))
+
+          same! : (c : Chunk) (b s : List ℕ) → sameChunk c b s ≡ true → c ≡ mkChunk b s
+          same! c b s q = unfold sameChunk in (
+              let e1 = sameList-true (c .block) b (and-left (sameList (c .block) b) (sameList (c .spare) s) q) in
+              let e2 = sameList-true (c .spare) s (and-right (sameList (c .block) b) (sameList (c .spare) s) q) in
+              λ i. record { block = e1 i; spare = e2 i })
+
+          seg! : zoneOn (x .seg) e ≡ g
+          seg! = unfold zoneOn in seg-is p v gone g
+
+          go : getD (zoneAt v e g .blocks) 0 noChunk ≡ mkChunk (headerBlock p e g (x .serial) (x .copied)) zeroSpare
+          go = ap (λ (q : Zone). getD (q .blocks) 0 noChunk) (sym (zone-by p v gone g e he))
+              ∙ same! c (headerBlock p e (zoneOn (x .seg) e) (x .serial) (x .copied)) zeroSpare fine
+              ∙ ap (λ (z : ℕ). mkChunk (headerBlock p e z (x .serial) (x .copied)) zeroSpare) seg!
+
+  header-bytes : Bytes (headerAt v (lowDrive p gone) g)
+  unfolding headerAt chunkAt zoneOn
+  header-bytes =
+      let (he, pr) = present-in p gone (lowDrive p gone) (low-present p r d hd) in
+      lo .shaped .zone-ok (lowDrive p gone) g he hg .sound 0 (omega (arith, capacity-over p r)) .block-bytes (inl refl)
+
+  serials-low : (x .serial < 256 ^ 8) × (x .copied < 256 ^ 8)
+  serials-low = (
+    subst (λ (n : ℕ). n < 256 ^ 8) (sym (serial-is p v gone g)) (serial-low (headerAt v (lowDrive p gone) g) header-bytes),
+    subst (λ (n : ℕ). n < 256 ^ 8) (sym (copied-is p v gone g)) (copied-low! (headerAt v (lowDrive p gone) g) header-bytes),
+  )
+    where
+      copied-low! : (l : List ℕ) → Bytes l → headerCopied l < 256 ^ 8
+      copied-low! l h = unfold headerCopied headerWidths in field-low headerWidths 10 l h
+
+  -- drive 0's header, read back
+  pub head-serial : headerSerial (headerAt u 0 g) ≡ x .serial
+  unfolding headerAt chunkAt zoneOn
+  head-serial = ap (λ (c : Chunk). headerSerial (c .block)) (header-of 0 (omega (arith, r .drives-low))) ∙ header-serial p 0 g (x .serial) (x .copied) (serials-low .0)
+
+  pub head-copied : headerCopied (headerAt u 0 g) ≡ x .copied
+  unfolding headerAt chunkAt zoneOn
+  head-copied = ap (λ (c : Chunk). headerCopied (c .block)) (header-of 0 (omega (arith, r .drives-low))) ∙ header-copied p 0 g (x .serial) (x .copied) (serials-low .1)
+
+  pub same-serial : y .serial ≡ x .serial
+  same-serial = serial-is p u 0 g ∙ ap (λ (e : ℕ). headerSerial (headerAt u e g)) (low-first p r) ∙ head-serial
+
+  pub same-copied : y .copied ≡ x .copied
+  same-copied = copied-is p u 0 g ∙ ap (λ (e : ℕ). headerCopied (headerAt u e g)) (low-first p r) ∙ head-copied
+
+  -- ---- stripes that count
+
+  abbrev of : ℕ → Rec → Bool
+  of s b = eqb (b .stripe) s
+
+  has-rebuilt : (s : ℕ) → In s ss → hasChunk y s d ≡ true
+  unfolding hasChunk
+  has-rebuilt s i = ap (any (of s)) recs-rebuilt
+      ∙ in-any (of s) (map (λ t. recOf p gone x t d) ss) (recOf p gone x s d) (in-map (λ t. recOf p gone x t d) ss s i) (eq-eqb (recOf p gone x s d .stripe) s (decoded-stripe s))
+
+  same-has : (s e : ℕ) → e < p .N → isIn gone e ≡ false → hasChunk y s e ≡ hasChunk x s e
+  unfolding hasChunk
+  same-has s e he pr = ap (any (of s)) (recs-other e he pr)
+
+  pub same-counts : (s : ℕ) → s < p .S → counts p 0 y s ≡ counts p gone x s
+  unfolding counts
+  same-counts s hs = same-test (counts p 0 y s) (counts p gone x s)
+      (λ q. in-all (hasChunk x s) (present p gone) (λ e i. let (he, pr) = present-in p gone e i in sym (same-has s e he pr) ∙ all-in (hasChunk y s) (present p 0) q e (present-all p e he)))
+      (λ q. in-all (hasChunk y s) (present p 0) (λ e i. by-drive p v d lo {P = λ e. hasChunk y s e ≡ true} (has-rebuilt s (in-counted q))
+      (λ e he pr. same-has s e he pr ∙ all-in (hasChunk x s) (present p gone) q e (in-present p gone e he pr)) e (present-in p 0 e i .0)))
+    where
+      in-counted : counts p gone x s ≡ true → In s ss
+      in-counted q = unfold counted in in-keep (counts p gone x) (below (p .S)) s (in-below (p .S) s hs) q
+
+  pub same-counted : counted p 0 y ≡ ss
+  unfolding counted
+  same-counted = keep-cong (counts p 0 y) (counts p gone x) (below (p .S)) (λ s i. same-counts s (below-in (p .S) s i))
+
+  -- ---- chunks of counted stripes
+
+  pub offset-other : (s e : ℕ) → e < p .N → isIn gone e ≡ false → offsetOn y e s ≡ offsetOn x e s
+  unfolding offsetOn
+  offset-other s e he pr = ap (indexOf (of s)) (recs-other e he pr)
+
+  abbrev rank : ℕ → ℕ
+  rank s = tally (counts p gone x) (below s)
+
+  rank-in : (s : ℕ) → s < p .S → counts p gone x s ≡ true → (rank s < length ss) × (getD ss (rank s) 0 ≡ s)
+  unfolding counted
+  rank-in s h c = (rank-low (counts p gone x) s (p .S) h c, rank-at (counts p gone x) s (p .S) h c)
+
+  place-in : (j : ℕ) → j < length ss → rank (getD ss j 0) ≡ j
+  unfolding counted
+  place-in j h = rank-of (counts p gone x) (p .S) j h
+
+  pub offset-rebuilt : (s : ℕ) → s < p .S → counts p gone x s ≡ true → offsetOn y d s ≡ rank s
+  unfolding offsetOn
+  offset-rebuilt s h c =
+      let (l, e) = rank-in s h c in
+      let ll : length (map (λ t. recOf p gone x t d) ss) ≡ length ss = length-map ss (λ t. recOf p gone x t d) in
+      let at : (j : ℕ) → j < length ss → getD (map (λ t. recOf p gone x t d) ss) j (mkRec 0 0 0) .stripe ≡ getD ss j 0 =
+      λ j k. ap (λ (b : Rec). b .stripe) (getD-map (λ t. recOf p gone x t d) ss j (mkRec 0 0 0) 0 k) ∙ decoded-stripe (getD ss j 0) in
+      ap (indexOf (of s)) recs-rebuilt
+      ∙ index-is (of s) (map (λ t. recOf p gone x t d) ss) (mkRec 0 0 0) (rank s) (omega arith)
+      (eq-eqb (getD (map (λ t. recOf p gone x t d) ss) (rank s) (mkRec 0 0 0) .stripe) s (at (rank s) l ∙ e))
+      (λ j k. ne-eqb (getD (map (λ t. recOf p gone x t d) ss) j (mkRec 0 0 0) .stripe) s
+      (λ q.
+      let l2 : j < length ss = omega arith in
+      let z : j ≡ rank s = sym (place-in j l2) ∙ ap rank (sym (at j l2) ∙ q) in
+      let bad : ⊥ = omega arith in bad))
+
+  pub same-piece : (s e : ℕ) → s < p .S → counts p gone x s ≡ true → e < p .N → pieceOf p 0 y s e ≡ pieceOf p gone x s e
+  same-piece s e h c he = by-drive p v d lo {P = λ e. pieceOf p 0 y s e ≡ pieceOf p gone x s e} (none! d ∙ here) (λ e he pr. none! e ∙ there e he pr) e he
+    where
+      none! : (e : ℕ) → pieceOf p 0 y s e ≡ storedPiece y s e
+      none! e = unfold pieceOf in rw (isIn-empty e)
+
+      there : (e : ℕ) → e < p .N → isIn gone e ≡ false → storedPiece y s e ≡ pieceOf p gone x s e
+      there e he pr = unfold pieceOf storedPiece in rw (
+        pr,
+        offset-other s e he pr,
+        recs-other e he pr,
+        zone-by p u 0 g e he,
+        zone-by p v gone g e he,
+        same-zone e he pr,
+      )
+
+      block! : getD (getD (y .zonesBy) d noZone .blocks) (1 + offsetOn y d s) noChunk .block ≡ pieceOf p gone x s d .block
+      block! =
+          let (l, e) = rank-in s h c in
+          ap₂ (λ (q : Zone) (n : ℕ). getD (q .blocks) (1 + n) noChunk .block) (zone-by p u 0 g d hd) (offset-rebuilt s h c)
+          ∙ ap (λ (k : Chunk). k .block) (rebuilt-piece p v d lo g hg rm (rank s) l) ∙ chunk! (pieceAt (rank s)) ∙ ap (λ (n : ℕ). pieceOf p gone x n d .block) e
+        where
+          chunk! : (q : Piece) → pieceChunk q .block ≡ q .block
+          chunk! q = unfold pieceChunk in refl
+
+      rec! : getD (recsOn y d) (offsetOn y d s) (mkRec 0 0 0) ≡ pieceOf p gone x s d .rec
+      rec! =
+          let (l, e) = rank-in s h c in
+          ap₂ (λ (b : List Rec) (n : ℕ). getD b n (mkRec 0 0 0)) recs-rebuilt (offset-rebuilt s h c)
+          ∙ getD-map (λ t. recOf p gone x t d) ss (rank s) (mkRec 0 0 0) 0 l ∙ ap (λ (n : ℕ). recOf p gone x n d) e ∙ sym (piece-rec p gone x s d)
+
+      here : storedPiece y s d ≡ pieceOf p gone x s d
+      here = unfold storedPiece in λ i. record { block = block! i; rec = rec! i }
+
+  pub same-rec : (s e : ℕ) → s < p .S → counts p gone x s ≡ true → e < p .N → recOf p 0 y s e ≡ recOf p gone x s e
+  same-rec s e h c he = sym (piece-rec p 0 y s e) ∙ ap (λ (q : Piece). q .rec) (same-piece s e h c he) ∙ piece-rec p gone x s e

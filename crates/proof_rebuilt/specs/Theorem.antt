@@ -1,0 +1,157 @@
+-- What demand 2 claims of a rebuild that finished, between the uncut calls after a restart: only the named drive's rebuild finishes, and then Accepted and Said apply. Assumes nothing.
+use mathlib.Core.Path.{_≡_, refl, sym, ap, _∙_, subst}
+use mathlib.Core.List.{List, [], _∷_}
+use mathlib.Core.Bool.{true, false, not, _&&_, _||_}
+use mathlib.Core.Logic.{_⊎_, inl, inr}
+use Prim.Native.Nat.{ℕ, _<_}
+use borrow.Author.Tests.{eq-eqb, ltb-true, leb-true, eqb-true, not-false}
+use native.Mathlib.Omega.{arith}
+use lib.Dec.{ltb, eqb, lit≤}
+use Rattle.defs.specs.declared.Params.{Params}
+use Rattle.defs.specs.declared.Answer.{Answer}
+use Rattle.defs.specs.declared.Answer.the-variants.{Cut, Restarted, Rebuilt}
+use Rattle.defs.specs.declared.Report.{Report}
+use Rattle.defs.specs.Answers.{kind, isRefused, isRefusedAs}
+use Rattle.defs.specs.Calls.{Check, firstRefusal, Plan, mkPlan, decided, outcome}
+use Rattle.defs.specs.Calls.Check.{rule}
+use Rattle.defs.specs.Demands.{saidAt}
+use Rattle.defs.specs.Drives.{View, Disk, storeDisk, storeAll}
+use Rattle.defs.specs.Engine.Call.{restart, rebuild}
+use Rattle.defs.specs.Engine.{storeCount, lentBlock, verdict, lentOk, callOn, callDisk}
+use Rattle.defs.specs.Faults.{imageChecks}
+use Rattle.defs.specs.History.{mkWorld}
+use Rattle.defs.specs.Memory.{Memory}
+use Rattle.defs.specs.Params.{inRange, noDrive, named}
+use Rattle.defs.specs.Rebuild.{namesMissing, rebuildChecks, rebuildStores, rebuildVerdict}
+use Rattle.defs.specs.Restart.{reportOf, restartChecks, restartPlan, restartVerdict}
+use Rattle.defs.specs.Segments.{segments}
+use Rattle.laws.specs.Geometry.{Ranged, ranged}
+use Rattle.laws.specs.Mask.{only-none}
+use Rattle.laws.specs.Ranges.{and-left, and-right}
+use Rattle.spec_demands.specs.Engines.{callWorld, onValues, viewIn}
+use Rattle.spec_demands.specs.Tables.{Rebuilds}
+use Rattle.views.specs.Views.{seen, view-stores}
+use Rattle.tablesay.specs.Accept.{Accepted, checks-of}
+use Rattle.tablesay.specs.Checks.{Clear, clear}
+use Rattle.tablesay.specs.Idle.{whole-of}
+use Rattle.tablesay.specs.Losing.{named-some}
+use Rattle.tablesay.specs.Outcomes.{Ended, ended, refusal-kind, cut-mild}
+use Rattle.tablesay.specs.Outcomes.Ended.{ended-refused, ended-done, ended-cut}
+use Rattle.tablesay.specs.Range.{capacity-word}
+use Rattle.tablesay.specs.Rebuilding.{rebuild-roomy, rebuild-within}
+use Rattle.tablesay.specs.Run.{Lost, Well, Run}
+use Rattle.tablesay.specs.Tests.{clash, false-true, or-right}
+use Rattle.tablesay.specs.Zones.{all-fit}
+use Rattle.proof_rebuilt.specs.Accepted.{rebuilt-accepted}
+use Rattle.proof_rebuilt.specs.Said.{rebuilt-said}
+use Rattle.proof_rebuilt.specs.Zone.{rebuiltView, Loss, lost}
+
+-- ---- a restart of drives on which nothing is wrong
+
+no-drive : named noDrive ≡ 0
+unfolding named noDrive
+no-drive = only-none 255 (lit≤ tt)
+
+-- it is not refused 9, with whatever memory
+restart-mild : (p : Params) (k : Disk) (m : Memory) (n : ℕ) → Accepted p (seen p k) 0 → isRefusedAs 9 (callDisk p k m (restart noDrive n) .answer) ≡ false
+unfolding callDisk callOn verdict storeCount lentBlock restartVerdict
+restart-mild p k m n acc = go (ended p k m checks plan n [])
+  where
+    checks : List Check
+    checks = restartChecks p (lentOk p k m) (seen p k) noDrive (segments p (seen p k) (named noDrive))
+
+    plan : Plan
+    plan = restartPlan p (seen p k) noDrive (segments p (seen p k) (named noDrive)) (m .inflight)
+
+    fine : Clear checks
+    fine = unfold restartChecks imageChecks in (
+        let a = checks-of p (seen p k) (named noDrive) (subst (λ (g : ℕ). Accepted p (seen p k) g) (sym no-drive) acc) in
+        (refl, λ x. (refl, λ y. (a .0, (a .1 .0, (refl, λ z. (refl, λ t. tt)))))))
+
+    restarted-mild : (q : Report) → isRefusedAs 9 (Restarted q) ≡ false
+    restarted-mild q = unfold isRefusedAs isRefused kind in refl
+
+    answer-is : plan .answer ≡ Restarted (reportOf p (named noDrive) (segments p (seen p k) (named noDrive)))
+    answer-is = unfold restartPlan in refl
+
+    go : Ended p k m checks plan (outcome p (storeDisk p) n k m [] (decided (firstRefusal checks) plan))
+        → isRefusedAs 9 (outcome p (storeDisk p) n k m [] (decided (firstRefusal checks) plan) .answer) ≡ false
+    go (ended-refused a e f g h) = ap (isRefusedAs 9) f ∙ clear checks fine a e
+    go (ended-done c f g h) = ap (isRefusedAs 9) (f ∙ answer-is) ∙ restarted-mild (reportOf p (named noDrive) (segments p (seen p k) (named noDrive)))
+    go (ended-cut c f) = ap (isRefusedAs 9) f ∙ cut-mild
+
+-- ---- the rebuild
+
+module _ (p : Params) (k : Disk) (m : Memory) (u : Run p k m) (d n : ℕ) where
+  abbrev v : View
+  v = seen p k
+
+  rg : Ranged p
+  rg = ranged p (u .base .ranged)
+
+  -- the named drive is the missing one, and nothing is wrong on the others
+  record Done : Type 0 where
+    loses : Loss p v d
+    named-so : m .state .missing ≡ named d
+    leaves : callDisk p k m (rebuild d n) .drives ≡ storeAll (storeDisk p) (rebuildStores p d (segments p v (named d))) k
+
+  rebuild-done : eqb (kind (callDisk p k m (rebuild d n) .answer)) 13 ≡ true → Done
+  unfolding callDisk callOn verdict storeCount lentBlock rebuildVerdict rebuildChecks
+  rebuild-done q = go (ended p k m checks plan n [])
+    where
+      plan : Plan
+      plan = mkPlan (rebuildStores p d (segments p v (named d))) Rebuilt m []
+
+      checks : List Check
+      checks = rule 1 (not (inRange p) || not (namesMissing p (m .state) d)) ∷ rule 2 (not (lentOk p k m)) ∷ imageChecks p v (named d) (segments p v (named d))
+
+      names : not (inRange p) || not (namesMissing p (m .state) d) ≡ false → (d < p .N) × (m .state .missing ≡ named d)
+      names z = unfold namesMissing in (
+          let t = not-false (ltb d (p .N) && eqb (m .state .missing) (named d)) (or-right (not (inRange p)) (not (ltb d (p .N) && eqb (m .state .missing) (named d))) z) in
+          (ltb-true d (p .N) (and-left (ltb d (p .N)) (eqb (m .state .missing) (named d)) t), eqb-true (m .state .missing) (named d) (and-right (ltb d (p .N)) (eqb (m .state .missing) (named d)) t)))
+
+      accepts-of : (d < p .N) → m .state .missing ≡ named d → Lost p k m ⊎ Well p k m → Accepted p v (named d)
+      accepts-of hd e (inl lo) = subst (λ (g : ℕ). Accepted p v g) e (lo .accepts)
+      accepts-of hd e (inr we) = clash (eq-eqb (named d) 0 (sym e ∙ we .none-missing)) (named-some p rg d hd)
+
+      refused-not : (a : Answer) → isRefused a ≡ true → eqb (kind a) 13 ≡ true → ⊥
+      refused-not a x y = unfold isRefused in (let h = leb-true (kind a) 1 x in let e = eqb-true (kind a) 13 y in let z : ⊥ = omega arith in z)
+
+      cut-not : eqb (kind Cut) 13 ≡ true → ⊥
+      cut-not y = unfold kind in false-true y
+
+      go : Ended p k m checks plan (outcome p (storeDisk p) n k m [] (decided (firstRefusal checks) plan)) → Done
+      go (ended-refused a e f g h) = absurd (refused-not a (refusal-kind checks a e) (ap (λ (b : Answer). eqb (kind b) 13) (sym f) ∙ q))
+      go (ended-done c f g h) = let (hd, e) = names (c .0) in record {
+        loses = record { ranged = rg; shaped = u .base .shaped; drive-low = hd; accepts = accepts-of hd e (u .mode) };
+        named-so = e;
+        leaves = g;
+      }
+      go (ended-cut c f) = absurd (cut-not (ap (λ (b : Answer). eqb (kind b) 13) (sym f) ∙ q))
+
+  -- the view that it leaves
+  rebuild-view : (o : Done) → seen p (callDisk p k m (rebuild d n) .drives) ≡ rebuiltView p v d
+  unfolding rebuiltView
+  rebuild-view o =
+      let ss = rebuildStores p d (segments p v (named d)) in
+      let sh = u .base .shaped in
+      let hd = o .loses .drive-low in
+      let nd = lost p v d (o .loses) in
+      ap (seen p) (o .leaves)
+      ∙ view-stores p k ss (capacity-word p rg) (whole-of p k m (u .base .lent))
+      (all-fit p v ss (sh .sized) (rebuild-within p rg v sh d hd nd) (rebuild-roomy p rg v sh d hd nd))
+
+  rebuilds-done : Done → Rebuilds onValues p (mkWorld k m) (callWorld p (mkWorld k m) (rebuild d n))
+  unfolding viewIn callWorld
+  rebuilds-done o = record {
+    says-same = λ a h.
+        ap (λ (t : View). saidAt p t 0 a) (rebuild-view o) ∙ rebuilt-said p v d (o .loses) a
+        ∙ ap (λ (g : ℕ). saidAt p v g a) (sym (o .named-so));
+    accepted = λ w i e. restart-mild p (w .disk) (w .memory) i
+        (subst (λ (t : View). Accepted p t 0) (sym (ap (seen p) e ∙ rebuild-view o)) (rebuilt-accepted p v d (o .loses)));
+  }
+
+-- demand 2, of a rebuild that finished
+pub rebuilds-say : (p : Params) (k : Disk) (m : Memory) → Run p k m → (d n : ℕ) → eqb (kind (callDisk p k m (rebuild d n) .answer)) 13 ≡ true
+    → Rebuilds onValues p (mkWorld k m) (callWorld p (mkWorld k m) (rebuild d n))
+rebuilds-say p k m u d n q = rebuilds-done p k m u d n (rebuild-done p k m u d n q)

@@ -1,0 +1,240 @@
+-- The zones after a rebuild, from its stores: other drives are as before; on the named one, header, counted chunks and footers of what remains, and nothing else. Assumes nothing.
+use mathlib.Core.Path.{_≡_, refl, sym, ap, _∙_, subst}
+use mathlib.Core.List.{List, [], _∷_, _++_, map}
+use mathlib.Core.Bool.{Bool, true, false, cond}
+use Prim.Native.Nat.{ℕ, suc, _+_, _≤_, _<_}
+use native.Mathlib.Nat.{zero-add}
+use native.Mathlib.Decide.{ℕ-discrete}
+use borrow.Author.Tests.{ne-eqb}
+use native.Mathlib.Omega.{arith}
+use lib.ListN.{length, getD, length-append, length-map, List·getD-append}
+use lib.Seq.{getD-append-add}
+use Rattle.defs.specs.declared.Params.{Params}
+use Rattle.defs.specs.Drives.{Chunk, mkChunk, noChunk, Zone, View, zoneAt, pointerAt, Store, resetZone, storeView, storeAll, dataStored, zeroSpare}
+use Rattle.defs.specs.Drives.Store.{reset}
+use Rattle.defs.specs.Layout.{headerBlock, mkRec, recordBytes, footerBlock}
+use Rattle.defs.specs.Lists.{below, isIn}
+use Rattle.defs.specs.Params.{footers, capacity, named}
+use Rattle.defs.specs.Parity.{Piece, mkPiece}
+use Rattle.defs.specs.Rebuild.{rebuiltZone, rebuildStores}
+use Rattle.defs.specs.Segments.{Segment, segmentOf, segments, counted, pieceOf}
+use Rattle.laws.specs.Geometry.{Ranged}
+use Rattle.laws.specs.Mask.{isIn-only}
+use Rattle.laws.specs.Ranges.{length-below, getD-map, getD-map-below}
+use Rattle.tablesay.specs.Accept.{Accepted}
+use Rattle.tablesay.specs.Losing.{named-in}
+use Rattle.tablesay.specs.Puts.{putAll, puts-pointer, puts-new}
+use Rattle.tablesay.specs.Range.{capacity-is, capacity-over}
+use Rattle.tablesay.specs.Rebuilding.{counted-low, pieceChunk, rebuilt-chunks, rebuilt-is, hits-here, rebuild-agrees}
+use Rattle.tablesay.specs.Segs.{full-is}
+use Rattle.tablesay.specs.Tables.{remains, in-remaining}
+use Rattle.tablesay.specs.Zones.{Shaped, zoneStore, zone-after}
+use Rattle.proof_rebuilt.specs.Groups.{sealed-all}
+
+-- the view that a rebuild of drive d leaves
+unfoldable pub rebuiltView : Params → View → ℕ → View
+rebuiltView p v d = storeAll storeView (rebuildStores p d (segments p v (named d))) v
+
+-- drive d is missing, and nothing is wrong on the others
+pub record Loss (p : Params) (v : View) (d : ℕ) : Type 0 where
+  pub ranged : Ranged p
+  pub shaped : Shaped p v
+  pub drive-low : d < p .N
+  pub accepts : Accepted p v (named d)
+
+module _ (p : Params) (v : View) (d : ℕ) (lo : Loss p v d) where
+  abbrev r : Ranged p
+  r = lo .ranged
+
+  abbrev sh : Shaped p v
+  sh = lo .shaped
+
+  abbrev hd : d < p .N
+  hd = lo .drive-low
+
+  abbrev gone : ℕ
+  gone = named d
+
+  abbrev u : View
+  u = rebuiltView p v d
+
+  pub lost : isIn gone d ≡ true
+  lost = named-in p r d hd
+
+  -- no other drive is missing
+  pub other-here : (e : ℕ) → e < p .N → (e ≡ d → ⊥) → isIn gone e ≡ false
+  unfolding named
+  other-here e he ne = let h = r .drives-high in isIn-only d e (omega arith) (omega arith) ∙ ne-eqb e d ne
+
+  -- each drive is the rebuilt one or as it was
+  pub by-drive : {P : ℕ → Type 0} → P d → ((e : ℕ) → e < p .N → isIn gone e ≡ false → P e) → (e : ℕ) → e < p .N → P e
+  by-drive {P} a f e he = go (ℕ-discrete e d)
+    where
+      go : Dec (e ≡ d) → P e
+      go (yes q) = subst P (sym q) a
+      go (no q) = f e he (other-here e he q)
+
+  pub zone-other : (e z : ℕ) → e < p .N → z < p .Z → isIn gone e ≡ false → zoneAt u e z ≡ zoneAt v e z
+  unfolding rebuiltView
+  zone-other e z he hz q = sym (rebuild-agrees p r v sh d hd lost e z he hz q)
+
+  zone-by-stores : (z : ℕ) → z < p .Z → zoneAt u d z ≡ storeAll zoneStore (cond (remains p v gone z) (rebuiltZone p d (segmentOf p v gone z)) []) (resetZone (zoneAt v d z))
+  unfolding rebuiltView
+  zone-by-stores z hz =
+      zone-after p v d z (rebuildStores p d (segments p v gone)) (sh .sized) hd hz
+      ∙ ap (λ (l : List Store). storeAll zoneStore l (zoneAt v d z)) (hits-here p r v sh d hd lost z hz)
+      ∙ first (cond (remains p v gone z) (rebuiltZone p d (segmentOf p v gone z)) []) (zoneAt v d z)
+    where
+      first : (l : List Store) (q : Zone) → storeAll zoneStore (reset d z ∷ l) q ≡ storeAll zoneStore l (resetZone q)
+      first l q = unfold storeAll zoneStore in refl
+
+  -- a zone whose segment doesn't remain
+  pub zone-dropped : (z : ℕ) → z < p .Z → remains p v gone z ≡ false → pointerAt u d z ≡ 0
+  unfolding pointerAt
+  zone-dropped z hz q =
+      ap (λ (y : Zone). y .pointer) (zone-by-stores z hz) ∙ ap (λ (b : Bool). storeAll zoneStore (cond b (rebuiltZone p d (segmentOf p v gone z)) []) (resetZone (zoneAt v d z)) .pointer) q
+      ∙ nothing (zoneAt v d z)
+    where
+      nothing : (y : Zone) → storeAll zoneStore [] (resetZone y) .pointer ≡ 0
+      nothing y = unfold storeAll resetZone in refl
+
+  -- ---- the zone of a segment that remains
+
+  module _ (g : ℕ) (hg : g < p .Z) (rm : remains p v gone g ≡ true) where
+    abbrev x : Segment
+    x = segmentOf p v gone g
+
+    abbrev ss : List ℕ
+    ss = counted p gone x
+
+    abbrev chunks : List Chunk
+    chunks = rebuilt-chunks p r v sh gone g d hg hd lost
+
+    abbrev pieces : List Piece
+    pieces = map (λ s. pieceOf p gone x s d) ss
+
+    -- what the footers are made of
+    abbrev pub sparesLost : List (List ℕ)
+    sparesLost = map (λ (q : Piece). recordBytes (q .rec)) (map (λ s. pieceOf p gone x s d) ss)
+
+    abbrev feet : List Chunk
+    feet = map (λ i. mkChunk (footerBlock p sparesLost i) zeroSpare) (below (footers p))
+
+    abbrev first : Chunk
+    first = mkChunk (headerBlock p d g (x .serial) (x .copied)) zeroSpare
+
+    chunks-are : (b : Bool) → x .full ≡ b → chunks ≡ first ∷ (map pieceChunk pieces ++ cond b feet [])
+    unfolding rebuilt-chunks
+    chunks-are b e = ap (λ (y : Bool). first ∷ (map pieceChunk pieces ++ cond y feet [])) e
+
+    pieces-long : length (map pieceChunk pieces) ≡ length ss
+    pieces-long = length-map pieces pieceChunk ∙ length-map ss (λ s. pieceOf p gone x s d)
+
+    feet-long : length feet ≡ footers p
+    feet-long = length-map (below (footers p)) (λ i. mkChunk (footerBlock p sparesLost i) zeroSpare) ∙ length-below (footers p)
+
+    chunks-long : (b : Bool) → x .full ≡ b → length chunks ≡ suc (length ss + length (cond b feet []))
+    chunks-long b e = ap length (chunks-are b e) ∙ ap suc (length-append (map pieceChunk pieces) (cond b feet []) ∙ ap (λ (n : ℕ). n + length (cond b feet [])) pieces-long)
+
+    few : length ss ≤ p .S
+    few = counted-low p gone x
+
+    chunks-low : length chunks ≤ capacity p
+    chunks-low = go (x .full) refl
+      where
+        go : (b : Bool) → x .full ≡ b → length chunks ≤ capacity p
+        go true e = let a = chunks-long true e in let f = feet-long in let c = capacity-is p r in let n = few in omega arith
+        go false e = let a : length chunks ≡ suc (length ss + 0) = chunks-long false e in let c = capacity-over p r in let n = few in omega arith
+
+    zone-is : zoneAt u d g ≡ putAll d g chunks (resetZone (zoneAt v d g))
+    zone-is =
+        zone-by-stores g hg
+        ∙ ap (λ (b : Bool). storeAll zoneStore (cond b (rebuiltZone p d x) []) (resetZone (zoneAt v d g))) rm
+        ∙ ap (λ (l : List Store). storeAll zoneStore l (resetZone (zoneAt v d g))) (rebuilt-is p r v sh d g hg hd lost)
+
+    reset-zero : (y : Zone) → resetZone y .pointer ≡ 0
+    unfolding resetZone
+    reset-zero y = refl
+
+    reset-long : length (resetZone (zoneAt v d g) .blocks) ≡ capacity p
+    unfolding resetZone
+    reset-long = sh .zone-ok d g hd hg .blocks-long
+
+    pointer-long : zoneAt u d g .pointer ≡ length chunks
+    pointer-long =
+        ap (λ (y : Zone). y .pointer) zone-is ∙ puts-pointer d g chunks (resetZone (zoneAt v d g))
+        ∙ ap (λ (n : ℕ). n + length chunks) (reset-zero (zoneAt v d g)) ∙ zero-add (length chunks)
+
+    chunk-is : (i : ℕ) → i < length chunks → getD (zoneAt u d g .blocks) i noChunk ≡ getD chunks i noChunk
+    chunk-is i h =
+        let y = resetZone (zoneAt v d g) in
+        let z : y .pointer ≡ 0 = reset-zero (zoneAt v d g) in
+        let l = chunks-low in
+        let k = reset-long in
+        ap (λ (q : Zone). getD (q .blocks) i noChunk) zone-is
+        ∙ ap (λ (n : ℕ). getD (putAll d g chunks y .blocks) n noChunk) (let e : i ≡ y .pointer + i = omega arith in e)
+        ∙ puts-new d g chunks y i h (omega arith)
+
+    -- the pointer
+    pub rebuilt-low : zoneAt u d g .pointer ≤ capacity p
+    rebuilt-low = subst (λ (n : ℕ). n ≤ capacity p) (sym pointer-long) chunks-low
+
+    pub rebuilt-open : x .full ≡ false → zoneAt u d g .pointer ≡ suc (length ss)
+    rebuilt-open e = pointer-long ∙ chunks-long false e ∙ (let z : suc (length ss + 0) ≡ suc (length ss) = omega arith in z)
+
+    pub rebuilt-full : x .full ≡ true
+        → zoneAt u d g .pointer ≡ suc (length ss + footers p)
+    rebuilt-full e = pointer-long ∙ chunks-long true e ∙ ap (λ (n : ℕ). suc (length ss + n)) feet-long
+
+    pub rebuilt-some : 1 ≤ zoneAt u d g .pointer
+    rebuilt-some = go (x .full) refl
+      where
+        go : (b : Bool) → x .full ≡ b → 1 ≤ zoneAt u d g .pointer
+        go b e = let a = pointer-long in let c = chunks-long b e in omega arith
+
+    -- its blocks
+    pub rebuilt-header : getD (zoneAt u d g .blocks) 0 noChunk ≡ mkChunk (headerBlock p d g (x .serial) (x .copied)) zeroSpare
+    rebuilt-header =
+        let a = chunks-long (x .full) refl in
+        chunk-is 0 (omega arith) ∙ ap (λ (l : List Chunk). getD l 0 noChunk) (chunks-are (x .full) refl)
+
+    after-first : (b : Bool) → x .full ≡ b → (i : ℕ) → i < length ss + length (cond b feet [])
+        → getD (zoneAt u d g .blocks) (1 + i) noChunk ≡ getD (map pieceChunk pieces ++ cond b feet []) i noChunk
+    after-first b e i h =
+        let a = chunks-long b e in
+        chunk-is (1 + i) (omega arith) ∙ ap (λ (l : List Chunk). getD l (1 + i) noChunk) (chunks-are b e)
+        ∙ ap (λ (n : ℕ). getD (first ∷ (map pieceChunk pieces ++ cond b feet [])) n noChunk) (let z : 1 + i ≡ suc i = omega arith in z)
+
+    pub rebuilt-piece : (j : ℕ) → j < length ss
+        → getD (zoneAt u d g .blocks) (1 + j) noChunk
+        ≡ pieceChunk (pieceOf p gone x (getD ss j 0) d)
+    rebuilt-piece j h =
+        let none! : Piece = mkPiece [] (mkRec 0 0 0) in
+        let l : j < length (map pieceChunk pieces) = subst (λ (n : ℕ). j < n) (sym pieces-long) h in
+        let l2 : j < length pieces = subst (λ (n : ℕ). j < n) (length-map pieces pieceChunk) l in
+        after-first (x .full) refl j (omega arith)
+        ∙ List·getD-append (map pieceChunk pieces) (cond (x .full) feet []) noChunk j l
+        ∙ getD-map pieceChunk pieces j noChunk none! l2 ∙ ap pieceChunk (getD-map (λ s. pieceOf p gone x s d) ss j none! 0 h)
+
+    pub rebuilt-foot : x .full ≡ true → length ss ≡ p .S → (i : ℕ) → i < footers p
+        → getD (zoneAt u d g .blocks) (1 + p .S + i) noChunk ≡ mkChunk (footerBlock p sparesLost i) zeroSpare
+    rebuilt-foot e n i h =
+        let f = feet-long in
+        let l = pieces-long in
+        ap (λ (k : ℕ). getD (zoneAt u d g .blocks) k noChunk) (let z : 1 + p .S + i ≡ 1 + (length (map pieceChunk pieces) + i) = omega arith in z)
+        ∙ after-first true e (length (map pieceChunk pieces) + i) (let z : length (map pieceChunk pieces) + i < length ss + length feet = omega arith in z)
+        ∙ getD-append-add (map pieceChunk pieces) feet i noChunk ∙ getD-map-below (λ i. mkChunk (footerBlock p sparesLost i) zeroSpare) (footers p) i noChunk h
+
+    -- its data blocks are the counted ones
+    pub rebuilt-stored : dataStored p (zoneAt u d g) ≡ length ss
+    rebuilt-stored = go (x .full) refl
+      where
+        min-is : (y : Zone) (n : ℕ) → y .pointer ≡ suc n → n ≤ p .S → dataStored p y ≡ n
+        min-is y n e l = unfold dataStored in omega arith
+
+        min-over : (y : Zone) (n k : ℕ) → y .pointer ≡ suc (n + k) → n ≡ p .S → dataStored p y ≡ n
+        min-over y n k e l = unfold dataStored in omega arith
+
+        go : (b : Bool) → x .full ≡ b → dataStored p (zoneAt u d g) ≡ length ss
+        go true e = min-over (zoneAt u d g) (length ss) (footers p) (rebuilt-full e) (sealed-all p r v gone (lo .accepts) g (in-remaining p v gone g hg rm) (sym (full-is p v gone g) ∙ e))
+        go false e = min-is (zoneAt u d g) (length ss) (rebuilt-open e) few
