@@ -1,0 +1,7 @@
+// Demand 1 and the NVMe zone rules, proved of the definitions for all parameters, lent bytes and calls (specs/). There is no code here.
+ghost use Rattle.spec_demands.specs.Answering.{Demand1};
+
+// Demand 1.
+pub fn demand_one()
+    ensures { λ _. ⌜ Demand1 ⌝ }
+{}
