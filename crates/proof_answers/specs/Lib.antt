@@ -1,2 +1,6 @@
 pub mod Verdicts
 pub mod Answered
+pub mod Rising
+pub mod Lengths
+pub mod Sent
+pub mod Rebuilt
