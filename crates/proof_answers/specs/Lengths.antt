@@ -1,7 +1,7 @@
 -- Blocks and spares of a view have their lengths, and so have the blocks and records made of them. Assumes nothing.
 use mathlib.Core.Path.{_≡_, refl, sym, ap, _∙_, subst}
 use mathlib.Core.List.{List, [], map}
-use mathlib.Core.Bool.{Bool, true, false, cond}
+use mathlib.Core.Bool.{true, false, cond}
 use Prim.Native.Nat.{ℕ, _+_, _≤_, _<_}
 use native.Mathlib.Decide.{ℕ-discrete}
 use native.Mathlib.Omega.{arith}
@@ -10,7 +10,7 @@ use lib.Seq.{getD-set-same, getD-set-other}
 use Rattle.defs.specs.declared.Params.{Params}
 use Rattle.defs.specs.Drives.{Chunk, mkChunk, noChunk, Zone, View, zoneAt, chunkAt, Store, putZone, Disk, zoneOn, zeroSpare, sparesOf, footerStores, headerStores, resetStores}
 use Rattle.defs.specs.Drives.Store.{put, reset}
-use Rattle.defs.specs.Layout.{dataDrive, dataDrives, dataPosition, isData, headerBlock, mkRec, recordBytes, footerBlock}
+use Rattle.defs.specs.Layout.{dataDrive, dataDrives, dataPosition, isData, headerBlock, mkRec, footerBlock}
 use Rattle.defs.specs.Lists.{upFrom, below, isIn}
 use Rattle.defs.specs.Params.{dataCount, spareLen, capacity, unitLen, placeOf, placeByte, drivesOf, present}
 use Rattle.defs.specs.Parity.{Piece, mkPiece, parityPiece}
@@ -29,7 +29,6 @@ use Rattle.tablesay.specs.Reads.{counts-in}
 use Rattle.tablesay.specs.Rebuilding.{parity-length}
 use Rattle.tablesay.specs.Sealing.{sparesIn, footerChunks, footer-puts}
 use Rattle.tablesay.specs.Segs.{present-in, data-low, zone-by, chunk-at}
-use Rattle.tablesay.specs.Tests.{cond-true, cond-false}
 use Rattle.views.specs.Views.{Whole, blocks-long, block-view, spare-view, seen}
 use Rattle.proof_answers.specs.Rising.{Proper}
 
@@ -76,9 +75,6 @@ put-fair p q b s f hb hs = record {
   spare-long = λ i h. ap (λ (c : Chunk). length (c .spare)) (at i h .1) ∙ at i h .2 .1;
 }
   where
-    new : List Chunk
-    new = set (q .blocks) (q .pointer) (mkChunk b s)
-
     at : (i : ℕ) → i < capacity p → (c : Chunk) × (getD (set (q .blocks) (q .pointer) (mkChunk b s)) i noChunk ≡ c) × ((length (c .block) ≡ p .B) × (length (c .spare) ≡ spareLen))
     at i h = go (ℕ-discrete i (q .pointer))
       where
@@ -86,7 +82,7 @@ put-fair p q b s f hb hs = record {
         go (yes e) = (
           mkChunk b s,
           ap (λ (x : ℕ). getD (set (q .blocks) (q .pointer) (mkChunk b s)) x noChunk) e
-          ∙ getD-set-same (q .blocks) (q .pointer) (mkChunk b s) noChunk (subst (λ (x : ℕ). q .pointer < x) (sym (f .count)) (subst (λ (x : ℕ). x < capacity p) e h)),
+              ∙ getD-set-same (q .blocks) (q .pointer) (mkChunk b s) noChunk (subst (λ (x : ℕ). q .pointer < x) (sym (f .count)) (subst (λ (x : ℕ). x < capacity p) e h)),
           (hb, hs),
         )
         go (no e) = (getD (q .blocks) i noChunk, getD-set-other (q .blocks) (q .pointer) i (mkChunk b s) noChunk e, (f .block-long i h, f .spare-long i h))
@@ -194,9 +190,6 @@ module _ (p : Params) (r : Ranged p) (v : View) (fair : (d z : ℕ) → d < p .N
   unfolding movedOn
   moved-long d hd = go (test (isData p k d))
     where
-      a : Piece
-      a = getD qs (dataPosition p k d) (mkPiece [] (mkRec 0 0 0))
-
       parity-block : length (parityPiece p k qs .block) ≡ p .B
       parity-block = unfold parityPiece in parity-length (p .B) (map (λ (y : Piece). y .block) qs)
           (λ b m. let (y, i, f) = map-in (λ (y : Piece). y .block) qs b m in ap length f ∙ piece-long y i)

@@ -4,3 +4,5 @@ pub mod Rising
 pub mod Lengths
 pub mod Sent
 pub mod Rebuilt
+pub mod Restarted
+pub mod Ruled

@@ -1,22 +1,21 @@
 -- Stores that the zones have room for, by counting them zone by zone; such stores obey the zone rules on the bytes. Assumes nothing.
 use mathlib.Core.Path.{_≡_, refl, sym, subst, _∙_}
-use mathlib.Core.List.{List, [], _∷_, _++_}
-use mathlib.Core.Bool.{true, false, _&&_}
+use mathlib.Core.List.{List, [], _∷_}
+use mathlib.Core.Bool.{true, false}
 use mathlib.Core.Logic.{inl, inr}
 use Prim.Native.Nat.{ℕ, zero, suc, _+_, _^_, _≤_, _<_}
 use native.Mathlib.Omega.{arith}
 use lib.Dec.{eqb}
 use lib.ListN.{length, take}
 use Rattle.defs.specs.declared.Params.{Params}
-use Rattle.defs.specs.Drives.{Zone, View, zoneAt, pointerAt, Store, putZone, resetZone, storeView, Disk, pointerOf, storeDisk}
+use Rattle.defs.specs.Drives.{Zone, View, zoneAt, pointerAt, Store, storeView, Disk, storeDisk}
 use Rattle.defs.specs.Drives.Store.{put, reset}
 use Rattle.defs.specs.Lists.{consIf, keep}
 use Rattle.defs.specs.Params.{spareLen, capacity}
 use Rattle.laws.specs.Ranges.{Test, test, and-both}
 use Rattle.laws.specs.Ranges.Test.{yes!, no! }
 use Rattle.spec_demands.specs.Rules.{Obeys, ObeyAll}
-use Rattle.tablesay.specs.Members.{In, in-append}
-use Rattle.tablesay.specs.Puts.{hits-append}
+use Rattle.tablesay.specs.Members.{In}
 use Rattle.tablesay.specs.Tests.{cond-true, cond-false, eqb-self}
 use Rattle.tablesay.specs.Zones.{Sized, hitsAt, zoneStore, hits, sized-store, zone-stored, put-pointer, reset-pointer}
 use Rattle.views.specs.Views.{Whole, pointer-view, Fits, AllFit, seen, view-store, whole-store}

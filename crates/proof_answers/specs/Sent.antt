@@ -1,21 +1,21 @@
 -- The stores of a write, a landing and a reclaim have room: headers in an empty zone, a chunk and footers below the capacity, resets. Assumes nothing.
-use mathlib.Core.Path.{_≡_, refl, sym, ap, ap₂, _∙_, subst}
+use mathlib.Core.Path.{_≡_, refl, sym, ap, _∙_, subst}
 use mathlib.Core.List.{List, [], _∷_, _++_, map}
-use mathlib.Core.Bool.{Bool, true, false, cond, not, _&&_}
+use mathlib.Core.Bool.{Bool, true, false, cond, _&&_}
 use mathlib.Core.Logic.{inl, inr}
 use Prim.Native.Nat.{ℕ, suc, _+_, _-_, _≤_, _<_}
 use native.Mathlib.Decide.{decLt, ℕ-discrete}
 use borrow.Author.Tests.{eq-eqb, ne-eqb, eqb-true, leb-false, ltb-true, ltb-false, not-false}
 use native.Mathlib.Omega.{arith}
-use lib.Dec.{leb, ltb, eqb}
+use lib.Dec.{ltb, eqb}
 use lib.ListN.{length, getD, length-map, List·getD-eq-default}
 use Rattle.defs.specs.declared.Params.{Params}
 use Rattle.defs.specs.declared.State.{State}
-use Rattle.defs.specs.Drives.{Chunk, Zone, noZone, View, zoneAt, pointerAt, Store, putZone, storeView, segmentNumbers, zoneOn, emptyOnAll, emptyZones, zeroSpare, headerStores, footerStores, resetStores}
+use Rattle.defs.specs.Drives.{Chunk, Zone, noZone, View, zoneAt, pointerAt, Store, storeView, segmentNumbers, zoneOn, emptyOnAll, emptyZones, zeroSpare, headerStores, footerStores, resetStores}
 use Rattle.defs.specs.Drives.Store.{put, reset}
 use Rattle.defs.specs.Landing.{slotOf, waiting, ready, seals, completes, flightRec, misplaced, overfull, entryFaults, landFaults, landStore, sealStores, landPlan}
 use Rattle.defs.specs.Layout.{group, headerBlock, recordBytes}
-use Rattle.defs.specs.Lists.{below, all, any, consIf, keep, isNil, flat, firstOr}
+use Rattle.defs.specs.Lists.{below, any, consIf, keep, isNil, flat, firstOr}
 use Rattle.defs.specs.Memory.{Memory, slotCount, entriesIn, openSegment, slotBlock, slotByte}
 use Rattle.defs.specs.Params.{between, footers, capacity, inflightLen, drivesOf}
 use Rattle.defs.specs.Write.{opens, scarce, sending}
@@ -25,8 +25,8 @@ use Rattle.laws.specs.Ranges.Test.{yes!, no! }
 use Rattle.laws.specs.Splice.{length-part}
 use Rattle.tablesay.specs.Laid.{length-record}
 use Rattle.tablesay.specs.Members.{In, flat-in, keep-in, all-in, none-in, flat-cong, in-below, below-in, first-in}
-use Rattle.tablesay.specs.Puts.{hits-append, putAt, hits-resets, hits-headers}
-use Rattle.tablesay.specs.Range.{capacity-is, capacity-over}
+use Rattle.tablesay.specs.Puts.{putAt, hits-resets, hits-headers}
+use Rattle.tablesay.specs.Range.{capacity-over}
 use Rattle.tablesay.specs.Sealing.{hits-each, footerChunks, footer-puts}
 use Rattle.tablesay.specs.Tests.{false-true, and-false-left, and-false-right, cond-true, cond-false, eqb-self}
 use Rattle.tablesay.specs.Zones.{Sized, hitsAt, zoneStore, hits, zone-stored}
@@ -86,9 +86,6 @@ pub sending-able : (p : Params) (r : Ranged p) (v : View) (st : State) (fl : Lis
 unfolding sending
 sending-able p r v st fl a t w b h = go (test (opens p st))
   where
-    z : ℕ
-    z = firstOr 0 (emptyZones p v)
-
     go : Test (opens p st) → Able p v (cond (opens p st) (headerStores p (firstOr 0 (emptyZones p v)) (suc (st .serial .0)) 0) [])
     go (yes! q) =
         let (hz, e) = empty-zone p v (firstOr 0 (emptyZones p v)) (first-in (emptyZones p v) 0 (h q)) in
@@ -98,7 +95,7 @@ sending-able p r v st fl a t w b h = go (test (opens p st))
 -- ---- a landing
 
 -- nothing of either
-nil-left : {A : Type 0} (s t : List A) → s ++ t ≡ [] → (s ≡ []) × (t ≡ [])
+pub nil-left : {A : Type 0} (s t : List A) → s ++ t ≡ [] → (s ≡ []) × (t ≡ [])
 nil-left [] t e = (refl, e)
 nil-left (a ∷ s) t e = absurd (let x : _≡_ {A = ℕ} 0 1 = cc in let y : ⊥ = omega arith in y)
 
