@@ -1,0 +1,205 @@
+-- Blocks and spares of a view have their lengths, and so have the blocks and records made of them. Assumes nothing.
+use mathlib.Core.Path.{_≡_, refl, sym, ap, _∙_, subst}
+use mathlib.Core.List.{List, [], map}
+use mathlib.Core.Bool.{true, false, cond}
+use Prim.Native.Nat.{ℕ, _+_, _≤_, _<_}
+use native.Mathlib.Decide.{ℕ-discrete}
+use native.Mathlib.Omega.{arith}
+use lib.ListN.{length, getD, take, drop, set, length-set, length-map}
+use lib.Seq.{getD-set-same, getD-set-other}
+use Rattle.defs.specs.declared.Params.{Params}
+use Rattle.defs.specs.Drives.{Chunk, mkChunk, noChunk, Zone, View, zoneAt, chunkAt, Store, putZone, Disk, zoneOn, zeroSpare, sparesOf, footerStores, headerStores, resetStores}
+use Rattle.defs.specs.Drives.Store.{put, reset}
+use Rattle.defs.specs.Layout.{dataDrive, dataDrives, dataPosition, isData, headerBlock, mkRec, footerBlock}
+use Rattle.defs.specs.Lists.{upFrom, below, isIn}
+use Rattle.defs.specs.Params.{dataCount, spareLen, capacity, unitLen, placeOf, placeByte, drivesOf, present}
+use Rattle.defs.specs.Parity.{Piece, mkPiece, parityPiece}
+use Rattle.defs.specs.Restart.{renumbered, movedPieces, movedOn}
+use Rattle.defs.specs.Segments.{Segment, segmentOf, offsetOn, hasChunk, counts, storedPiece, pieceOf, putPiece}
+use Rattle.laws.specs.Geometry.{Ranged, block-within, data-drive-lt, position-lt}
+use Rattle.laws.specs.Mask.{isIn-empty}
+use Rattle.laws.specs.Ranges.{Test, test, length-upFrom, length-below}
+use Rattle.laws.specs.Ranges.Test.{yes!, no! }
+use Rattle.laws.specs.Splice.{length-part}
+use Rattle.tablesay.specs.Laid.{length-header, length-zeroSpare, length-record, Long, in-take, in-drop, length-footer}
+use Rattle.tablesay.specs.Members.{In, map-in, below-in, in-getD, getD-in}
+use Rattle.tablesay.specs.Puts.{putAt}
+use Rattle.tablesay.specs.Range.{capacity-over}
+use Rattle.tablesay.specs.Reads.{counts-in}
+use Rattle.tablesay.specs.Rebuilding.{parity-length}
+use Rattle.tablesay.specs.Sealing.{sparesIn, footerChunks, footer-puts}
+use Rattle.tablesay.specs.Segs.{present-in, data-low, zone-by, chunk-at}
+use Rattle.views.specs.Views.{Whole, blocks-long, block-view, spare-view, seen}
+use Rattle.proof_answers.specs.Rising.{Proper}
+
+-- ---- zones
+
+-- 01, The array: a zone has its blocks, each block and spare its length
+pub record Fair (p : Params) (q : Zone) : Type 0 where
+  pub count : length (q .blocks) ≡ capacity p
+  pub block-long : (b : ℕ) → b < capacity p → length (getD (q .blocks) b noChunk .block) ≡ p .B
+  pub spare-long : (b : ℕ) → b < capacity p → length (getD (q .blocks) b noChunk .spare) ≡ spareLen
+
+-- the zones of lent bytes are so
+pub fair-of : (p : Params) (k : Disk) → Whole p k → (d z : ℕ) → d < p .N → z < p .Z → Fair p (zoneAt (seen p k) d z)
+fair-of p k w d z hd hz = record {
+  count = blocks-long p k d z hd hz w;
+  block-long = λ b h. as-block b (ap length (block-view p k d z hd hz w b h) ∙ length-part (at b) (p .B) (k .image) (room b h .0));
+  spare-long = λ b h. as-spare b (ap length (spare-view p k d z hd hz w b h) ∙ length-part (at b + p .B) spareLen (k .image) (room b h .1));
+}
+  where
+    at : ℕ → ℕ
+    at b = placeByte p (placeOf p d z b)
+
+    room : (b : ℕ) → b < capacity p → (at b + p .B ≤ length (k .image)) × (at b + p .B + spareLen ≤ length (k .image))
+    room b h =
+        let f : at b + unitLen p ≤ length (k .image) = subst (λ (x : ℕ). at b + unitLen p ≤ x) (sym (w .image-long)) (block-within p d z b hd hz h) in
+        let u : unitLen p ≡ p .B + spareLen = unit-is in
+        (omega arith, omega arith)
+      where
+        unit-is : unitLen p ≡ p .B + spareLen
+        unit-is = unfold unitLen in refl
+
+    as-block : (b : ℕ) → length (chunkAt (seen p k) d z b .block) ≡ p .B → length (getD (zoneAt (seen p k) d z .blocks) b noChunk .block) ≡ p .B
+    as-block b e = unfold chunkAt in e
+
+    as-spare : (b : ℕ) → length (chunkAt (seen p k) d z b .spare) ≡ spareLen → length (getD (zoneAt (seen p k) d z .blocks) b noChunk .spare) ≡ spareLen
+    as-spare b e = unfold chunkAt in e
+
+-- a put keeps it so
+pub put-fair : (p : Params) (q : Zone) (b s : List ℕ) → Fair p q → length b ≡ p .B → length s ≡ spareLen → Fair p (putZone b s q)
+unfolding putZone
+put-fair p q b s f hb hs = record {
+  count = length-set (q .blocks) (q .pointer) (mkChunk b s) ∙ f .count;
+  block-long = λ i h. ap (λ (c : Chunk). length (c .block)) (at i h .1) ∙ at i h .2 .0;
+  spare-long = λ i h. ap (λ (c : Chunk). length (c .spare)) (at i h .1) ∙ at i h .2 .1;
+}
+  where
+    at : (i : ℕ) → i < capacity p → (c : Chunk) × (getD (set (q .blocks) (q .pointer) (mkChunk b s)) i noChunk ≡ c) × ((length (c .block) ≡ p .B) × (length (c .spare) ≡ spareLen))
+    at i h = go (ℕ-discrete i (q .pointer))
+      where
+        go : Dec (i ≡ q .pointer) → (c : Chunk) × (getD (set (q .blocks) (q .pointer) (mkChunk b s)) i noChunk ≡ c) × ((length (c .block) ≡ p .B) × (length (c .spare) ≡ spareLen))
+        go (yes e) = (
+          mkChunk b s,
+          ap (λ (x : ℕ). getD (set (q .blocks) (q .pointer) (mkChunk b s)) x noChunk) e
+              ∙ getD-set-same (q .blocks) (q .pointer) (mkChunk b s) noChunk (subst (λ (x : ℕ). q .pointer < x) (sym (f .count)) (subst (λ (x : ℕ). x < capacity p) e h)),
+          (hb, hs),
+        )
+        go (no e) = (getD (q .blocks) i noChunk, getD-set-other (q .blocks) (q .pointer) i (mkChunk b s) noChunk e, (f .block-long i h, f .spare-long i h))
+
+-- ---- headers, resets, footers
+
+module _ (p : Params) (r : Ranged p) where
+  drive-low : (d : ℕ) → In d (drivesOf p) → d < p .N
+  unfolding drivesOf
+  drive-low d m = below-in (p .N) d m
+
+  pub header-proper : (d z s c : ℕ) → d < p .N → z < p .Z → Proper p (put d z (headerBlock p d z s c) zeroSpare)
+  header-proper d z s c hd hz = (hd, hz, length-header p d z s c (omega (arith, r .block-low)), length-zeroSpare)
+
+  pub headers-proper : (z sn c : ℕ) → z < p .Z → (s : Store) → In s (headerStores p z sn c) → Proper p s
+  unfolding headerStores zoneOn
+  headers-proper z sn c hz s m =
+      let (d, i, e) = map-in (λ d. put d z (headerBlock p d z sn c) zeroSpare) (drivesOf p) s m in
+      subst (λ (x : Store). Proper p x) (sym e) (header-proper d z sn c (drive-low d i) hz)
+
+  pub resets-proper : (z : ℕ) → z < p .Z → (s : Store) → In s (resetStores p z) → Proper p s
+  unfolding resetStores zoneOn
+  resets-proper z hz s m = let (d, i, e) = map-in (λ d. reset d z) (drivesOf p) s m in subst (λ (x : Store). Proper p x) (sym e) (drive-low d i, hz)
+
+  pub footer-proper : (d z : ℕ) (ss : List (List ℕ)) (i : ℕ) → d < p .N → z < p .Z → Long spareLen ss → Proper p (put d z (footerBlock p ss i) zeroSpare)
+  footer-proper d z ss i hd hz l = (hd, hz, length-footer p r ss i l, length-zeroSpare)
+
+  spares-long : (q : Zone) → Fair p q → Long spareLen (sparesIn p q)
+  unfolding sparesIn sparesOf
+  spares-long q f s m =
+      let (c, i, e) = map-in (λ (c : Chunk). c .spare) (take (p .S) (drop 1 (q .blocks))) s m in
+      let (b, h, g) = getD-in (q .blocks) noChunk c (in-drop 1 (q .blocks) c (in-take (p .S) (drop 1 (q .blocks)) c i)) in
+      ap length (e ∙ ap (λ (x : Chunk). x .spare) g) ∙ f .spare-long b (subst (λ (x : ℕ). b < x) (f .count) h)
+
+  pub footers-proper : (q : Zone) → Fair p q → (d z i n : ℕ) → d < p .N → z < p .Z → (s : Store) → In s (footerStores p d z q i n) → Proper p s
+  footers-proper q f d z i n hd hz s m =
+      let (c, j, e) = map-in (putAt d z) (footerChunks p q i n) s (subst (λ (x : List Store). In s x) (footer-puts p d z q i n) m) in
+      let (b, h, g) = map-in (λ j. mkChunk (footerBlock p (sparesIn p q) j) zeroSpare) (upFrom i n) c (chunk-in c j) in
+      subst (λ (x : Store). Proper p x) (sym (e ∙ ap (putAt d z) g)) (plain b)
+    where
+      chunk-in : (c : Chunk) → In c (footerChunks p q i n) → In c (map (λ j. mkChunk (footerBlock p (sparesIn p q) j) zeroSpare) (upFrom i n))
+      chunk-in c j = unfold footerChunks in j
+
+      plain : (j : ℕ) → Proper p (putAt d z (mkChunk (footerBlock p (sparesIn p q) j) zeroSpare))
+      plain j = unfold putAt in footer-proper d z (sparesIn p q) j hd hz (spares-long q f)
+
+-- how many footer blocks there are
+pub footers-count : (p : Params) (q : Zone) (i n : ℕ) → length (footerChunks p q i n) ≡ n
+unfolding footerChunks
+footers-count p q i n = length-map (upFrom i n) (λ j. mkChunk (footerBlock p (sparesIn p q) j) zeroSpare) ∙ length-upFrom i n
+
+-- ---- chunks of a segment
+
+module _ (p : Params) (r : Ranged p) (v : View) (fair : (d z : ℕ) → d < p .N → z < p .Z → Fair p (zoneAt v d z)) (gone g : ℕ) (hg : g < p .Z) where
+  abbrev x : Segment
+  x = segmentOf p v gone g
+
+  -- stored
+  stored-long : (s d : ℕ) → d < p .N → isIn gone d ≡ false → hasChunk x s d ≡ true → length (storedPiece x s d .block) ≡ p .B
+  unfolding storedPiece
+  stored-long s d hd q c =
+      let o = offsetOn x d s in
+      let l = data-low p (zoneAt v d g) o (chunk-at p v gone g d s hd q c .stored-there) in
+      ap (λ (y : Zone). length (getD (y .blocks) (1 + o) noChunk .block)) (zone-by p v gone g d hd)
+      ∙ fair d g hd hg .block-long (1 + o) (omega (arith, capacity-over p r))
+
+  module _ (s : ℕ) (c : counts p gone x s ≡ true) where
+    present-long : (d : ℕ) → d < p .N → isIn gone d ≡ false → length (storedPiece x s d .block) ≡ p .B
+    present-long d hd q = stored-long s d hd q (counts-in p gone x s d c hd q)
+
+    -- decoded
+    pub decoded-long : (d : ℕ) → isIn gone d ≡ true → length (pieceOf p gone x s d .block) ≡ p .B
+    unfolding pieceOf parityPiece
+    decoded-long d lost = rw lost (parity-length (p .B) (map (λ (q : Piece). q .block) (map (storedPiece x s) (present p gone)))
+        (λ b m.
+        let (q, i, e) = map-in (λ (q : Piece). q .block) (map (storedPiece x s) (present p gone)) b m in
+        let (y, j, f) = map-in (storedPiece x s) (present p gone) q i in
+        let (hy, ny) = present-in p gone y j in
+        ap length (e ∙ ap (λ (q : Piece). q .block) f) ∙ present-long y hy ny))
+
+-- 01, Restart, 4: and moved
+module _ (p : Params) (r : Ranged p) (v : View) (fair : (d z : ℕ) → d < p .N → z < p .Z → Fair p (zoneAt v d z)) (g : ℕ) (hg : g < p .Z)
+    (s : ℕ) (c : counts p 0 (segmentOf p v 0 g) s ≡ true) (k : ℕ) where
+  abbrev seg : Segment
+  seg = segmentOf p v 0 g
+
+  abbrev qs : List Piece
+  qs = movedPieces p seg s k
+
+  piece-long : (q : Piece) → In q qs → length (q .block) ≡ p .B
+  unfolding movedPieces dataDrives renumbered
+  piece-long q m =
+      let (d, i, e) = map-in (λ d. renumbered k (storedPiece seg s d)) (map (dataDrive p s) (below (dataCount p))) q m in
+      let (n, j, f) = map-in (dataDrive p s) (below (dataCount p)) d i in
+      let hd : d < p .N = subst (λ (u : ℕ). u < p .N) (sym f) (data-drive-lt p s n (below-in (dataCount p) n j)) in
+      ap (λ (y : Piece). length (y .block)) e ∙ present-long p r v fair 0 g hg s c d hd (isIn-empty d)
+
+  count-pieces : length qs ≡ dataCount p
+  unfolding movedPieces dataDrives
+  count-pieces =
+      length-map (map (dataDrive p s) (below (dataCount p))) (λ d. renumbered k (storedPiece seg s d))
+      ∙ length-map (below (dataCount p)) (dataDrive p s) ∙ length-below (dataCount p)
+
+  pub moved-long : (d : ℕ) → d < p .N → length (movedOn p qs k d .block) ≡ p .B
+  unfolding movedOn
+  moved-long d hd = go (test (isData p k d))
+    where
+      parity-block : length (parityPiece p k qs .block) ≡ p .B
+      parity-block = unfold parityPiece in parity-length (p .B) (map (λ (y : Piece). y .block) qs)
+          (λ b m. let (y, i, f) = map-in (λ (y : Piece). y .block) qs b m in ap length f ∙ piece-long y i)
+
+      go : Test (isData p k d) → length (cond (isData p k d) (getD qs (dataPosition p k d) (mkPiece [] (mkRec 0 0 0))) (parityPiece p k qs) .block) ≡ p .B
+      go (yes! q) = rw q (piece-long (getD qs (dataPosition p k d) (mkPiece [] (mkRec 0 0 0)))
+          (in-getD qs (dataPosition p k d) (mkPiece [] (mkRec 0 0 0)) (subst (λ (n : ℕ). dataPosition p k d < n) (sym count-pieces) (position-lt p k d q hd))))
+      go (no! q) = rw q parity-block
+
+-- the store of a piece
+pub piece-proper : (p : Params) (d z : ℕ) (q : Piece) → d < p .N → z < p .Z → length (q .block) ≡ p .B → Proper p (putPiece d z q)
+unfolding putPiece
+piece-proper p d z q hd hz h = (hd, hz, h, length-record (q .rec))

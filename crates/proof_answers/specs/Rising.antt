@@ -1,0 +1,116 @@
+-- Stores that the zones have room for, by counting them zone by zone; such stores obey the zone rules on the bytes. Assumes nothing.
+use mathlib.Core.Path.{_≡_, refl, sym, subst, _∙_}
+use mathlib.Core.List.{List, [], _∷_}
+use mathlib.Core.Bool.{true, false}
+use mathlib.Core.Logic.{inl, inr}
+use Prim.Native.Nat.{ℕ, zero, suc, _+_, _^_, _≤_, _<_}
+use native.Mathlib.Omega.{arith}
+use lib.Dec.{eqb}
+use lib.ListN.{length, take}
+use Rattle.defs.specs.declared.Params.{Params}
+use Rattle.defs.specs.Drives.{Zone, View, zoneAt, pointerAt, Store, storeView, Disk, storeDisk}
+use Rattle.defs.specs.Drives.Store.{put, reset}
+use Rattle.defs.specs.Lists.{consIf, keep}
+use Rattle.defs.specs.Params.{spareLen, capacity}
+use Rattle.laws.specs.Ranges.{Test, test, and-both}
+use Rattle.laws.specs.Ranges.Test.{yes!, no! }
+use Rattle.spec_demands.specs.Rules.{Obeys, ObeyAll}
+use Rattle.tablesay.specs.Members.{In}
+use Rattle.tablesay.specs.Tests.{cond-true, cond-false, eqb-self}
+use Rattle.tablesay.specs.Zones.{Sized, hitsAt, zoneStore, hits, sized-store, zone-stored, put-pointer, reset-pointer}
+use Rattle.views.specs.Views.{Whole, pointer-view, Fits, AllFit, seen, view-store, whole-store}
+
+-- ---- one zone
+
+-- 01, The array: the stores of one zone, from pointer n on, stay below the capacity
+abbrev pub Rises : Params → ℕ → List Store → Type 0
+Rises p n [] = Unit {0}
+Rises p n (put d z b s ∷ ss) = (n < capacity p) × Rises p (suc n) ss
+Rises p n (reset d z ∷ ss) = Rises p 0 ss
+
+-- few enough
+pub rises-few : (p : Params) (n : ℕ) (ss : List Store) → n + length ss ≤ capacity p → Rises p n ss
+rises-few p n [] h = tt
+rises-few p n (put d z b s ∷ ss) h = (omega arith, rises-few p (suc n) ss (omega arith))
+rises-few p n (reset d z ∷ ss) h = rises-few p 0 ss (omega arith)
+
+-- after a store the rest stays below it too
+rises-next : (p : Params) (s : Store) (ss : List Store) (q : Zone) → Rises p (q .pointer) (s ∷ ss) → Rises p (zoneStore s q .pointer) ss
+unfolding zoneStore
+rises-next p (put d z b s) ss q r = subst (λ (x : ℕ). Rises p x ss) (sym (put-pointer b s q)) (r .1)
+rises-next p (reset d z) ss q r = subst (λ (x : ℕ). Rises p x ss) (sym (reset-pointer q)) r
+
+-- ---- all zones
+
+-- 01, The array: a drive and zone of the array, a block and a spare of their lengths
+abbrev pub Proper : Params → Store → Type 0
+Proper p (put d z b s) = (d < p .N) × (z < p .Z) × (length b ≡ p .B) × (length s ≡ spareLen)
+Proper p (reset d z) = (d < p .N) × (z < p .Z)
+
+-- 01, The array: the stores have room where they fall, and each is proper
+pub record Able (p : Params) (v : View) (ss : List Store) : Type 0 where
+  pub proper : (s : Store) → In s ss → Proper p s
+  pub rises : (d z : ℕ) → d < p .N → z < p .Z → Rises p (pointerAt v d z) (hits d z ss)
+
+pub able-none : (p : Params) (v : View) → Able p v []
+able-none p v = record { proper = λ s m. absurd m; rises = λ d z hd hz. unfold keep in tt }
+
+hits-yes : (d z : ℕ) (s : Store) (ss : List Store) → hitsAt d z s ≡ true → hits d z (s ∷ ss) ≡ s ∷ hits d z ss
+unfolding keep consIf
+hits-yes d z s ss h = rw h
+
+hits-no : (d z : ℕ) (s : Store) (ss : List Store) → hitsAt d z s ≡ false → hits d z (s ∷ ss) ≡ hits d z ss
+unfolding keep consIf
+hits-no d z s ss h = rw h
+
+module _ (p : Params) (v : View) (w : Sized p v) (s : Store) (ss : List Store) (a : Able p v (s ∷ ss)) where
+  next-rises : (d z : ℕ) → d < p .N → z < p .Z → Rises p (pointerAt (storeView s v) d z) (hits d z ss)
+  unfolding pointerAt
+  next-rises d z hd hz = go (test (hitsAt d z s))
+    where
+      go : Test (hitsAt d z s) → Rises p (zoneAt (storeView s v) d z .pointer) (hits d z ss)
+      go (yes! h) =
+          subst (λ (x : Zone). Rises p (x .pointer) (hits d z ss))
+          (sym (zone-stored p v d z s w hd hz ∙ cond-true (hitsAt d z s) (zoneStore s (zoneAt v d z)) (zoneAt v d z) h))
+          (rises-next p s (hits d z ss) (zoneAt v d z) (subst (λ (x : List Store). Rises p (zoneAt v d z .pointer) x) (hits-yes d z s ss h) (a .rises d z hd hz)))
+      go (no! h) =
+          subst (λ (x : Zone). Rises p (x .pointer) (hits d z ss))
+          (sym (zone-stored p v d z s w hd hz ∙ cond-false (hitsAt d z s) (zoneStore s (zoneAt v d z)) (zoneAt v d z) h))
+          (subst (λ (x : List Store). Rises p (zoneAt v d z .pointer) x) (hits-no d z s ss h) (a .rises d z hd hz))
+
+  next-able : Able p (storeView s v) ss
+  next-able = record { proper = λ t m. a .proper t (inr m); rises = next-rises }
+
+first-fits : (p : Params) (v : View) (s : Store) (ss : List Store) → Able p v (s ∷ ss) → Fits p v s
+first-fits p v (put d z b s) ss a =
+    let (hd, hz, hb, hs) = a .proper (put d z b s) (inl refl) in
+    let r : Rises p (pointerAt v d z) (put d z b s ∷ hits d z ss) =
+    subst (λ (x : List Store). Rises p (pointerAt v d z) x) (hits-yes d z (put d z b s) ss self) (a .rises d z hd hz) in
+    (hd, hz, r .0, hb, hs)
+  where
+    self : hitsAt d z (put d z b s) ≡ true
+    self = unfold hitsAt in and-both (eqb d d) (eqb z z) (eqb-self d) (eqb-self z)
+first-fits p v (reset d z) ss a = a .proper (reset d z) (inl refl)
+
+pub able-fits : (p : Params) (v : View) (ss : List Store) → Sized p v → Able p v ss → AllFit p v ss
+able-fits p v [] w a = tt
+able-fits p v (s ∷ ss) w a = (first-fits p v s ss a, able-fits p (storeView s v) ss (sized-store p v s w) (next-able p v w s ss a))
+
+-- ---- the zone rules on the bytes
+
+obeys : (p : Params) (k : Disk) (s : Store) → Whole p k → Fits p (seen p k) s → Obeys p k s
+obeys p k (put d z b s) w (hd, hz, hp, hb, hs) = (hd, hz, hb, hs, subst (λ (x : ℕ). x < capacity p) (pointer-view p k d z hd hz w) hp)
+obeys p k (reset d z) w f = f
+
+pub obey-all : (p : Params) (k : Disk) (ss : List Store) → capacity p < 256 ^ 4 → Whole p k → AllFit p (seen p k) ss → ObeyAll p k ss
+obey-all p k [] c w f = tt
+obey-all p k (s ∷ ss) c w (h, f) = (
+  obeys p k s w h,
+  obey-all p (storeDisk p s k) ss c (whole-store p k s w h) (subst (λ (v : View). AllFit p v ss) (sym (view-store p k s c w h)) f),
+)
+
+-- a cut call makes the first ones
+pub obey-take : (p : Params) (k : Disk) (n : ℕ) (ss : List Store) → ObeyAll p k ss → ObeyAll p k (take n ss)
+obey-take p k zero ss o = tt
+obey-take p k (suc n) [] o = tt
+obey-take p k (suc n) (s ∷ ss) o = (o .0, obey-take p (storeDisk p s k) n ss (o .1))

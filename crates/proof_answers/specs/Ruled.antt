@@ -1,0 +1,246 @@
+-- The NVMe zone rules: the stores that a call's verdict makes due have room, whatever the bytes; a cut call makes the first of them. Assumes nothing.
+use mathlib.Core.Path.{_≡_, refl, sym, ap, _∙_, subst}
+use mathlib.Core.List.{List, [], _∷_}
+use mathlib.Core.Bool.{Bool, true, false, cond, not, _&&_}
+use mathlib.Core.Logic.{_⊎_, inl, inr}
+use Prim.Native.Nat.{ℕ, suc, _-_, _≤_, _<_}
+use native.Mathlib.Decide.{decLe, ℕ-discrete}
+use borrow.Author.Tests.{ne-eqb, ltb-true, not-false}
+use native.Mathlib.Omega.{arith}
+use lib.Dec.{ltb, eqb}
+use lib.ListN.{length, take}
+use Rattle.defs.specs.declared.Params.{Params}
+use Rattle.defs.specs.declared.Answer.the-variants.{Rebuilt}
+use Rattle.defs.specs.Calls.{Check, firstRefusal, Plan, mkPlan, Verdict, decided}
+use Rattle.defs.specs.Calls.Check.{rule}
+use Rattle.defs.specs.Calls.Verdict.{refused, due}
+use Rattle.defs.specs.Counts.{lastCount}
+use Rattle.defs.specs.Drives.{View, zoneAt, chunkAt, Store, Disk, storeDisk, storeAll, placeSegment, recordAt}
+use Rattle.defs.specs.Engine.{Call, storeCount, verdict, lentOk, Lent, Left, lentDisk, lentMemory, lentAll, callBytes}
+use Rattle.defs.specs.Engine.Call.{write, land, close, reclaim, read, fill, restart, rebuild}
+use Rattle.defs.specs.Landing.{waiting, landFaults, landChecks, landPlan, landVerdict}
+use Rattle.defs.specs.Lists.{Opt, isNil, firstOr}
+use Rattle.defs.specs.Memory.{Memory, stateLen, stateFaults}
+use Rattle.defs.specs.Params.{inRange, placeBlock, placeZone, placeDrive, named}
+use Rattle.defs.specs.Rebuild.{namesMissing, rebuildChecks, rebuildStores, rebuildVerdict}
+use Rattle.defs.specs.Reclaim.{Victim, victim, isNone, victimSegment, victimLive, idle, reclaimChecks, resetPlan, copyPlan, reclaimVerdict}
+use Rattle.defs.specs.Restart.{freeZones, restartStores, namesDrive, rewrites, restartChecks, restartPlan, restartVerdict}
+use Rattle.defs.specs.Segments.{segments, greatestSerial}
+use Rattle.defs.specs.Write.{opens, scarce, writeChecks, writePlan, writeVerdict}
+use Rattle.laws.specs.Geometry.{Ranged, ranged}
+use Rattle.laws.specs.Ranges.{Test, test, and-left}
+use Rattle.laws.specs.Ranges.Test.{yes!, no! }
+use Rattle.spec_demands.specs.Answering.{canStore, withCount, cutLeft}
+use Rattle.spec_demands.specs.Rules.{ObeyAll, ZoneRules}
+use Rattle.tablesay.specs.Accept.{Accepted, accepted-of}
+use Rattle.tablesay.specs.Checks.{Passes, Decided, decide}
+use Rattle.tablesay.specs.Checks.Decided.{stops, goes}
+use Rattle.tablesay.specs.Idle.{lengths-of, whole-of}
+use Rattle.tablesay.specs.Image.{sized-of}
+use Rattle.tablesay.specs.Range.{capacity-word}
+use Rattle.tablesay.specs.Reclaiming.{taken}
+use Rattle.tablesay.specs.Tests.{clash, or-left, or-right}
+use Rattle.tablesay.specs.Zones.{Sized}
+use Rattle.views.specs.Views.{Whole, seen}
+use Rattle.proof_answers.specs.Answered.{dueOf, long, decidedBy, due-stores}
+use Rattle.proof_answers.specs.Lengths.{Fair, fair-of}
+use Rattle.proof_answers.specs.Rebuilt.{rebuild-able}
+use Rattle.proof_answers.specs.Restarted.{restart-able}
+use Rattle.proof_answers.specs.Rising.{Able, able-none, able-fits, obey-all, obey-take}
+use Rattle.proof_answers.specs.Sent.{resets-able, plenty, sending-able, nil-left, land-able}
+use Rattle.proof_answers.specs.Verdicts.{Says, says, own-count}
+use Rattle.proof_answers.specs.Verdicts.Says.{says-no, says-yes}
+
+-- 01, Restart: a restart that misses a drive stores nothing
+restarting : (p : Params) (r : Ranged p) (v : View) → ((d z : ℕ) → d < p .N → z < p .Z → Fair p (zoneAt v d z)) → (gone : ℕ) → Accepted p v gone
+    → rewrites p gone (segments p v gone) && isNil (freeZones p (segments p v gone)) ≡ false → Able p v (restartStores p gone (segments p v gone))
+restarting p r v fair gone acc c8 = go (ℕ-discrete gone 0) acc c8
+  where
+    none : eqb gone 0 ≡ false → Able p v (restartStores p gone (segments p v gone))
+    none q = unfold restartStores in rw q (able-none p v)
+
+    go : Dec (gone ≡ 0) → Accepted p v gone → rewrites p gone (segments p v gone) && isNil (freeZones p (segments p v gone)) ≡ false
+        → Able p v (restartStores p gone (segments p v gone))
+    go (yes e) = subst (λ (g : ℕ). Accepted p v g → rewrites p g (segments p v g) && isNil (freeZones p (segments p v g)) ≡ false → Able p v (restartStores p g (segments p v g)))
+        (sym e) (restart-able p r v fair)
+    go (no n) = λ a c. none (ne-eqb gone 0 n)
+
+module _ (p : Params) (l : Lent) (c : Call) where
+  abbrev k : Disk
+  k = lentDisk l
+
+  abbrev m : Memory
+  m = lentMemory l
+
+  abbrev lo : Bool
+  lo = long p l c
+
+  abbrev v : View
+  v = seen p k
+
+  -- what the first two checks give
+  pub record Ready : Type 0 where
+    pub in-range : Ranged p
+    pub lent-ok : lentOk p k m ≡ true
+    pub whole : Whole p k
+    pub fair : (d z : ℕ) → d < p .N → z < p .Z → Fair p (zoneAt v d z)
+    pub sized : Sized p v
+
+  ready : not (inRange p) ≡ false → not lo ≡ false → Ready
+  ready a b =
+      let e = and-left (lentOk p k m) (eqb (length (l .state)) stateLen) (not-false lo b) in
+      let w = whole-of p k m e in
+      record { in-range = ranged p (not-false (inRange p) a); lent-ok = e; whole = w; fair = fair-of p k w; sized = sized-of p k w }
+
+  obeyed : Ready → (ss : List Store) → Able p v ss → ObeyAll p k ss
+  obeyed h ss a = obey-all p k ss (capacity-word p (h .in-range)) (h .whole) (able-fits p v ss (h .sized) a)
+
+  -- the stores of what is decided
+  obeys-of : (cs : List Check) (q : Plan) → (Passes cs → ObeyAll p k (q .stores)) → ObeyAll p k (dueOf (decided (firstRefusal cs) q))
+  obeys-of cs q f = go (decide cs q)
+    where
+      go : Decided cs q (decided (firstRefusal cs) q) → ObeyAll p k (dueOf (decided (firstRefusal cs) q))
+      go (stops a e w) = subst (λ (x : Verdict). ObeyAll p k (dueOf x)) (sym w) (unfold dueOf in tt)
+      go (goes i w) = subst (λ (x : Verdict). ObeyAll p k (dueOf x)) (sym w) (unfold dueOf in f i)
+
+  -- ---- call by call
+
+  write-obeys : (a : ℕ) (b : List ℕ) → ObeyAll p k (dueOf (writeVerdict p lo v m a b))
+  unfolding writeVerdict
+  write-obeys a b = obeys-of (writeChecks p lo v m a b) (writePlan p v m a b) go
+    where
+      go : Passes (writeChecks p lo v m a b) → ObeyAll p k (writePlan p v m a b .stores)
+      go i = unfold writeChecks writePlan in
+          (let (c1, (c2, (c3, (c4, (c6, (c7, (c8, c9))))))) = i in
+          let h = ready c1 (or-left (not lo) (not (eqb (length b) (p .B))) c2) in
+          let st = m .state in
+          obeyed h (writePlan p v m a b .stores)
+          (sending-able p (h .in-range) v st (m .inflight) a (suc (st .stamp .0)) 1 b (λ q. plenty p v (cond (opens p st) 2 1) c8)))
+
+  land-obeys : (d s : ℕ) → ObeyAll p k (dueOf (landVerdict p lo v m d s))
+  unfolding landVerdict
+  land-obeys d s = obeys-of (landChecks p lo v m d s) (landPlan p v m d s) go
+    where
+      go : Passes (landChecks p lo v m d s) → ObeyAll p k (landPlan p v m d s .stores)
+      go i = unfold landChecks in
+          (let (c1, (c2, (c3, (c5, (c9, c))))) = i in
+          let h = ready c1 c2 in
+          obeyed h (landPlan p v m d s .stores)
+          (land-able p (h .in-range) v (h .sized) (h .fair) m (lengths-of p k m (h .lent-ok) .inflight-ok) d s (not-false (waiting p (m .state) d s) c5)
+          (nil-left (stateFaults p (m .state)) (landFaults p v m d s) c9 .1)))
+
+  abbrev taking : Opt Victim
+  taking = victim p v (m .addresses)
+
+  abbrev resetting : Plan
+  resetting = resetPlan p m (victimSegment taking)
+
+  abbrev copying : Plan
+  copying = copyPlan p v m (firstOr 0 (idle p v (m .state) taking))
+
+  reclaim-obeys : ObeyAll p k (dueOf (reclaimVerdict p lo v m))
+  unfolding reclaimVerdict
+  reclaim-obeys = obeys-of (reclaimChecks p lo v m taking) (cond (isNil (victimLive taking)) resetting copying) go
+    where
+      reset-able : Ready → isNone taking ≡ false → Able p v (resetting .stores)
+      reset-able h q = unfold resetPlan in resets-able p (h .in-range) v (victimSegment taking) (taken p v (m .addresses) q .taken-low)
+
+      copy-able : Ready → opens p (m .state) && scarce p v 1 ≡ false → Able p v (copying .stores)
+      copy-able h c8 = unfold copyPlan in
+          (let q = firstOr 0 (idle p v (m .state) taking) in
+          let n = recordAt p v 0 (placeDrive p q) (placeSegment p q) (placeBlock p q - 1) in
+          sending-able p (h .in-range) v (m .state) (m .inflight) (n .address) (n .stamp) 0 (chunkAt v (placeDrive p q) (placeZone p q) (placeBlock p q) .block)
+          (λ e. plenty p v 1 (sym (ap (λ (b : Bool). b && scarce p v 1) e) ∙ c8)))
+
+      go : Passes (reclaimChecks p lo v m taking) → ObeyAll p k (cond (isNil (victimLive taking)) resetting copying .stores)
+      go i = unfold reclaimChecks in
+          (let (c1, (c2, (c3, (c5, (c6, (c7, (c8, c9))))))) = i in
+          let none = isNil (victimLive taking) in
+          let h = ready c1 c2 in
+          let q5 = or-left (isNone taking) (not none && isNil (idle p v (m .state) taking)) c5 in
+          obeyed h (cond none resetting copying .stores) (either h q5 (test none) c8))
+        where
+          either : Ready → isNone taking ≡ false → Test (isNil (victimLive taking)) → not (isNil (victimLive taking)) && opens p (m .state) && scarce p v 1 ≡ false
+              → Able p v (cond (isNil (victimLive taking)) resetting copying .stores)
+          either h q5 (yes! e) c8 = rw e (reset-able h q5)
+          either h q5 (no! e) c8 = rw e (copy-able h (sym (ap (λ (b : Bool). not b && opens p (m .state) && scarce p v 1) e) ∙ c8))
+
+  restart-obeys : (d : ℕ) → ObeyAll p k (dueOf (restartVerdict p lo v m d))
+  unfolding restartVerdict
+  restart-obeys d = obeys-of (restartChecks p lo v d (segments p v (named d))) (restartPlan p v d (segments p v (named d)) (m .inflight)) go
+    where
+      go : Passes (restartChecks p lo v d (segments p v (named d))) → ObeyAll p k (restartPlan p v d (segments p v (named d)) (m .inflight) .stores)
+      go i = unfold restartChecks restartPlan in
+          (let (c1, (c2, rest)) = i in
+          let gs = segments p v (named d) in
+          let h = ready (or-left (not (inRange p)) (not (namesDrive p d)) c1) c2 in
+          let (acc, (c6, (c8, c))) = accepted-of p v (named d)
+          (rule 6 (rewrites p (named d) gs && eqb (greatestSerial gs) lastCount) ∷ rule 8 (rewrites p (named d) gs && isNil (freeZones p gs)) ∷ []) rest in
+          obeyed h (restartStores p (named d) gs) (restarting p (h .in-range) v (h .fair) (named d) acc c8))
+
+  rebuild-obeys : (d : ℕ) → ObeyAll p k (dueOf (rebuildVerdict p lo v m d))
+  unfolding rebuildVerdict
+  rebuild-obeys d = obeys-of (rebuildChecks p lo v m d (segments p v (named d))) (mkPlan (rebuildStores p d (segments p v (named d))) Rebuilt m []) go
+    where
+      low : namesMissing p (m .state) d ≡ true → d < p .N
+      low q = unfold namesMissing in ltb-true d (p .N) (and-left (ltb d (p .N)) (eqb (m .state .missing) (named d)) q)
+
+      go : Passes (rebuildChecks p lo v m d (segments p v (named d))) → ObeyAll p k (rebuildStores p d (segments p v (named d)))
+      go i = unfold rebuildChecks in
+          (let (c1, (c2, rest)) = i in
+          let h = ready (or-left (not (inRange p)) (not (namesMissing p (m .state) d)) c1) c2 in
+          let hd = low (not-false (namesMissing p (m .state) d) (or-right (not (inRange p)) (not (namesMissing p (m .state) d)) c1)) in
+          obeyed h (rebuildStores p d (segments p v (named d))) (rebuild-able p (h .in-range) v (h .fair) d hd))
+
+  -- 01, Store count: a call that cannot store
+  still-obeys : canStore c ≡ false → ObeyAll p k (dueOf (decidedBy p l c))
+  still-obeys f = go (says p lo v m c)
+    where
+      of : (w : Verdict) → decidedBy p l c ≡ w → ObeyAll p k (dueOf w) → ObeyAll p k (dueOf (decidedBy p l c))
+      of w e o = subst (λ (x : Verdict). ObeyAll p k (dueOf x)) (sym e) o
+
+      none : (ss : List Store) → (canStore c ≡ true) ⊎ (ss ≡ []) → ObeyAll p k ss
+      none ss (inl t) = clash t f
+      none ss (inr e) = subst (λ (x : List Store). ObeyAll p k x) (sym e) tt
+
+      go : Says c (decidedBy p l c) → ObeyAll p k (dueOf (decidedBy p l c))
+      go (says-no a e h i) = of (refused a) e (unfold dueOf in tt)
+      go (says-yes q e i s) = of (due q) e (unfold dueOf in none (q .stores) s)
+
+pub due-obeys : (p : Params) (l : Lent) (c : Call) → ObeyAll p (lentDisk l) (dueOf (decidedBy p l c))
+unfolding verdict
+due-obeys p l (write a b n) = write-obeys p l (write a b n) a b
+due-obeys p l (land d s n) = land-obeys p l (land d s n) d s
+due-obeys p l (close n) = still-obeys p l (close n) (unfold canStore in refl)
+due-obeys p l (reclaim n) = reclaim-obeys p l (reclaim n)
+due-obeys p l (read a) = still-obeys p l (read a) (unfold canStore in refl)
+due-obeys p l (fill a b) = still-obeys p l (fill a b) (unfold canStore in refl)
+due-obeys p l (restart d n) = restart-obeys p l (restart d n) d
+due-obeys p l (rebuild d n) = rebuild-obeys p l (rebuild d n) d
+
+-- ---- the call with its own store count
+
+-- what a call leaves on the drives: stores one after the other that obey the rules
+abbrev Ruled : Params → Lent → Call → Type 0
+Ruled p l c = (ss : List Store) × (lentDisk (callBytes p l c .lent) ≡ storeAll (storeDisk p) ss (lentDisk l)) × ObeyAll p (lentDisk l) ss
+
+ruled : (p : Params) (l : Lent) (c : Call) (n : ℕ) → Ruled p l (withCount n c)
+ruled p l c n = go (decLe (length ss) n)
+  where
+    ss : List Store
+    ss = dueOf (decidedBy p l c)
+
+    go : Dec (length ss ≤ n) → Ruled p l (withCount n c)
+    go (yes h) = (ss, due-stores p l c .makes n h, due-obeys p l c)
+    go (no h) = (
+      take n ss,
+      ap (λ (x : Left). lentDisk (x .lent)) (due-stores p l c .cuts n (omega arith)) ∙ first-made,
+      obey-take p (lentDisk l) n ss (due-obeys p l c),
+    )
+      where
+        first-made : lentDisk (cutLeft p l c (take n ss) .lent) ≡ storeAll (storeDisk p) (take n ss) (lentDisk l)
+        first-made = unfold cutLeft lentDisk lentAll in refl
+
+-- demand 2, the NVMe zone rules
+pub zone-rules : ZoneRules
+zone-rules p l c = subst (λ (x : Call). Ruled p l x) (own-count c) (ruled p l c (storeCount c))

@@ -1,0 +1,218 @@
+-- What each call's verdict says: a refusal of the call's numbers, or a plan with the call's result; the store count is no part of it. Assumes nothing.
+use mathlib.Core.Path.{_≡_, refl, sym, ap, _∙_, subst}
+use mathlib.Core.List.{List, [], _∷_, _++_}
+use mathlib.Core.Bool.{Bool, true, false, cond, _&&_}
+use mathlib.Core.Logic.{_⊎_, inl, inr}
+use Prim.Native.Nat.{ℕ, _≤_}
+use borrow.Author.Tests.{lt-leb, ne-eqb, leb-true}
+use native.Mathlib.Omega.{arith}
+use lib.Dec.{leb, eqb}
+use lib.ListN.{length}
+use Rattle.defs.specs.declared.Params.{Params}
+use Rattle.defs.specs.declared.Answer.{Answer}
+use Rattle.defs.specs.declared.Answer.the-variants.{Refused, BadZone, Filled, Rebuilt}
+use Rattle.defs.specs.Answers.{kind, values, isRefused, isCut}
+use Rattle.defs.specs.Calls.{Check, ninth, ruled, firstRefusal, Plan, mkPlan, Verdict, decided, outcome}
+use Rattle.defs.specs.Calls.Check.{rule, zones}
+use Rattle.defs.specs.Calls.Verdict.{refused, due}
+use Rattle.defs.specs.Closing.{closeChecks, closePlan, closeVerdict}
+use Rattle.defs.specs.Drives.{View, Disk, storeDisk}
+use Rattle.defs.specs.Engine.{Call, storeCount, lentBlock, verdict, callOn}
+use Rattle.defs.specs.Engine.Call.{write, land, close, reclaim, read, fill, restart, rebuild}
+use Rattle.defs.specs.Faults.{imageChecks}
+use Rattle.defs.specs.Landing.{landChecks, landPlan, landVerdict}
+use Rattle.defs.specs.Lists.{Opt, all, any, isMember, isNil, firstOr, least}
+use Rattle.defs.specs.Lists.Opt.{none, some}
+use Rattle.defs.specs.Memory.{Memory, stateFaults}
+use Rattle.defs.specs.Params.{named}
+use Rattle.defs.specs.Read.{Found, lookup, foundFaults, decodeFaults, readPiece, readAnswer, readChecks, readVerdict, fillVerdict}
+use Rattle.defs.specs.Read.Found.{nowhere, here, away}
+use Rattle.defs.specs.Rebuild.{rebuildChecks, rebuildStores, rebuildVerdict}
+use Rattle.defs.specs.Reclaim.{victim, victimSegment, victimLive, idle, reclaimChecks, resetPlan, copyPlan, reclaimVerdict}
+use Rattle.defs.specs.Restart.{restartChecks, restartPlan, restartVerdict}
+use Rattle.defs.specs.Segments.{segments}
+use Rattle.defs.specs.Write.{writeChecks, writePlan, writeVerdict}
+use Rattle.laws.specs.Ranges.{and-left, and-right, member-all}
+use Rattle.laws.specs.Stores.{refused-same, done-all}
+use Rattle.spec_demands.specs.Answering.{refusalsOf, resultsOf, canStore, refusalNumber, withCount}
+use Rattle.tablesay.specs.Checks.{Decided, decide}
+use Rattle.tablesay.specs.Checks.Decided.{stops, goes}
+use Rattle.tablesay.specs.Outcomes.{refusal-kind}
+use Rattle.views.specs.Views.{seen}
+
+-- ---- numbers of refusals
+
+-- 01, Refusals: the numbers that a list of checks can give
+unfoldable pub numbersOf : List Check → List ℕ
+numbersOf [] = []
+numbersOf (rule n b ∷ cs) = n ∷ numbersOf cs
+numbersOf (zones zs ∷ cs) = 9 ∷ numbersOf cs
+
+-- a test that all of them pass is passed by the number of the first refusal
+pub refusal-number : (f : ℕ → Bool) (cs : List Check) (a : Answer) → all f (numbersOf cs) ≡ true → firstRefusal cs ≡ some a → f (refusalNumber a) ≡ true
+unfolding firstRefusal ruled ninth numbersOf all refusalNumber values
+refusal-number f [] a h e = absurd (let z : _≡_ {A = ℕ} 0 1 = cc in let y : ⊥ = omega arith in y)
+refusal-number f (rule n true ∷ cs) a h e =
+    let g : Refused n ≡ a = cc in
+    subst (λ (x : Answer). f (refusalNumber x) ≡ true) g (and-left (f n) (all f (numbersOf cs)) h)
+refusal-number f (rule n false ∷ cs) a h e = refusal-number f cs a (and-right (f n) (all f (numbersOf cs)) h) e
+refusal-number f (zones [] ∷ cs) a h e = refusal-number f cs a (and-right (f 9) (all f (numbersOf cs)) h) e
+refusal-number f (zones (z ∷ zs) ∷ cs) a h e =
+    let g : BadZone (least z zs) ≡ a = cc in
+    subst (λ (x : Answer). f (refusalNumber x) ≡ true) g (and-left (f 9) (all f (numbersOf cs)) h)
+
+-- ---- verdicts
+
+-- a refusal of the call's numbers, or stores of a call that can store and the call's own result
+pub data Says (c : Call) (w : Verdict) : Type 0 where
+  says-no : (a : Answer) → w ≡ refused a → isRefused a ≡ true → isMember (refusalNumber a) (refusalsOf c) ≡ true → Says c w
+  says-yes : (q : Plan) → w ≡ due q → isMember (kind (q .answer)) (resultsOf c) ≡ true → (canStore c ≡ true) ⊎ (q .stores ≡ []) → Says c w
+
+says-decided : (c : Call) (cs : List Check) (q : Plan) → all (λ n. isMember n (refusalsOf c)) (numbersOf cs) ≡ true
+    → isMember (kind (q .answer)) (resultsOf c) ≡ true → (canStore c ≡ true) ⊎ (q .stores ≡ []) → Says c (decided (firstRefusal cs) q)
+says-decided c cs q h k s = go (decide cs q)
+  where
+    go : Decided cs q (decided (firstRefusal cs) q) → Says c (decided (firstRefusal cs) q)
+    go (stops a e w) = says-no a w (refusal-kind cs a e) (refusal-number (λ n. isMember n (refusalsOf c)) cs a h e)
+    go (goes i w) = says-yes q w k s
+
+module _ (p : Params) (long : Bool) (v : View) (m : Memory) where
+  write-says : (a : ℕ) (b : List ℕ) (n : ℕ) → Says (write a b n) (writeVerdict p long v m a b)
+  unfolding writeVerdict writeChecks writePlan numbersOf all any isMember refusalsOf resultsOf canStore kind
+  write-says a b n = says-decided (write a b n) (writeChecks p long v m a b) (writePlan p v m a b) refl refl (inl refl)
+
+  land-says : (d s n : ℕ) → Says (land d s n) (landVerdict p long v m d s)
+  unfolding landVerdict landChecks landPlan numbersOf all any isMember refusalsOf resultsOf canStore kind
+  land-says d s n = says-decided (land d s n) (landChecks p long v m d s) (landPlan p v m d s) refl refl (inl refl)
+
+  close-says : (n : ℕ) → Says (close n) (closeVerdict p long v m)
+  unfolding closeVerdict closeChecks closePlan numbersOf all any isMember refusalsOf resultsOf canStore kind
+  close-says n = says-decided (close n) (closeChecks p long v m) (closePlan p m) refl refl (inr refl)
+
+  reclaim-says : (n : ℕ) → Says (reclaim n) (reclaimVerdict p long v m)
+  unfolding reclaimVerdict reclaimChecks numbersOf all any isMember refusalsOf resultsOf canStore
+  reclaim-says n =
+      let w = victim p v (m .addresses) in
+      let a = resetPlan p m (victimSegment w) in
+      let b = copyPlan p v m (firstOr 0 (idle p v (m .state) w)) in
+      says-decided (reclaim n) (reclaimChecks p long v m w) (cond (isNil (victimLive w)) a b) refl
+      (either (isNil (victimLive w)) (victimSegment w) (firstOr 0 (idle p v (m .state) w))) (inl refl)
+    where
+      either : (t : Bool) (g q : ℕ) → isMember (kind (cond t (resetPlan p m g) (copyPlan p v m q) .answer)) (resultsOf (reclaim n)) ≡ true
+      either true g q = unfold resetPlan kind resultsOf isMember any in refl
+      either false g q = unfold copyPlan kind resultsOf isMember any in refl
+
+  read-says : (a : ℕ) → Says (read a) (readVerdict p long v m a)
+  unfolding readVerdict readChecks numbersOf all any isMember refusalsOf resultsOf canStore
+  read-says a =
+      let gone = m .state .missing in
+      let f = lookup p gone (m .addresses) a in
+      says-decided (read a) (readChecks p long a ++ (zones (stateFaults p (m .state) ++ foundFaults p v gone f) ∷ [])) (mkPlan [] (readAnswer p f) m []) refl
+      (found f) (inr refl)
+    where
+      found : (f : Found) → isMember (kind (readAnswer p f)) (resultsOf (read a)) ≡ true
+      found nowhere = unfold readAnswer kind resultsOf isMember any in refl
+      found (here q) = unfold readAnswer kind resultsOf isMember any in refl
+      found (away q) = unfold readAnswer kind resultsOf isMember any in refl
+
+  fill-says : (a : ℕ) (b : List ℕ) → Says (fill a b) (fillVerdict p long v m a b)
+  unfolding fillVerdict readChecks numbersOf all any isMember refusalsOf resultsOf canStore kind
+  fill-says a b =
+      let gone = m .state .missing in
+      let f = lookup p gone (m .addresses) a in
+      says-decided (fill a b)
+      (readChecks p (long && eqb (length b) (p .B)) a ++ (zones (stateFaults p (m .state) ++ foundFaults p v gone f) ∷ zones (decodeFaults p v gone (m .compact) f) ∷ []))
+      (mkPlan [] Filled m (readPiece p v gone (m .compact) f .block)) refl refl (inr refl)
+
+  restart-says : (d n : ℕ) → Says (restart d n) (restartVerdict p long v m d)
+  unfolding restartVerdict restartChecks imageChecks restartPlan numbersOf all any isMember refusalsOf resultsOf canStore kind
+  restart-says d n =
+      let gs = segments p v (named d) in
+      says-decided (restart d n) (restartChecks p long v d gs) (restartPlan p v d gs (m .inflight)) refl refl (inl refl)
+
+  rebuild-says : (d n : ℕ) → Says (rebuild d n) (rebuildVerdict p long v m d)
+  unfolding rebuildVerdict rebuildChecks imageChecks numbersOf all any isMember refusalsOf resultsOf canStore kind
+  rebuild-says d n =
+      let gs = segments p v (named d) in
+      says-decided (rebuild d n) (rebuildChecks p long v m d gs) (mkPlan (rebuildStores p d gs) Rebuilt m []) refl refl (inl refl)
+
+  pub says : (c : Call) → Says c (verdict p long v m c)
+  unfolding verdict
+  says (write a b n) = write-says a b n
+  says (land d s n) = land-says d s n
+  says (close n) = close-says n
+  says (reclaim n) = reclaim-says n
+  says (read a) = read-says a
+  says (fill a b) = fill-says a b
+  says (restart d n) = restart-says d n
+  says (rebuild d n) = rebuild-says d n
+
+-- ---- the store count chooses only how many stores are made
+
+no-count : (p : Params) (n : ℕ) (k : Disk) (m : Memory) (b : List ℕ) (r : Opt Answer) (q : Plan) → q .stores ≡ []
+    → outcome p (storeDisk p) 0 k m b (decided r q) ≡ outcome p (storeDisk p) n k m b (decided r q)
+unfolding decided
+no-count p n k m b (some a) q e = refused-same p (storeDisk p) 0 k m b a ∙ sym (refused-same p (storeDisk p) n k m b a)
+no-count p n k m b none q e =
+    let h : length (q .stores) ≡ 0 = ap length e in
+    done-all p (storeDisk p) 0 k m b q (omega arith) ∙ sym (done-all p (storeDisk p) n k m b q (omega arith))
+
+pub counted-on : (p : Params) (long : Bool) (k : Disk) (m : Memory) (c : Call) (n : ℕ)
+    → callOn p long k m (withCount n c) ≡ outcome p (storeDisk p) n k m (lentBlock c) (verdict p long (seen p k) m c)
+unfolding callOn storeCount lentBlock verdict withCount
+counted-on p long k m (write a b i) n = refl
+counted-on p long k m (land d s i) n = refl
+counted-on p long k m (close i) n = refl
+counted-on p long k m (reclaim i) n = refl
+counted-on p long k m (read a) n = plain
+  where
+    plain : outcome p (storeDisk p) 0 k m [] (readVerdict p long (seen p k) m a) ≡ outcome p (storeDisk p) n k m [] (readVerdict p long (seen p k) m a)
+    plain =
+        let gone = m .state .missing in
+        let f = lookup p gone (m .addresses) a in
+        unfold readVerdict in no-count p n k m [] (firstRefusal (readChecks p long a ++ (zones (stateFaults p (m .state) ++ foundFaults p (seen p k) gone f) ∷ [])))
+        (mkPlan [] (readAnswer p f) m []) refl
+counted-on p long k m (fill a b) n = plain
+  where
+    plain : outcome p (storeDisk p) 0 k m b (fillVerdict p long (seen p k) m a b) ≡ outcome p (storeDisk p) n k m b (fillVerdict p long (seen p k) m a b)
+    plain =
+        let v = seen p k in
+        let gone = m .state .missing in
+        let f = lookup p gone (m .addresses) a in
+        unfold fillVerdict in no-count p n k m b
+        (firstRefusal (readChecks p (long && eqb (length b) (p .B)) a ++ (zones (stateFaults p (m .state) ++ foundFaults p v gone f) ∷ zones (decodeFaults p v gone (m .compact) f) ∷ [])))
+        (mkPlan [] Filled m (readPiece p v gone (m .compact) f .block)) refl
+counted-on p long k m (restart d i) n = refl
+counted-on p long k m (rebuild d i) n = refl
+
+-- the call as it came
+pub own-count : (c : Call) → withCount (storeCount c) c ≡ c
+unfolding storeCount withCount
+own-count (write a b n) = refl
+own-count (land d s n) = refl
+own-count (close n) = refl
+own-count (reclaim n) = refl
+own-count (read a) = refl
+own-count (fill a b) = refl
+own-count (restart d n) = refl
+own-count (rebuild d n) = refl
+
+-- ---- results
+
+-- 01, The calls: a call's own result is neither a refusal nor a cut
+results-high : (c : Call) → all (λ n. leb 3 n) (resultsOf c) ≡ true
+unfolding resultsOf all
+results-high (write a b n) = refl
+results-high (land d s n) = refl
+results-high (close n) = refl
+results-high (reclaim n) = refl
+results-high (read a) = refl
+results-high (fill a b) = refl
+results-high (restart d n) = refl
+results-high (rebuild d n) = refl
+
+pub result-high : (c : Call) (a : Answer) → isMember (kind a) (resultsOf c) ≡ true → (isRefused a ≡ false) × (isCut a ≡ false)
+unfolding isRefused isCut
+result-high c a h =
+    let g : 3 ≤ kind a = leb-true 3 (kind a) (member-all (λ n. leb 3 n) (kind a) (resultsOf c) h (results-high c)) in
+    (lt-leb (kind a) 1 (omega arith), ne-eqb (kind a) 2 (λ e. let x : ⊥ = omega arith in x))
