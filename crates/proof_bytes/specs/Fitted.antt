@@ -248,11 +248,12 @@ counted-few : (p : Params) (g : Segment) → length (counted p 0 g) ≤ p .S
 unfolding counted
 counted-few p g = let a = length-keep (counts p 0 g) (below (p .S)) in let b = length-below (p .S) in omega arith
 
-pub idle-fits : (p : Params) → Ranged p → (v : View) → Reads p v → (d : ℕ) (fl : List ℕ) → Fits (restartMemory p v (named d) fl .state)
+pub idle-fits : (p : Params) → Ranged p → (v : View) (d : ℕ) (fl : List ℕ) → greatestStamp (candidates p (named d) (segments p v (named d))) < 256 ^ 8
+    → greatestSerial (segments p v (named d)) < 256 ^ 8 → Fits (restartMemory p v (named d) fl .state)
 unfolding restartMemory openOf nextOf
-idle-fits p r v h d fl =
+idle-fits p r v d fl ht hs =
     fits-idle 1 (named d) (greatestStamp (candidates p (named d) (segments p v (named d)))) (greatestSerial (segments p v (named d))) (openOf us) (nextOf p us)
-    (lit< tt) names (stamps-low p v h (named d)) (serials-low p v h (named d)) (low-open us left) (low-next us)
+    (lit< tt) names ht hs (low-open us left) (low-next us)
   where
     us : List Segment
     us = cond (eqb (named d) 0) (unsealed (segments p v (named d))) []
@@ -287,4 +288,5 @@ pub restart-fits : (p : Params) (long : Bool) (v : View) (d : ℕ) (fl : List �
     → Passes (restartChecks p long v d (segments p v (named d))) → Fits (restartPlan p v d (segments p v (named d)) fl .memory .state)
 unfolding restartChecks restartPlan
 restart-fits p long v d fl h c =
-    idle-fits p (ranged p (not-false (inRange p) (or-left (not (inRange p)) _ (c .0)))) (storeAll storeView (restartStores p (named d) (segments p v (named d))) v) h d fl
+    let u = storeAll storeView (restartStores p (named d) (segments p v (named d))) v in
+    idle-fits p (ranged p (not-false (inRange p) (or-left (not (inRange p)) _ (c .0)))) u d fl (stamps-low p u h (named d)) (serials-low p u h (named d))

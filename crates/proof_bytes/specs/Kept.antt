@@ -9,7 +9,7 @@ use Rattle.defs.specs.declared.Params.{Params}
 use Rattle.defs.specs.declared.State.{State}
 use Rattle.defs.specs.declared.Answer.{Answer}
 use Rattle.defs.specs.declared.Answer.the-variants.{Cut}
-use Rattle.defs.specs.Answers.{isRefused}
+use Rattle.defs.specs.Answers.{isRefused, finished}
 use Rattle.defs.specs.Calls.{firstRefusal, Plan, Verdict, decided, After, mkAfter, cutMemory, limited, outcome}
 use Rattle.defs.specs.Calls.Verdict.{due}
 use Rattle.defs.specs.Drives.{View, Store, storeView, Disk, storeDisk, storeAll}
@@ -31,6 +31,8 @@ use Rattle.runs.specs.Refusals.{Decides, decides}
 use Rattle.tablesay.specs.Checks.{Passes, Decided, decide}
 use Rattle.tablesay.specs.Checks.Decided.{stops, goes}
 use Rattle.tablesay.specs.Laid.{in-take}
+use Rattle.tablesay.specs.Outcomes.{refusal-kind, refused-unfinished, cut-unfinished}
+use Rattle.tablesay.specs.Tests.{clash}
 use Rattle.tablesay.specs.Zones.{Bytes}
 use Rattle.proof_bytes.specs.Sections.{Fits, fits-stateOf, bytes-stateBytes, length-stateBytes, stateOf-stateBytes}
 use Rattle.proof_bytes.specs.Changes.{fits-zero}
@@ -47,7 +49,7 @@ module _ (p : Params) (long : Bool) (k : Disk) (m : Memory) (c : Call) where
 
   -- refused, done, or cut
   pub data Ends : Type 0 where
-    ends-refused : (a : Answer) → callOn p long k m c ≡ mkAfter a k m (lentBlock c) → Ends
+    ends-refused : (a : Answer) → isRefused a ≡ true → callOn p long k m c ≡ mkAfter a k m (lentBlock c) → Ends
     ends-done : Passes (due! .checks)
         → callOn p long k m c ≡ mkAfter (due! .plan .answer) (storeAll (storeDisk p) (due! .plan .stores) k) (due! .plan .memory) (due! .plan .block) → Ends
     ends-cut : Passes (due! .checks) → callOn p long k m c ≡ mkAfter Cut (storeAll (storeDisk p) (take (storeCount c) (due! .plan .stores)) k) (cutMemory p m) (lentBlock c) → Ends
@@ -72,24 +74,24 @@ module _ (p : Params) (long : Bool) (k : Disk) (m : Memory) (c : Call) where
           cut! e = unfold outcome limited in rw e
 
       go : Decided (due! .checks) (due! .plan) (decided (firstRefusal (due! .checks)) (due! .plan)) → Ends
-      go (stops a e w) = ends-refused a (ap run (due! .is ∙ w) ∙ refused-same p (storeDisk p) (storeCount c) k m (lentBlock c) a)
+      go (stops a e w) = ends-refused a (refusal-kind (due! .checks) a e) (ap run (due! .is ∙ w) ∙ refused-same p (storeDisk p) (storeCount c) k m (lentBlock c) a)
       go (goes q w) = limits (leb (length (due! .plan .stores)) (storeCount c)) refl q (ap run (due! .is ∙ w))
 
 -- ---- the state that a call leaves fits
 
--- after the stores of a restart headers and records are of 8 bytes
-abbrev pub RestartReads : Params → Bool → View → Call → Type 0
-RestartReads p long v (write a b n) = Unit {0}
-RestartReads p long v (land d s n) = Unit {0}
-RestartReads p long v (close n) = Unit {0}
-RestartReads p long v (reclaim n) = Unit {0}
-RestartReads p long v (read a) = Unit {0}
-RestartReads p long v (fill a b) = Unit {0}
-RestartReads p long v (restart d n) =
-    Passes (restartChecks p long v d (segments p v (named d))) → Reads p (storeAll storeView (restartStores p (named d) (segments p v (named d))) v)
-RestartReads p long v (rebuild d n) = Unit {0}
+-- where a restart goes on, the state that it makes fits
+abbrev pub RestartFits : Params → Bool → View → Memory → Call → Type 0
+RestartFits p long v m (write a b n) = Unit {0}
+RestartFits p long v m (land d s n) = Unit {0}
+RestartFits p long v m (close n) = Unit {0}
+RestartFits p long v m (reclaim n) = Unit {0}
+RestartFits p long v m (read a) = Unit {0}
+RestartFits p long v m (fill a b) = Unit {0}
+RestartFits p long v m (restart d n) =
+    Passes (restartChecks p long v d (segments p v (named d))) → Fits (restartPlan p v d (segments p v (named d)) (m .inflight) .memory .state)
+RestartFits p long v m (rebuild d n) = Unit {0}
 
-plan-fits : (p : Params) (long : Bool) (v : View) (m : Memory) (c : Call) → Fits (m .state) → Reads p v → RestartReads p long v c
+plan-fits : (p : Params) (long : Bool) (v : View) (m : Memory) (c : Call) → Fits (m .state) → Reads p v → RestartFits p long v m c
     → Passes (decides p long v m c .checks) → Fits (decides p long v m c .plan .memory .state)
 unfolding decides
 plan-fits p long v m (write a b n) f r h q = write-fits p long v m f a b q
@@ -98,21 +100,32 @@ plan-fits p long v m (close n) f r h q = close-fits p long v m f q
 plan-fits p long v m (reclaim n) f r h q = reclaim-fits p long v m f r (victim p v (m .addresses)) (firstOr 0 (idle p v (m .state) (victim p v (m .addresses)))) q
 plan-fits p long v m (read a) f r h q = f
 plan-fits p long v m (fill a b) f r h q = f
-plan-fits p long v m (restart d n) f r h q = restart-fits p long v d (m .inflight) (h q) q
+plan-fits p long v m (restart d n) f r h q = h q
 plan-fits p long v m (rebuild d n) f r h q = f
 
 cut-fits : (p : Params) (m : Memory) → Fits (cutMemory p m .state)
 unfolding cutMemory
 cut-fits p m = fits-zero
 
-pub on-fits : (p : Params) (long : Bool) (k : Disk) (m : Memory) (c : Call) → Fits (m .state) → Reads p (seen p k) → RestartReads p long (seen p k) c
+pub on-fits : (p : Params) (long : Bool) (k : Disk) (m : Memory) (c : Call) → Fits (m .state) → Reads p (seen p k) → RestartFits p long (seen p k) m c
     → Fits (callOn p long k m c .memory .state)
 on-fits p long k m c f r h = go (ends p long k m c)
   where
     go : Ends p long k m c → Fits (callOn p long k m c .memory .state)
-    go (ends-refused a e) = subst (λ (x : After Disk). Fits (x .memory .state)) (sym e) f
+    go (ends-refused a x e) = subst (λ (x : After Disk). Fits (x .memory .state)) (sym e) f
     go (ends-done q e) = subst (λ (x : After Disk). Fits (x .memory .state)) (sym e) (plan-fits p long (seen p k) m c f r h q)
     go (ends-cut q e) = subst (λ (x : After Disk). Fits (x .memory .state)) (sym e) (cut-fits p m)
+
+-- a finished restart needs nothing of the state that it found
+pub finished-fits : (p : Params) (long : Bool) (k : Disk) (m : Memory) (d n : ℕ) → RestartFits p long (seen p k) m (restart d n)
+    → finished (callOn p long k m (restart d n) .answer) ≡ true → Fits (callOn p long k m (restart d n) .memory .state)
+unfolding decides
+finished-fits p long k m d n h t = go (ends p long k m (restart d n))
+  where
+    go : Ends p long k m (restart d n) → Fits (callOn p long k m (restart d n) .memory .state)
+    go (ends-refused a x e) = clash t (ap (λ (r : After Disk). finished (r .answer)) e ∙ refused-unfinished a x)
+    go (ends-done q e) = subst (λ (x : After Disk). Fits (x .memory .state)) (sym e) (h q)
+    go (ends-cut q e) = clash t (ap (λ (r : After Disk). finished (r .answer)) e ∙ cut-unfinished)
 
 -- ---- all that a call leaves is bytes
 
@@ -146,7 +159,7 @@ on-bytes p long k m c h g b = go (ends p long k m c)
     cut! = unfold cutMemory in g
 
     go : Ends p long k m c → AfterBytes (callOn p long k m c)
-    go (ends-refused a e) = subst AfterBytes (sym e) (record { image-bytes = h; inflight-bytes = g; block-bytes = b })
+    go (ends-refused a x e) = subst AfterBytes (sym e) (record { image-bytes = h; inflight-bytes = g; block-bytes = b })
     go (ends-done x e) = subst AfterBytes (sym e) (record { image-bytes = stores-disk p k ss h (q .stores-bytes); inflight-bytes = q .inflight-bytes; block-bytes = q .block-bytes })
     go (ends-cut x e) = subst AfterBytes (sym e) (record {
       image-bytes = stores-disk p k (take (storeCount c) ss) h (λ s i. q .stores-bytes s (in-take (storeCount c) ss s i));
@@ -154,8 +167,8 @@ on-bytes p long k m c h g b = go (ends p long k m c)
       block-bytes = b;
     })
 
--- on an image of bytes a restart reads bytes after its stores
-bytes-restart : (p : Params) (long : Bool) (k : Disk) (m : Memory) (c : Call) → Bytes (k .image) → Bytes (m .inflight) → RestartReads p long (seen p k) c
+-- on an image of bytes a restart reads bytes after its stores, so that its state fits
+bytes-restart : (p : Params) (long : Bool) (k : Disk) (m : Memory) (c : Call) → Bytes (k .image) → Bytes (m .inflight) → RestartFits p long (seen p k) m c
 bytes-restart p long k m (write a b n) h g = tt
 bytes-restart p long k m (land d s n) h g = tt
 bytes-restart p long k m (close n) h g = tt
@@ -163,7 +176,8 @@ bytes-restart p long k m (reclaim n) h g = tt
 bytes-restart p long k m (read a) h g = tt
 bytes-restart p long k m (fill a b) h g = tt
 bytes-restart p long k m (restart d n) h g =
-    λ q. grounded-reads p _ (view-grounded p _ (stores-view (seen p k) (restartStores p (named d) (segments p (seen p k) (named d))) v (plan! (restarts-bytes p (seen p k) m v g d))))
+    λ q. restart-fits p long (seen p k) d (m .inflight)
+    (grounded-reads p _ (view-grounded p _ (stores-view (seen p k) (restartStores p (named d) (segments p (seen p k) (named d))) v (plan! (restarts-bytes p (seen p k) m v g d))))) q
   where
     v : ViewBytes (seen p k)
     v = view-bytes p (k .image) (k .pointers) h
@@ -222,6 +236,14 @@ keeps p k m (rebuild d n) = rebuild-keeps p k m d n
 -- what a call of the host leaves, decoded
 abbrev pub decoded : Left → After Disk
 decoded r = mkAfter (r .answer) (lentDisk (r .lent)) (lentMemory (r .lent)) (r .block)
+
+-- the answer is the same in any case
+pub answer-same : (p : Params) (l : Lent) (c : Call) → length (l .state) ≡ stateLen → callBytes p l c .answer ≡ callDisk p (lentDisk l) (lentMemory l) c .answer
+answer-same p l c e = ap (λ (x : Left). x .answer) (bytes-long p l c e) ∙ go (isRefused (callDisk p (lentDisk l) (lentMemory l) c .answer))
+  where
+    go : (t : Bool) → leftBy l (callDisk p (lentDisk l) (lentMemory l) c) t .answer ≡ callDisk p (lentDisk l) (lentMemory l) c .answer
+    go true = unfold leftBy in refl
+    go false = unfold leftBy in refl
 
 -- where the state has its length and what is left fits, a call on bytes is the call on the decoded state
 module _ (p : Params) (l : Lent) (c : Call) (e : length (l .state) ≡ stateLen) (f : Fits (callDisk p (lentDisk l) (lentMemory l) c .memory .state)) where

@@ -5,3 +5,5 @@ pub mod Fitted
 pub mod Images
 pub mod Stored
 pub mod Kept
+pub mod Runs
+pub mod Two
