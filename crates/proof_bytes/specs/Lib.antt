@@ -7,3 +7,4 @@ pub mod Stored
 pub mod Kept
 pub mod Runs
 pub mod Two
+pub mod Three
