@@ -1,0 +1,292 @@
+-- The state that each call leaves fits: the checks bound what it sets, and the rest comes from bytes. Assumes nothing.
+use mathlib.Core.Path.{_≡_, refl, sym, ap, _∙_, subst}
+use mathlib.Core.List.{List, [], _∷_, _++_, map}
+use mathlib.Core.Logic.{inl}
+use mathlib.Core.Bool.{Bool, true, false, cond, not, _&&_, _||_}
+use Prim.Native.Nat.{ℕ, zero, suc, _+_, _-_, _^_, _≤_, _<_}
+use borrow.Author.Tests.{not-true, not-false, leb-false, eqb-false}
+use native.Mathlib.Decide.{decLt}
+use native.Mathlib.Omega.{arith}
+use lib.Dec.{leb, eqb, lit<}
+use lib.ListN.{length, getD, replicate, List·getD-eq-default}
+use Rattle.defs.specs.declared.Params.{Params}
+use Rattle.defs.specs.declared.State.{State}
+use Rattle.defs.specs.Calls.{Plan}
+use Rattle.defs.specs.Closing.{padded, closeChecks, closePlan}
+use Rattle.defs.specs.Counts.{paddingAddress, lastCount}
+use Rattle.defs.specs.Drives.{View, pointerAt, storeView, storeAll, segmentNumbers, emptyOnAll, emptyZones, zoneOn, recordAt}
+use Rattle.defs.specs.Landing.{slotOf, completes, seals, misplaced, overfull, entryFaults, landFaults, landChecks, landPlan}
+use Rattle.defs.specs.Layout.{group}
+use Rattle.defs.specs.Lists.{Opt, below, keep, isNil, firstOr, consIf, flat}
+use Rattle.defs.specs.Memory.{Memory, filledIn, freeSlot, fillingSlot, hasFilling, openSegment, entriesIn, stateFaults, idleState, setOpen, setClosed, beginStripe, addEntry, markLanded, freeStripe}
+use Rattle.defs.specs.Params.{between, inRange, dataCount, named, placeBlock, placeDrive}
+use Rattle.defs.specs.Reclaim.{Victim, victim, victimSegment, victimLive, idle, reclaimChecks, tableFaults, resetPlan, copyPlan}
+use Rattle.defs.specs.Restart.{openOf, nextOf, restartMemory, restartStores, restartChecks, restartPlan}
+use Rattle.defs.specs.Segments.{remaining, Segment, segmentOf, segments, counts, counted, unsealed, candidates, greatestStamp, greatestSerial}
+use Rattle.defs.specs.Write.{opens, noStamp, noSerial, placed, openedBy, slotFor, begunBy, sending, writeChecks, writePlan}
+use Rattle.laws.specs.Geometry.{between-high, Ranged, ranged, addresses-all, data-count-high}
+use Rattle.laws.specs.Mask.{only-lt}
+use Rattle.laws.specs.Ranges.{Test, test, and-left, length-below, length-keep}
+use Rattle.laws.specs.Ranges.Test.{yes!, no! }
+use Rattle.plans.specs.Refusals.{state-free}
+use Rattle.tablesay.specs.Checks.{Passes}
+use Rattle.tablesay.specs.Idle.{StateOk, state-of}
+use Rattle.tablesay.specs.Members.{In, map-in, keep-in, below-in, first-in}
+use Rattle.tablesay.specs.Segs.{remaining-low, seg-is}
+use Rattle.tablesay.specs.Tests.{clash, or-left, or-right}
+use Rattle.proof_bytes.specs.Sections.{Fits}
+use Rattle.proof_bytes.specs.Changes.{low-set, set-le, fits-stamp, fits-open, fits-closed, fits-begin, fits-add, fits-mark, fits-free, fits-idle}
+use Rattle.proof_bytes.specs.Reads.{Reads, stamps-low, serials-low}
+
+-- ---- what a state in range bounds
+
+-- few positions are filled, and the next stripe number is small
+pub record Small (st : State) : Type 0 where
+  pub filled-small : (i : ℕ) → getD (st .filled) i 0 < 8
+  pub next-small : st .next ≤ 65535
+
+nil-left : (s t : List ℕ) → s ++ t ≡ [] → s ≡ []
+nil-left [] t q = refl
+nil-left (a ∷ s) t q = absurd (let z : _≡_ {A = ℕ} (suc (length (s ++ t))) 0 = ap length q in let y : ⊥ = omega arith in y)
+
+nil-right : (s t : List ℕ) → s ++ t ≡ [] → t ≡ []
+nil-right s t q = ap (λ (x : List ℕ). x ++ t) (sym (nil-left s t q)) ∙ q
+
+module _ (p : Params) (st : State) (f : Fits st) (r : Ranged p) (so : StateOk p st) where
+  small : Small st
+  small = record { filled-small = λ i. go i (decLt i 8); next-small = let a = so .next-low in let b = r .stripes-high in omega arith }
+    where
+      go : (i : ℕ) → Dec (i < 8) → getD (st .filled) i 0 < 8
+      go i (yes h) = let a = of! i (so .slots-ok i h .filled-ok) in let b = data-count-high p r in omega arith
+        where
+          of! : (i : ℕ) → filledIn st i ≤ dataCount p → getD (st .filled) i 0 ≤ dataCount p
+          of! i x = unfold filledIn in x
+      go i (no h) = subst (λ (x : ℕ). x < 8) (sym (List·getD-eq-default (st .filled) 0 {n = i} (let e = f .filled-fit .0 in omega arith))) (lit< tt)
+
+-- ---- a block sent
+
+first-low : (p : Params) (v : View) → 4 ≤ p .Z → firstOr 0 (emptyZones p v) < p .Z
+unfolding isNil
+first-low p v h = go (test (isNil (emptyZones p v)))
+  where
+    inside : In (firstOr 0 (emptyZones p v)) (emptyZones p v) → firstOr 0 (emptyZones p v) < p .Z
+    inside m = below-in (p .Z) (firstOr 0 (emptyZones p v)) (of! (firstOr 0 (emptyZones p v)) m)
+      where
+        of! : (n : ℕ) → In n (emptyZones p v) → In n (below (p .Z))
+        of! n m = unfold emptyZones segmentNumbers in keep-in (emptyOnAll p v) (below (p .Z)) n m .0
+
+    nothing : (l : List ℕ) → isNil l ≡ true → firstOr 0 l < p .Z
+    nothing [] q = unfold firstOr in omega arith
+    nothing (a ∷ l) q = clash q refl
+
+    go : Test (isNil (emptyZones p v)) → firstOr 0 (emptyZones p v) < p .Z
+    go (yes! q) = nothing (emptyZones p v) q
+    go (no! q) = inside (first-in (emptyZones p v) 0 q)
+
+module _ (p : Params) (r : Ranged p) (v : View) (st : State) (f : Fits st) (m : Small st) (serial : opens p st ≡ true → suc (st .serial .0) < 256 ^ 8) where
+  opened : Fits (openedBy p v st) × Small (openedBy p v st)
+  unfolding openedBy setOpen
+  opened = go (test (opens p st))
+    where
+      st′ : State
+      st′ = setOpen st (firstOr 0 (emptyZones p v)) (suc (st .serial .0))
+
+      go : Test (opens p st) → Fits (cond (opens p st) st′ st) × Small (cond (opens p st) st′ st)
+      go (yes! q) = subst (λ (b : Bool). Fits (cond b st′ st) × Small (cond b st′ st)) (sym q) (
+        fits-open st f (firstOr 0 (emptyZones p v)) (suc (st .serial .0)) (let a = first-low p v (r .zones-low) in let b = r .zones-high in omega arith) (serial q),
+        record { filled-small = m .filled-small; next-small = omega arith },
+      )
+      go (no! q) = subst (λ (b : Bool). Fits (cond b st′ st) × Small (cond b st′ st)) (sym q) (f, m)
+
+  begins : (st₁ : State) (i : ℕ) → Fits st₁ → Small st₁ → Fits (beginStripe st₁ i) × ((k : ℕ) → getD (beginStripe st₁ i .filled) k 0 < 8)
+  unfolding beginStripe
+  begins st₁ i g s = (fits-begin st₁ g i (let a = s .next-small in omega arith), low-set 8 (st₁ .filled) i 0 (s .filled-small) (lit< tt))
+
+  begun : Fits (begunBy p st (openedBy p v st)) × ((k : ℕ) → getD (begunBy p st (openedBy p v st) .filled) k 0 < 8)
+  unfolding begunBy
+  begun = go (hasFilling p st) (begins (openedBy p v st) (freeSlot st) (opened .0) (opened .1))
+    where
+      go : (b : Bool) → Fits (beginStripe (openedBy p v st) (freeSlot st)) × ((k : ℕ) → getD (beginStripe (openedBy p v st) (freeSlot st) .filled) k 0 < 8)
+          → Fits (cond b st (beginStripe (openedBy p v st) (freeSlot st))) × ((k : ℕ) → getD (cond b st (beginStripe (openedBy p v st) (freeSlot st)) .filled) k 0 < 8)
+      go true h = (f, m .filled-small)
+      go false h = h
+
+  pub sending-fits : (fl : List ℕ) (a t w : ℕ) (b : List ℕ) → a < 256 ^ 8 → t < 256 ^ 8 → w ≤ 1 → Fits (sending p v st fl a t w b .state)
+  unfolding sending placed
+  sending-fits fl a t w b ha ht hw =
+      fits-add (begunBy p st (openedBy p v st)) (begun .0) (slotFor p st) a t w (few (slotFor p st)) ha ht hw
+    where
+      few : (i : ℕ) → suc (filledIn (begunBy p st (openedBy p v st)) i) < 256
+      few i = unfold filledIn in (let x = begun .1 i in omega arith)
+
+-- ---- the calls
+
+module _ (p : Params) (long : Bool) (v : View) (m : Memory) (f : Fits (m .state)) where
+  abbrev st : State
+  st = m .state
+
+  -- 01, Refusals, 6: there is a next stamp
+  next-stamp : noStamp st ≡ false → suc (st .stamp .0) < 256 ^ 8
+  unfolding noStamp
+  next-stamp q = let n = eqb-false (st .stamp .0) lastCount q in let b = f .stamp-fits in go n b
+    where
+      go : (st .stamp .0 ≡ 18446744073709551615 → ⊥) → st .stamp .0 < 256 ^ 8 → suc (st .stamp .0) < 256 ^ 8
+      go n b = below-last (st .stamp .0) n b
+        where
+          below-last : (x : ℕ) → (x ≡ 18446744073709551615 → ⊥) → x < 256 ^ 8 → suc x < 256 ^ 8
+          below-last x n b = omega arith
+
+  -- and a next serial where a segment is opened
+  next-serial : noSerial p st ≡ false → opens p st ≡ true → suc (st .serial .0) < 256 ^ 8
+  unfolding noSerial
+  next-serial q o = below-last (st .serial .0) (λ e. clash (ap (λ (b : Bool). b && eqb (st .serial .0) lastCount) o ∙ same (st .serial .0) e) q) (f .serial-fits)
+    where
+      same : (x : ℕ) → x ≡ lastCount → eqb x lastCount ≡ true
+      same x e = ap (λ (y : ℕ). eqb y lastCount) e
+
+      below-last : (x : ℕ) → (x ≡ lastCount → ⊥) → x < 256 ^ 8 → suc x < 256 ^ 8
+      below-last x n b = omega arith
+
+  pub write-fits : (a : ℕ) (b : List ℕ) → Passes (writeChecks p long v m a b) → Fits (writePlan p v m a b .memory .state)
+  unfolding writeChecks writePlan
+  write-fits a b c =
+      let r = ranged p (not-false (inRange p) (c .0)) in
+      let so = state-of p r st (state-free p st (c .1 .1 .1 .1 .1 .1 .1 .0)) in
+      let six = c .1 .1 .1 .1 .0 in
+      let t = next-stamp (or-left (noStamp st) (noSerial p st) six) in
+      let q = sending p v st (m .inflight) a (suc (st .stamp .0)) 1 b in
+      let ha : a < 256 ^ 8 = let x = leb-false (p .L) a (c .1 .1 .1 .0) in let y = addresses-all p r in omega arith in
+      fits-stamp (q .state)
+      (sending-fits p r v st f (small p st f r so) (next-serial (or-right (noStamp st) (noSerial p st) six)) (m .inflight) a (suc (st .stamp .0)) 1 b ha t (omega arith))
+      (suc (st .stamp .0)) t
+
+  -- ---- landing
+
+  consIf-nil : (b : Bool) (n : ℕ) (l : List ℕ) → consIf b n l ≡ [] → b ≡ false
+  unfolding consIf
+  consIf-nil true n l q = absurd (let z : _≡_ {A = ℕ} (suc (length l)) 0 = ap length q in let y : ⊥ = omega arith in y)
+  consIf-nil false n l q = refl
+
+  placed-low : (d g s : ℕ) → Ranged p → misplaced p v d (zoneOn g d) s ≡ false → pointerAt v d (zoneOn g d) - 1 < 256 ^ 4
+  unfolding misplaced
+  placed-low d g s r q =
+      let n = pointerAt v d (zoneOn g d) in
+      let a = between-high 1 (p .S) n (and-left (between 1 (p .S) n) (eqb (group p (n - 1)) (group p s)) (not-false (between 1 (p .S) n && eqb (group p (n - 1)) (group p s)) q)) in
+      let b = r .stripes-high in
+      omega arith
+
+  pub land-fits : (d s : ℕ) → Passes (landChecks p long v m d s) → Fits (landPlan p v m d s .memory .state)
+  unfolding landChecks landPlan
+  land-fits d s c =
+      let r = ranged p (not-false (inRange p) (c .0)) in
+      let i = slotOf st s in
+      let g = openSegment st in
+      let o = pointerAt v d (zoneOn g d) - 1 in
+      let st₁ = markLanded st i d o in
+      let f₁ = fits-mark st f i d o (placed-low d g s r (off (nil-right (stateFaults p st) (landFaults p v m d s) (c .1 .1 .1 .1 .0)))) in
+      go (completes p st i d) (seals p st i d) st₁ i f₁
+    where
+      off : landFaults p v m d s ≡ [] → misplaced p v d (zoneOn (openSegment st) d) s ≡ false
+      off q = unfold landFaults in consIf-nil (misplaced p v d (zoneOn (openSegment st) d) s) (openSegment st) _ (of! q)
+        where
+          of! : landFaults p v m d s ≡ [] → consIf (misplaced p v d (zoneOn (openSegment st) d) s) (openSegment st)
+              (consIf (seals p st (slotOf st s) d && overfull p v d (openSegment st)) (openSegment st)
+              (cond (completes p st (slotOf st s) d) (flat (entryFaults p v (m .addresses)) (entriesIn st (slotOf st s))) [])) ≡ []
+          of! q = unfold landFaults in q
+
+      go : (a b : Bool) (x : State) (i : ℕ) → Fits x → Fits (cond b (setClosed (cond a (freeStripe x i) x)) (cond a (freeStripe x i) x))
+      go true true x i h = fits-closed (freeStripe x i) (fits-free x h i)
+      go true false x i h = fits-free x h i
+      go false true x i h = fits-closed x h
+      go false false x i h = h
+
+  -- ---- closing
+
+  padded-fits : (i k : ℕ) (x : State) (fl : List ℕ) → Fits x → filledIn x i + k < 256 → Fits (padded p i k x fl .state)
+  unfolding padded placed
+  padded-fits i zero x fl h l = h
+  padded-fits i (suc k) x fl h l =
+      padded-fits i k (addEntry x i paddingAddress 0 0) (placed p x fl i paddingAddress 0 0 (replicate (p .B) 0) .inflight)
+      (fits-add x h i paddingAddress 0 0 (omega arith) (lit< tt) (lit< tt) (omega arith))
+      (let z = one-more in omega arith)
+    where
+      one-more : filledIn (addEntry x i paddingAddress 0 0) i ≤ suc (filledIn x i)
+      one-more = unfold filledIn addEntry in set-le (x .filled) i (suc (getD (x .filled) i 0))
+
+  pub close-fits : Passes (closeChecks p long v m) → Fits (closePlan p m .memory .state)
+  unfolding closeChecks closePlan
+  close-fits c =
+      let r = ranged p (not-false (inRange p) (c .0)) in
+      let so = state-of p r st (state-free p st (nil-left (stateFaults p st) _ (c .1 .1 .1 .1 .0))) in
+      let i = fillingSlot p st in
+      padded-fits i (dataCount p - filledIn st i) st (m .inflight) f (let a = few (small p st f r so) i in let b = data-count-high p r in omega arith)
+    where
+      few : Small st → (i : ℕ) → filledIn st i < 8
+      few s i = unfold filledIn in s .filled-small i
+
+  -- ---- reclaim
+
+  pub reclaim-fits : Reads p v → (w : Opt Victim) (q : ℕ) → Passes (reclaimChecks p long v m w)
+      → Fits (cond (isNil (victimLive w)) (resetPlan p m (victimSegment w)) (copyPlan p v m q) .memory .state)
+  unfolding reclaimChecks resetPlan copyPlan recordAt
+  reclaim-fits h w q c = go (test (isNil (victimLive w)))
+    where
+      serial : isNil (victimLive w) ≡ false → not (isNil (victimLive w)) && noSerial p st ≡ false → noSerial p st ≡ false
+      serial e q = ap (λ (b : Bool). not b && noSerial p st) (sym e) ∙ q
+
+      go : Test (isNil (victimLive w)) → Fits (cond (isNil (victimLive w)) (resetPlan p m (victimSegment w)) (copyPlan p v m q) .memory .state)
+      go (yes! e) = subst (λ (b : Bool). Fits (cond b (resetPlan p m (victimSegment w)) (copyPlan p v m q) .memory .state)) (sym e) f
+      go (no! e) =
+          let r = ranged p (not-false (inRange p) (c .0)) in
+          let so = state-of p r st (state-free p st (nil-left (stateFaults p st) (tableFaults p (m .addresses)) (nil-left (stateFaults p st ++ tableFaults p (m .addresses)) _ (c .1 .1 .1 .1 .1 .1 .1 .0)))) in
+          subst (λ (b : Bool). Fits (cond b (resetPlan p m (victimSegment w)) (copyPlan p v m q) .memory .state)) (sym e)
+          (sending-fits p r v st f (small p st f r so) (next-serial (serial e (c .1 .1 .1 .1 .0))) (m .inflight) _ _ 0 _ (h .records-low _ _ _ _ .0) (h .records-low _ _ _ _ .1) (omega arith))
+
+-- ---- restart
+
+counted-few : (p : Params) (g : Segment) → length (counted p 0 g) ≤ p .S
+unfolding counted
+counted-few p g = let a = length-keep (counts p 0 g) (below (p .S)) in let b = length-below (p .S) in omega arith
+
+pub idle-fits : (p : Params) → Ranged p → (v : View) (d : ℕ) (fl : List ℕ) → greatestStamp (candidates p (named d) (segments p v (named d))) < 256 ^ 8
+    → greatestSerial (segments p v (named d)) < 256 ^ 8 → Fits (restartMemory p v (named d) fl .state)
+unfolding restartMemory openOf nextOf
+idle-fits p r v d fl ht hs =
+    fits-idle 1 (named d) (greatestStamp (candidates p (named d) (segments p v (named d)))) (greatestSerial (segments p v (named d))) (openOf us) (nextOf p us)
+    (lit< tt) names ht hs (low-open us left) (low-next us)
+  where
+    us : List Segment
+    us = cond (eqb (named d) 0) (unsealed (segments p v (named d))) []
+
+    names : named d < 256 ^ 1
+    names = unfold named in only-lt d
+
+    in-segs : (x : Segment) → In x (segments p v (named d)) → x .seg < p .Z
+    in-segs x i =
+        let (z, j, e) = map-in (segmentOf p v (named d)) (remaining p v (named d)) x (of! x i) in
+        subst (λ (n : ℕ). n < p .Z) (sym (ap (λ (y : Segment). y .seg) e ∙ seg-is p v (named d) z)) (remaining-low p v (named d) z j)
+      where
+        of! : (x : Segment) → In x (segments p v (named d)) → In x (map (segmentOf p v (named d)) (remaining p v (named d)))
+        of! x i = unfold segments in i
+
+    left : (x : Segment) → In x us → x .seg < p .Z
+    left x i = go (eqb (named d) 0) i
+      where
+        go : (b : Bool) → In x (cond b (unsealed (segments p v (named d))) []) → x .seg < p .Z
+        go true i = in-segs x (unfold unsealed in keep-in (λ (g : Segment). not (g .full)) (segments p v (named d)) x i .0)
+        go false i = absurd i
+
+    low-open : (l : List Segment) → ((x : Segment) → In x l → x .seg < p .Z) → openOf l < 256 ^ 4
+    low-open [] i = lit< tt
+    low-open (g ∷ gs) i = let a = i g (inl refl) in let b = r .zones-high in omega arith
+
+    low-next : (l : List Segment) → nextOf p l < 256 ^ 4
+    low-next [] = lit< tt
+    low-next (g ∷ gs) = let a = counted-few p g in let b = r .stripes-high in omega arith
+
+pub restart-fits : (p : Params) (long : Bool) (v : View) (d : ℕ) (fl : List ℕ) → Reads p (storeAll storeView (restartStores p (named d) (segments p v (named d))) v)
+    → Passes (restartChecks p long v d (segments p v (named d))) → Fits (restartPlan p v d (segments p v (named d)) fl .memory .state)
+unfolding restartChecks restartPlan
+restart-fits p long v d fl h c =
+    let u = storeAll storeView (restartStores p (named d) (segments p v (named d))) v in
+    idle-fits p (ranged p (not-false (inRange p) (or-left (not (inRange p)) _ (c .0)))) u d fl (stamps-low p u h (named d)) (serials-low p u h (named d))

@@ -1,0 +1,10 @@
+pub mod Sections
+pub mod Changes
+pub mod Reads
+pub mod Fitted
+pub mod Images
+pub mod Stored
+pub mod Kept
+pub mod Runs
+pub mod Two
+pub mod Three

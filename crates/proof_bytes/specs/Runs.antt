@@ -1,0 +1,91 @@
+-- In a run that a finished restart began the state fits its bytes, whatever blocks are written: headers, records and footers hold bytes. Assumes nothing.
+use mathlib.Core.Path.{_≡_, refl, sym, ap, _∙_, subst}
+use mathlib.Core.List.{List, [], _++_}
+use mathlib.Core.Bool.{true, false, cond}
+use mathlib.Core.Logic.{⊎-elim}
+use Prim.Native.Nat.{ℕ, _^_, _<_}
+use lib.Dec.{eqb}
+use Rattle.defs.specs.declared.Params.{Params}
+use Rattle.defs.specs.Drives.{View, Store, storeView, Disk, storeDisk, storeAll}
+use Rattle.defs.specs.Engine.{Call, lentOk}
+use Rattle.defs.specs.Engine.Call.{write, land, close, reclaim, read, fill, restart, rebuild}
+use Rattle.defs.specs.Lists.{flat}
+use Rattle.defs.specs.Memory.{Memory, idleState}
+use Rattle.defs.specs.Params.{named}
+use Rattle.defs.specs.Restart.{dropStores, mendStores, restartStores, restartMemory, restartPlan}
+use Rattle.defs.specs.Segments.{Segment, segments, unsealed, candidates, greatestStamp, greatestSerial}
+use Rattle.laws.specs.Geometry.{Ranged, ranged}
+use Rattle.views.specs.Views.{Whole, seen}
+use Rattle.tablesay.specs.Checks.{Passes}
+use Rattle.tablesay.specs.Idle.{whole-of}
+use Rattle.tablesay.specs.Losing.{named-some}
+use Rattle.tablesay.specs.Restarting.{started}
+use Rattle.tablesay.specs.Run.{Lost, Well, Run}
+use Rattle.tablesay.specs.Starting.{memory-missing, startChecks, startPlan, begins}
+use Rattle.tablesay.specs.Tests.{cond-false}
+use Rattle.tablesay.specs.Zones.{Shaped}
+use Rattle.proof_bytes.specs.Sections.{Fits}
+use Rattle.proof_bytes.specs.Reads.{Reads, grounded-reads, shaped-grounded, stamps-low, serials-low}
+use Rattle.proof_bytes.specs.Fitted.{idle-fits}
+use Rattle.proof_bytes.specs.Kept.{RestartFits}
+
+module _ (p : Params) (k : Disk) (m : Memory) (d : ℕ) where
+  abbrev v : View
+  v = seen p k
+
+  abbrev ss : List Store
+  ss = restartStores p (named d) (segments p v (named d))
+
+  -- a drive is missing: nothing is stored
+  lost-fits : Ranged p → Shaped p v → eqb (named d) 0 ≡ false → Fits (restartMemory p (storeAll storeView ss v) (named d) (m .inflight) .state)
+  lost-fits r sh q =
+      let h = grounded-reads p v (shaped-grounded p v sh) in
+      subst (λ (u : View). Fits (restartMemory p u (named d) (m .inflight) .state)) (sym (ap (λ (l : List Store). storeAll storeView l v) none! ∙ same))
+      (idle-fits p r v d (m .inflight) (stamps-low p v h (named d)) (serials-low p v h (named d)))
+    where
+      none! : restartStores p (named d) (segments p v (named d)) ≡ []
+      none! = unfold restartStores in
+          cond-false (eqb (named d) 0) (dropStores p (segments p v (named d)) ++ flat (mendStores p (segments p v (named d))) (unsealed (segments p v (named d)))) [] q
+
+      same : storeAll storeView [] v ≡ v
+      same = unfold storeAll in refl
+
+  -- none is missing: what holds after the restart bounds stamp and serial
+  well-fits : Ranged p → (k′ : Disk) → Well p k′ (restartMemory p (storeAll storeView ss v) (named d) (m .inflight)) → Fits (restartMemory p (storeAll storeView ss v) (named d) (m .inflight) .state)
+  well-fits r k′ w = idle-fits p r (storeAll storeView ss v) d (m .inflight) (stamp! (w .healthy .stamp-fits)) (serial! (w .healthy .serial-fits))
+    where
+      u : View
+      u = storeAll storeView ss v
+
+      stamp! : restartMemory p u (named d) (m .inflight) .state .stamp .0 < 256 ^ 8 → greatestStamp (candidates p (named d) (segments p u (named d))) < 256 ^ 8
+      stamp! x = unfold restartMemory idleState in x
+
+      serial! : restartMemory p u (named d) (m .inflight) .state .serial .0 < 256 ^ 8 → greatestSerial (segments p u (named d)) < 256 ^ 8
+      serial! x = unfold restartMemory idleState in x
+
+  -- on drives whose headers, records and footers hold bytes
+  pub restart-shaped : (Whole p k → Shaped p v) → Passes (startChecks p k m d) → Fits (startPlan p k m d .memory .state)
+  unfolding restartPlan
+  restart-shaped sh c =
+      let b = begins p k m d c in
+      let r = ranged p (b .in-range!) in
+      go r (sh (whole-of p k m (b .lent!))) (started p k m d sh b)
+    where
+      go : Ranged p → Shaped p v → Run p (storeAll (storeDisk p) (startPlan p k m d .stores) k) (startPlan p k m d .memory) → Fits (startPlan p k m d .memory .state)
+      go r s u = ⊎-elim
+          (λ (x : Lost p (storeAll (storeDisk p) (startPlan p k m d .stores) k) (startPlan p k m d .memory)).
+          let e : named (x .which) ≡ named d = sym (x .names-it) ∙ memory-missing p (storeAll storeView ss v) (named d) (m .inflight) in
+          lost-fits r s (ap (λ (n : ℕ). eqb n 0) (sym e) ∙ named-some p r (x .which) (x .which-low)))
+          (λ (x : Well p (storeAll (storeDisk p) (startPlan p k m d .stores) k) (startPlan p k m d .memory)). well-fits r (storeAll (storeDisk p) (startPlan p k m d .stores) k) x)
+          (u .mode)
+
+-- every call of a run
+pub run-restart : (p : Params) (k : Disk) (m : Memory) (c : Call) → (Whole p k → Shaped p (seen p k)) → RestartFits p (lentOk p k m) (seen p k) m c
+run-restart p k m (write a b n) sh = tt
+run-restart p k m (land d s n) sh = tt
+run-restart p k m (close n) sh = tt
+run-restart p k m (reclaim n) sh = tt
+run-restart p k m (read a) sh = tt
+run-restart p k m (fill a b) sh = tt
+run-restart p k m (restart d n) sh = λ q. restart-shaped p k m d sh q
+run-restart p k m (rebuild d n) sh = tt

@@ -1,0 +1,277 @@
+-- The state's bytes: section by section, what is written is read back, what is read fits its width, and all are bytes. Assumes nothing.
+use mathlib.Core.Path.{_≡_, refl, sym, ap, ap₂, _∙_, subst}
+use mathlib.Core.List.{map, List, [], _∷_, _++_, append-assoc}
+use Prim.Native.Nat.{ℕ, zero, suc, _+_, _*_, _^_, _≤_, _<_}
+use native.Mathlib.Omega.{arith}
+use native.Mathlib.Decide.{decLt}
+use native.Mathlib.Nat.{zero-add, add-comm, add-assoc, mul-comm, mul-zero, mul-suc, pow-le-pow-right, one-le-pow}
+use lib.Dec.{lit<}
+use lib.ListN.{length, getD, take, drop, replicate, length-append, length-map, length-take, List·getD-eq-default}
+use lib.Seq.{ext-getD}
+use Rattle.defs.specs.declared.State.{State}
+use Rattle.defs.specs.Bytes.{beFrom, beOf, toBe, part}
+use Rattle.defs.specs.Lists.{upFrom, below, flat, total, zipped}
+use Rattle.defs.specs.Memory.{idleState, zeroState, Section, section, stateSections, sectionLen, sectionAt, stateLen, numbersAt, sectionOf, numberOf, stateNumbers, sectionBytes, stateBytes, stateOf, mkState}
+use Rattle.laws.specs.Be.{length-toBe, beOf-toBe}
+use Rattle.laws.specs.Ranges.{length-below, map-below-same, getD-map-below, length-flat}
+use Rattle.laws.specs.Splice.{part-all, part-append-left, part-append-right}
+use Rattle.tablesay.specs.Image.{bytes-part}
+use Rattle.tablesay.specs.Laid.{bytes-nil, bytes-append, bytes-toBe, beOf-low}
+use Rattle.tablesay.specs.Zones.{Bytes}
+
+-- ---- one section
+
+length-numbersAt : (w n at : ℕ) (bs : List ℕ) → length (numbersAt w n at bs) ≡ n
+unfolding numbersAt
+length-numbersAt w n at bs = simp length-map (length-below n)
+
+length-numbers : (w : ℕ) (ns : List ℕ) → length (flat (toBe w) ns) ≡ w * length ns
+length-numbers w ns = length-flat (toBe w) w ns (length-toBe w) ∙ mul-comm (length ns) w
+
+-- number k of a section
+number-part : (w k : ℕ) (ns rest : List ℕ) → k < length ns → part (w * k) w (flat (toBe w) ns ++ rest) ≡ toBe w (getD ns k 0)
+unfolding flat
+number-part w k [] rest h = absurd (let q : ⊥ = omega arith in q)
+number-part w zero (n ∷ ns) rest h =
+    let b : List ℕ = toBe w n in
+    let e : length b ≡ w = length-toBe w n in
+    let z : w * 0 ≡ 0 = mul-zero w in
+    ap₂ (λ (x : ℕ) (y : List ℕ). part x w y) z (append-assoc b (flat (toBe w) ns) rest)
+    ∙ part-append-left 0 w b (flat (toBe w) ns ++ rest) (omega arith) ∙ part-all w b (omega arith)
+number-part w (suc k) (n ∷ ns) rest h =
+    let b : List ℕ = toBe w n in
+    let z : w * suc k ≡ length b + w * k = mul-suc w k ∙ add-comm (w * k) w ∙ ap (λ (x : ℕ). x + w * k) (sym (length-toBe w n)) in
+    ap₂ (λ (x : ℕ) (y : List ℕ). part x w y) z (append-assoc b (flat (toBe w) ns) rest)
+    ∙ part-append-right (w * k) w b (flat (toBe w) ns ++ rest) ∙ number-part w k ns rest (omega arith)
+
+-- a section, and what follows it
+numbers-back : (w n : ℕ) (ns rest : List ℕ) → length ns ≡ n → ((k : ℕ) → k < length ns → getD ns k 0 < 256 ^ w)
+    → numbersAt w n 0 (flat (toBe w) ns ++ rest) ≡ ns
+unfolding numbersAt
+numbers-back w n ns rest e f =
+    let l : List ℕ = flat (toBe w) ns ++ rest in
+    ext-getD 0 (numbersAt w n 0 l) ns (length-numbersAt w n 0 l ∙ sym e)
+    (λ k h.
+    let q : k < length ns = omega (arith, length-numbersAt w n 0 l) in
+    getD-map-below (λ (i : ℕ). beOf (part (0 + w * i) w l)) n k 0 (omega arith) ∙ ap (λ (x : ℕ). beOf (part x w l)) (zero-add (w * k))
+    ∙ ap beOf (number-part w k ns rest q) ∙ beOf-toBe w (getD ns k 0) (f k q))
+
+-- a section behind others
+numbers-behind : (w n at : ℕ) (s t : List ℕ) → numbersAt w n (length s + at) (s ++ t) ≡ numbersAt w n at t
+unfolding numbersAt
+numbers-behind w n at s t =
+    map-below-same (λ (i : ℕ). beOf (part (length s + at + w * i) w (s ++ t))) (λ (i : ℕ). beOf (part (at + w * i) w t)) n
+    (λ k h. ap beOf (ap (λ (x : ℕ). part x w (s ++ t)) (add-assoc (length s) at (w * k)) ∙ part-append-right (at + w * k) w s t))
+
+-- what is read from w bytes is below 256 ^ w
+part-low : (w at : ℕ) (bs : List ℕ) → Bytes bs → beOf (part at w bs) < 256 ^ w
+part-low w at bs h =
+    let q = part at w bs in
+    let m : 256 ^ length q ≤ 256 ^ w = pow-le-pow-right (lit< tt) {i = length q} {j = w} short in
+    let b = beOf-low q (bytes-part at w bs h) in
+    omega arith
+  where
+    short : length (part at w bs) ≤ w
+    short = unfold part in subst (λ (x : ℕ). x ≤ w) (sym (length-take w (drop at bs))) (omega arith)
+
+numbers-low : (w n at : ℕ) (bs : List ℕ) → Bytes bs → (k : ℕ) → getD (numbersAt w n at bs) k 0 < 256 ^ w
+unfolding numbersAt
+numbers-low w n at bs h k = go (decLt k n)
+  where
+    go : Dec (k < n) → getD (map (λ i. beOf (part (at + w * i) w bs)) (below n)) k 0 < 256 ^ w
+    go (yes l) = subst (λ (x : ℕ). x < 256 ^ w) (sym (getD-map-below (λ (i : ℕ). beOf (part (at + w * i) w bs)) n k 0 l)) (part-low w (at + w * k) bs h)
+    go (no l) =
+        let e : length (map (λ i. beOf (part (at + w * i) w bs)) (below n)) ≤ k = simp (length-map, length-below) (omega arith) in
+        subst (λ (x : ℕ). x < 256 ^ w) (sym (List·getD-eq-default (map (λ i. beOf (part (at + w * i) w bs)) (below n)) 0 {n = k} e))
+        (one-le-pow w 256 (lit< {m = 0} {n = 256} tt))
+
+-- ---- sections one after the other
+
+-- each section has as many numbers as its count
+abbrev Counted : List Section → List (List ℕ) → Type 0
+Counted [] nss = Unit {0}
+Counted (s ∷ ss) [] = ⊥
+Counted (s ∷ ss) (ns ∷ nss) = (length ns ≡ s .count) × Counted ss nss
+
+-- each number fits the width of its section
+abbrev Fitting : List Section → List (List ℕ) → Type 0
+Fitting [] nss = Unit {0}
+Fitting (s ∷ ss) [] = ⊥
+Fitting (s ∷ ss) (ns ∷ nss) = ((k : ℕ) → k < length ns → getD ns k 0 < 256 ^ s .width) × Fitting ss nss
+
+-- their bytes
+abbrev sectionsBytes : List Section → List (List ℕ) → List ℕ
+sectionsBytes ss nss = flat (λ (bs : List ℕ). bs) (zipped sectionBytes ss nss)
+
+length-section : (s : Section) (ns : List ℕ) → length ns ≡ s .count → length (sectionBytes s ns) ≡ sectionLen s
+unfolding sectionBytes sectionLen
+length-section s ns e = length-numbers (s .width) ns ∙ ap (λ (x : ℕ). s .width * x) e
+
+length-sections : (ss : List Section) (nss : List (List ℕ)) → Counted ss nss → length (sectionsBytes ss nss) ≡ total (map sectionLen ss)
+unfolding flat zipped total
+length-sections [] nss h = refl
+length-sections (s ∷ ss) [] h = absurd h
+length-sections (s ∷ ss) (ns ∷ nss) h =
+    length-append (sectionBytes s ns) (sectionsBytes ss nss) ∙ ap₂ _+_ (length-section s ns (h .0)) (length-sections ss nss (h .1))
+
+sections-back : (ss : List Section) (nss : List (List ℕ)) (k : ℕ) → k < length ss → Counted ss nss → Fitting ss nss
+    → numbersAt (getD ss k (section 0 0) .width) (getD ss k (section 0 0) .count) (total (map sectionLen (take k ss))) (sectionsBytes ss nss) ≡ getD nss k []
+unfolding flat zipped total sectionBytes
+sections-back [] nss k h f g = absurd (let q : ⊥ = omega arith in q)
+sections-back (s ∷ ss) [] k h f g = absurd f
+sections-back (s ∷ ss) (ns ∷ nss) zero h f g = numbers-back (s .width) (s .count) ns (sectionsBytes ss nss) (f .0) (g .0)
+sections-back (s ∷ ss) (ns ∷ nss) (suc k) h f g =
+    let d : Section = getD ss k (section 0 0) in
+    let t : ℕ = total (map sectionLen (take k ss)) in
+    ap (λ (x : ℕ). numbersAt (d .width) (d .count) (x + t) (flat (toBe (s .width)) ns ++ sectionsBytes ss nss)) (sym (length-section s ns (f .0)))
+    ∙ numbers-behind (d .width) (d .count) t (flat (toBe (s .width)) ns) (sectionsBytes ss nss) ∙ sections-back ss nss k (omega arith) (f .1) (g .1)
+
+bytes-section : (s : Section) (ns : List ℕ) → Bytes (sectionBytes s ns)
+unfolding sectionBytes flat
+bytes-section s [] = bytes-nil
+bytes-section s (n ∷ ns) = bytes-append (toBe (s .width) n) (flat (toBe (s .width)) ns) (bytes-toBe (s .width) n) (bytes-section s ns)
+
+bytes-sections : (ss : List Section) (nss : List (List ℕ)) → Bytes (sectionsBytes ss nss)
+unfolding flat zipped
+bytes-sections [] nss = bytes-nil
+bytes-sections (s ∷ ss) [] = bytes-nil
+bytes-sections (s ∷ ss) (ns ∷ nss) = bytes-append (sectionBytes s ns) (sectionsBytes ss nss) (bytes-section s ns) (bytes-sections ss nss)
+
+-- ---- the state
+
+-- n numbers below m
+abbrev pub Fill : ℕ → ℕ → List ℕ → Type 0
+Fill n m l = (length l ≡ n) × ((k : ℕ) → getD l k 0 < m)
+
+-- each number of the state fits the width of its section, each list has its length
+pub record Fits (st : State) : Type 0 where
+  pub live-fits : st .live < 256 ^ 1
+  pub missing-fits : st .missing < 256 ^ 1
+  pub stamp-fits : st .stamp .0 < 256 ^ 8
+  pub serial-fits : st .serial .0 < 256 ^ 8
+  pub opened-fits : st .opened < 256 ^ 4
+  pub next-fits : st .next < 256 ^ 4
+  pub numbers-fit : Fill 8 (256 ^ 4) (st .numbers)
+  pub filled-fit : Fill 8 (256 ^ 1) (st .filled)
+  pub writes-fit : Fill 8 (256 ^ 1) (st .writes)
+  pub landed-fit : Fill 8 (256 ^ 1) (st .landed)
+  pub addresses-fit : Fill 64 (256 ^ 8) (st .addresses)
+  pub stamps-fit : Fill 64 (256 ^ 8) (st .stamps)
+  pub offsets-fit : Fill 64 (256 ^ 4) (st .offsets)
+
+-- what is decoded from bytes fits
+pub fits-stateOf : (bs : List ℕ) → Bytes bs → Fits (stateOf bs)
+unfolding stateOf numberOf sectionOf stateSections
+fits-stateOf bs h = record {
+  live-fits = numbers-low 1 1 (sectionAt 0) bs h 0;
+  missing-fits = numbers-low 1 1 (sectionAt 1) bs h 0;
+  stamp-fits = numbers-low 8 1 (sectionAt 2) bs h 0;
+  serial-fits = numbers-low 8 1 (sectionAt 3) bs h 0;
+  opened-fits = numbers-low 4 1 (sectionAt 4) bs h 0;
+  next-fits = numbers-low 4 1 (sectionAt 5) bs h 0;
+  numbers-fit = (length-numbersAt 4 8 (sectionAt 6) bs, numbers-low 4 8 (sectionAt 6) bs h);
+  filled-fit = (length-numbersAt 1 8 (sectionAt 7) bs, numbers-low 1 8 (sectionAt 7) bs h);
+  writes-fit = (length-numbersAt 1 8 (sectionAt 8) bs, numbers-low 1 8 (sectionAt 8) bs h);
+  landed-fit = (length-numbersAt 1 8 (sectionAt 9) bs, numbers-low 1 8 (sectionAt 9) bs h);
+  addresses-fit = (length-numbersAt 8 64 (sectionAt 10) bs, numbers-low 8 64 (sectionAt 10) bs h);
+  stamps-fit = (length-numbersAt 8 64 (sectionAt 11) bs, numbers-low 8 64 (sectionAt 11) bs h);
+  offsets-fit = (length-numbersAt 4 64 (sectionAt 12) bs, numbers-low 4 64 (sectionAt 12) bs h);
+}
+
+-- what is encoded is bytes
+pub bytes-stateBytes : (st : State) → Bytes (stateBytes st)
+unfolding stateBytes
+bytes-stateBytes st = bytes-sections stateSections (stateNumbers st)
+
+module _ (st : State) (f : Fits st) where
+  counted : Counted stateSections (stateNumbers st)
+  unfolding stateSections stateNumbers
+  counted = (
+    refl,
+    (
+      refl,
+      (
+        refl,
+        (
+          refl,
+          (
+            refl,
+            (
+              refl,
+              (
+                f .numbers-fit .0,
+                (
+                  f .filled-fit .0,
+                  (
+                    f .writes-fit .0,
+                    (
+                      f .landed-fit .0,
+                      (f .addresses-fit .0, (f .stamps-fit .0, (f .offsets-fit .0, tt))),
+                    ),
+                  ),
+                ),
+              ),
+            ),
+          ),
+        ),
+      ),
+    ),
+  )
+
+  one : (m n k : ℕ) → n < m → k < 1 → getD (n ∷ []) k 0 < m
+  one m n zero h l = h
+  one m n (suc k) h l = absurd (let q : ⊥ = omega arith in q)
+
+  fitting : Fitting stateSections (stateNumbers st)
+  unfolding stateSections stateNumbers
+  fitting = (
+    λ k l. one (256 ^ 1) (st .live) k (f .live-fits) l,
+    (
+      λ k l. one (256 ^ 1) (st .missing) k (f .missing-fits) l,
+      (
+        λ k l. one (256 ^ 8) (st .stamp .0) k (f .stamp-fits) l,
+        (
+          λ k l. one (256 ^ 8) (st .serial .0) k (f .serial-fits) l,
+          (
+            λ k l. one (256 ^ 4) (st .opened) k (f .opened-fits) l,
+            (
+              λ k l. one (256 ^ 4) (st .next) k (f .next-fits) l,
+              (
+                λ k l. f .numbers-fit .1 k,
+                (
+                  λ k l. f .filled-fit .1 k,
+                  (
+                    λ k l. f .writes-fit .1 k,
+                    (
+                      λ k l. f .landed-fit .1 k,
+                      (λ k l. f .addresses-fit .1 k, (λ k l. f .stamps-fit .1 k, (λ k l. f .offsets-fit .1 k, tt))),
+                    ),
+                  ),
+                ),
+              ),
+            ),
+          ),
+        ),
+      ),
+    ),
+  )
+
+  -- a state that fits has its bytes
+  pub length-stateBytes : length (stateBytes st) ≡ stateLen
+  unfolding stateBytes stateLen
+  length-stateBytes = length-sections stateSections (stateNumbers st) counted
+
+  -- 01, The array: a state in bytes says that state
+  pub stateOf-stateBytes : stateOf (stateBytes st) ≡ st
+  unfolding stateOf numberOf sectionOf sectionAt stateBytes stateSections stateNumbers
+  stateOf-stateBytes =
+      let back : (k : ℕ) → k < 13 → sectionOf (stateBytes st) k ≡ getD (stateNumbers st) k [] = λ k h. sections-back stateSections (stateNumbers st) k h counted fitting in
+      let one : (k : ℕ) → k < 13 → numberOf (stateBytes st) k ≡ getD (getD (stateNumbers st) k []) 0 0 = λ k h. ap (λ (l : List ℕ). getD l 0 0) (back k h) in
+      λ j.
+      mkState (one 0 (lit< tt) j) (one 1 (lit< tt) j) (one 2 (lit< tt) j) (one 3 (lit< tt) j) (one 4 (lit< tt) j) (one 5 (lit< tt) j)
+      (back 6 (lit< tt) j) (back 7 (lit< tt) j) (back 8 (lit< tt) j) (back 9 (lit< tt) j) (back 10 (lit< tt) j) (back 11 (lit< tt) j) (back 12 (lit< tt) j)
+
+-- 01, Store count: zeros are the state that a cut leaves
+pub stateOf-zeros : stateOf (replicate stateLen 0) ≡ zeroState
+unfolding stateOf numberOf sectionOf sectionAt sectionLen stateSections total numbersAt below upFrom part beOf beFrom zeroState idleState stateLen
+stateOf-zeros = refl

@@ -1,0 +1,301 @@
+-- What each call stores, keeps in flight and fills is bytes: headers, records and footers as they are laid out, data from the image or the
+-- in-flight buffer, parity as the exclusive or of bytes. Assumes nothing.
+use mathlib.Core.Path.{_≡_, refl, sym, ap, _∙_, subst}
+use mathlib.Core.List.{List, [], _∷_, _++_, map}
+use mathlib.Core.Bool.{Bool, true, false, cond, not}
+use Prim.Native.Nat.{ℕ, zero, suc, _+_, _-_, _<_}
+use lib.Dec.{eqb}
+use lib.ListN.{getD, take, drop, replicate}
+use Rattle.defs.specs.declared.Params.{Params}
+use Rattle.defs.specs.declared.State.{State}
+use Rattle.defs.specs.declared.Answer.{Answer}
+use Rattle.defs.specs.declared.Answer.the-variants.{Rebuilt}
+use Rattle.defs.specs.Bytes.{parity}
+use Rattle.defs.specs.Calls.{Plan, mkPlan}
+use Rattle.defs.specs.Closing.{padded, closePlan}
+use Rattle.defs.specs.Counts.{paddingAddress}
+use Rattle.defs.specs.Drives.{Chunk, noChunk, Zone, noZone, View, zoneAt, chunkAt, Store, storeView, zoneOn, sparesOf, footersOf, zeroSpare, headerStores, footerStores, resetStores, emptyZones}
+use Rattle.defs.specs.Drives.Store.{put, reset}
+use Rattle.defs.specs.Faults.{footersStored}
+use Rattle.defs.specs.Landing.{slotOf, seals, flightRec, sealStores, landStore, landPlan}
+use Rattle.defs.specs.Layout.{headerBlock, recordBytes, footerBlock, mkRec, dataPosition, isData, dataDrives}
+use Rattle.defs.specs.Lists.{upFrom, below, flat, firstOr, isIn, isNil, keep, Opt}
+use Rattle.defs.specs.Memory.{Memory, stripeIn, filledIn, openSegment, fillingSlot, isFull, shownAt, addEntry, slotByte, slotBlock, setSlotBlock, setSlotParity}
+use Rattle.defs.specs.Params.{dataCount, drivesOf, footers, named, present, placeBlock, placeZone, placeDrive}
+use Rattle.defs.specs.Parity.{Piece, mkPiece, parityPiece}
+use Rattle.defs.specs.Read.{Found, storedAt, decodedAt, readPiece}
+use Rattle.defs.specs.Read.Found.{nowhere, here, away}
+use Rattle.defs.specs.Rebuild.{rebuiltZone, rebuildStores}
+use Rattle.defs.specs.Reclaim.{Victim, victimSegment, victimLive, resetPlan, copyPlan}
+use Rattle.defs.specs.Restart.{freeZones, isWhole, isRagged, missingFooters, renumbered, movedPieces, movedOn, movedStripe, movedStripes, rewriteStores, dropStores, mendStores, restartStores, restartMemory, restartPlan}
+use Rattle.defs.specs.Segments.{remaining, Segment, segmentOf, segments, counted, offsetOn, storedPiece, pieceOf, putPiece, greatestSerial, unsealed}
+use Rattle.defs.specs.Write.{placed, slotFor, opens, openedBy, begunBy, sending, writePlan}
+use Rattle.tablesay.specs.Image.{bytes-part}
+use Rattle.tablesay.specs.Laid.{bytes-nil, bytes-zeros, bytes-header, bytes-zeroSpare, bytes-record, bytes-footer, in-take, in-drop}
+use Rattle.tablesay.specs.Members.{In, map-in, getD-in, keep-in}
+use Rattle.tablesay.specs.Zones.{Bytes}
+use Rattle.proof_bytes.specs.Images.{bytes-splice, bytes-parity, get-map, ZoneBytes, ViewBytes, no-zone-bytes, StoreBytes, StoresBytes, store-view, stores-none, stores-cons, stores-append, stores-cond, stores-map, stores-flat}
+
+-- ---- headers, footers, resets
+
+headers-bytes : (p : Params) (g serial copied : ℕ) → StoresBytes (headerStores p g serial copied)
+unfolding headerStores
+headers-bytes p g serial copied = stores-map (λ d. put d (zoneOn g d) (headerBlock p d (zoneOn g d) serial copied) zeroSpare) (drivesOf p)
+    (λ d m. (bytes-header p d (zoneOn g d) serial copied, bytes-zeroSpare))
+
+resets-bytes : (p : Params) (g : ℕ) → StoresBytes (resetStores p g)
+unfolding resetStores
+resets-bytes p g = stores-map (λ d. reset d (zoneOn g d)) (drivesOf p) (λ d m. tt)
+
+spares-bytes : (p : Params) (q : Zone) → ZoneBytes q → (s : List ℕ) → In s (sparesOf (take (p .S) (drop 1 (q .blocks)))) → Bytes s
+unfolding sparesOf
+spares-bytes p q h s m =
+    let (c, i, e) = map-in (λ (c : Chunk). c .spare) (take (p .S) (drop 1 (q .blocks))) s m in
+    let (k, l, f) = getD-in (q .blocks) noChunk c (in-drop 1 (q .blocks) c (in-take (p .S) (drop 1 (q .blocks)) c i)) in
+    subst Bytes (sym (e ∙ ap (λ (c : Chunk). c .spare) f)) (h k .1)
+
+footers-bytes : (p : Params) (d z : ℕ) (q : Zone) (i n : ℕ) → ZoneBytes q → StoresBytes (footerStores p d z q i n)
+unfolding footerStores footersOf
+footers-bytes p d z q i n h =
+    let ss = sparesOf (take (p .S) (drop 1 (q .blocks))) in
+    stores-map (λ (b : List ℕ). put d z b zeroSpare) (map (footerBlock p ss) (upFrom i n))
+    (λ b m. let (j, x, e) = map-in (footerBlock p ss) (upFrom i n) b m in (subst Bytes (sym e) (bytes-footer p ss j (spares-bytes p q h)), bytes-zeroSpare))
+
+-- ---- pieces of a segment
+
+abbrev SegBytes : Segment → Type 0
+SegBytes g = (d : ℕ) → ZoneBytes (getD (g .zonesBy) d noZone)
+
+segment-bytes : (p : Params) (v : View) (gone g : ℕ) → ViewBytes v → SegBytes (segmentOf p v gone g)
+unfolding segmentOf
+segment-bytes p v gone g h d = get-map ZoneBytes (λ e. zoneAt v e (zoneOn g e)) (drivesOf p) d noZone no-zone-bytes (λ e. h e (zoneOn g e))
+
+segments-bytes : (p : Params) (v : View) (gone : ℕ) → ViewBytes v → (g : Segment) → In g (segments p v gone) → SegBytes g
+unfolding segments
+segments-bytes p v gone h g m =
+    let (n, i, e) = map-in (segmentOf p v gone) (remaining p v gone) g m in
+    subst SegBytes (sym e) (segment-bytes p v gone n h)
+
+piece-bytes : (g : Segment) (s d : ℕ) → SegBytes g → Bytes (storedPiece g s d .block)
+unfolding storedPiece
+piece-bytes g s d h = h d (1 + offsetOn g d s) .0
+
+parity-piece : (p : Params) (s : ℕ) (qs : List Piece) → ((q : Piece) → In q qs → Bytes (q .block)) → Bytes (parityPiece p s qs .block)
+unfolding parityPiece
+parity-piece p s qs h = bytes-parity (p .B) (map (λ (q : Piece). q .block) qs)
+    (λ b m. let (q, i, e) = map-in (λ (q : Piece). q .block) qs b m in subst Bytes (sym e) (h q i))
+
+-- what is kept by a choice
+either : {A : Type 0} (P : A → Type 0) (b : Bool) (x y : A) → P x → P y → P (cond b x y)
+either P true x y h g = h
+either P false x y h g = g
+
+put-piece : (d z : ℕ) (q : Piece) → Bytes (q .block) → StoreBytes (putPiece d z q)
+unfolding putPiece
+put-piece d z q h = (h, bytes-record (q .rec))
+
+pieces-bytes : (p : Params) (gone : ℕ) (g : Segment) (s d : ℕ) → SegBytes g → Bytes (pieceOf p gone g s d .block)
+unfolding pieceOf
+pieces-bytes p gone g s d h =
+    either (λ (q : Piece). Bytes (q .block)) (isIn gone d) (parityPiece p s (map (storedPiece g s) (present p gone))) (storedPiece g s d)
+    (parity-piece p s (map (storedPiece g s) (present p gone))
+    (λ q m. let (e, i, x) = map-in (storedPiece g s) (present p gone) q m in subst (λ (y : Piece). Bytes (y .block)) (sym x) (piece-bytes g s e h)))
+    (piece-bytes g s d h)
+
+-- ---- restart
+
+module _ (p : Params) (g : Segment) (h : SegBytes g) where
+  moved-bytes : (s k d : ℕ) → Bytes (movedOn p (movedPieces p g s k) k d .block)
+  unfolding movedOn movedPieces
+  moved-bytes s k d =
+      let qs = map (λ e. renumbered k (storedPiece g s e)) (dataDrives p s) in
+      either (λ (q : Piece). Bytes (q .block)) (isData p k d) (getD qs (dataPosition p k d) (mkPiece [] (mkRec 0 0 0))) (parityPiece p k qs)
+      (get-map (λ (q : Piece). Bytes (q .block)) (λ e. renumbered k (storedPiece g s e)) (dataDrives p s) (dataPosition p k d) (mkPiece [] (mkRec 0 0 0)) bytes-nil one)
+      (parity-piece p k qs (λ q m. let (e, i, x) = map-in (λ e. renumbered k (storedPiece g s e)) (dataDrives p s) q m in subst (λ (y : Piece). Bytes (y .block)) (sym x) (one e)))
+    where
+      one : (e : ℕ) → Bytes (renumbered k (storedPiece g s e) .block)
+      one e = unfold renumbered in piece-bytes g s e h
+
+  stripes-bytes : (z : ℕ) (ss : List ℕ) (k : ℕ) → StoresBytes (movedStripes p g z ss k)
+  unfolding movedStripes movedStripe
+  stripes-bytes z [] k = stores-none
+  stripes-bytes z (s ∷ ss) k = stores-append (map (λ d. putPiece d (zoneOn z d) (movedOn p (movedPieces p g s k) k d)) (drivesOf p)) (movedStripes p g z ss (suc k))
+      (stores-map (λ d. putPiece d (zoneOn z d) (movedOn p (movedPieces p g s k) k d)) (drivesOf p)
+      (λ d m. put-piece d (zoneOn z d) (movedOn p (movedPieces p g s k) k d) (moved-bytes s k d)))
+      (stripes-bytes z ss (suc k))
+
+  rewrite-bytes : (z serial : ℕ) → StoresBytes (rewriteStores p g z serial)
+  unfolding rewriteStores
+  rewrite-bytes z serial =
+      let a = headerStores p z serial (g .serial) in
+      let b = movedStripes p g z (counted p 0 g) 0 in
+      stores-append (a ++ b) (resetStores p (g .seg)) (stores-append a b (headers-bytes p z serial (g .serial)) (stripes-bytes z (counted p 0 g) 0)) (resets-bytes p (g .seg))
+
+  missing-bytes : StoresBytes (missingFooters p g)
+  unfolding missingFooters
+  missing-bytes = stores-flat _ (drivesOf p) (λ d m. footers-bytes p d (zoneOn (g .seg) d) (getD (g .zonesBy) d noZone) _ _ (h d))
+
+  mend-bytes : (gs : List Segment) → StoresBytes (mendStores p gs g)
+  unfolding mendStores
+  mend-bytes gs =
+      stores-cond (isWhole p g) (missingFooters p g) (cond (isRagged p g) (rewriteStores p g (firstOr 0 (freeZones p gs)) (suc (greatestSerial gs))) []) missing-bytes
+      (stores-cond (isRagged p g) (rewriteStores p g (firstOr 0 (freeZones p gs)) (suc (greatestSerial gs))) [] (rewrite-bytes (firstOr 0 (freeZones p gs)) (suc (greatestSerial gs))) stores-none)
+
+pub restart-bytes : (p : Params) (gone : ℕ) (gs : List Segment) → ((g : Segment) → In g gs → SegBytes g) → StoresBytes (restartStores p gone gs)
+unfolding restartStores dropStores unsealed
+restart-bytes p gone gs h =
+    let a = flat (resetStores p) (freeZones p gs) in
+    let us = keep (λ (g : Segment). not (g .full)) gs in
+    let b = flat (mendStores p gs) us in
+    stores-cond (eqb gone 0) (a ++ b) []
+    (stores-append a b (stores-flat (resetStores p) (freeZones p gs) (λ z m. resets-bytes p z))
+    (stores-flat (mendStores p gs) us (λ g m. mend-bytes p g (h g (keep-in (λ (g : Segment). not (g .full)) gs g m .0)) gs)))
+    stores-none
+
+-- ---- rebuild
+
+rebuilt-bytes : (p : Params) (d : ℕ) (g : Segment) → SegBytes g → StoresBytes (rebuiltZone p d g)
+unfolding rebuiltZone
+rebuilt-bytes p d g h =
+    let z = zoneOn (g .seg) d in
+    let qs = map (λ s. pieceOf p (named d) g s d) (counted p (named d) g) in
+    let fs = map (λ i. put d z (footerBlock p (map (λ (q : Piece). recordBytes (q .rec)) qs) i) zeroSpare) (below (footers p)) in
+    stores-append (put d z (headerBlock p d z (g .serial) (g .copied)) zeroSpare ∷ map (putPiece d z) qs) (cond (g .full) fs [])
+    (stores-cons (put d z (headerBlock p d z (g .serial) (g .copied)) zeroSpare) (map (putPiece d z) qs) (bytes-header p d z (g .serial) (g .copied), bytes-zeroSpare)
+    (stores-map (putPiece d z) qs
+    (λ q m. let (s, i, e) = map-in (λ s. pieceOf p (named d) g s d) (counted p (named d) g) q m in
+    put-piece d z q (subst (λ (y : Piece). Bytes (y .block)) (sym e) (pieces-bytes p (named d) g s d h)))))
+    (stores-cond (g .full) fs []
+    (stores-map (λ i. put d z (footerBlock p (map (λ (q : Piece). recordBytes (q .rec)) qs) i) zeroSpare) (below (footers p))
+    (λ i m. (
+      bytes-footer p (map (λ (q : Piece). recordBytes (q .rec)) qs) i
+          (λ s x. let (q, j, e) = map-in (λ (q : Piece). recordBytes (q .rec)) qs s x in subst Bytes (sym e) (bytes-record (q .rec))),
+      bytes-zeroSpare,
+    )))
+    stores-none)
+
+rebuild-bytes : (p : Params) (d : ℕ) (gs : List Segment) → ((g : Segment) → In g gs → SegBytes g) → StoresBytes (rebuildStores p d gs)
+unfolding rebuildStores
+rebuild-bytes p d gs h = stores-append (map (λ z. reset d z) (below (p .Z))) (flat (rebuiltZone p d) gs)
+    (stores-map (λ z. reset d z) (below (p .Z)) (λ z m. tt)) (stores-flat (rebuiltZone p d) gs (λ g m. rebuilt-bytes p d g (h g m)))
+
+-- ---- landing
+
+landing-bytes : (p : Params) (v : View) (m : Memory) (d s : ℕ) → ViewBytes v → Bytes (m .inflight) → StoresBytes (landPlan p v m d s .stores)
+unfolding landPlan
+landing-bytes p v m d s h g =
+    let st = m .state in
+    let w = landStore p v m d s in
+    stores-cons w (cond (seals p st (slotOf st s) d) (sealStores p (storeView w v) (openSegment st)) []) one
+    (stores-cond (seals p st (slotOf st s) d) (sealStores p (storeView w v) (openSegment st)) [] (seal (storeView w v) (openSegment st) (store-view v w h one)) stores-none)
+  where
+    one : StoreBytes (landStore p v m d s)
+    one = unfold landStore slotBlock in (bytes-part (slotByte p (slotOf (m .state) s) d) (p .B) (m .inflight) g, bytes-record (flightRec p (m .state) (slotOf (m .state) s) d))
+
+    seal : (u : View) (z : ℕ) → ViewBytes u → StoresBytes (sealStores p u z)
+    seal u z k = unfold sealStores in stores-flat _ (drivesOf p) (λ d m. footers-bytes p d (zoneOn z d) (zoneAt u d (zoneOn z d)) 0 (footers p) (k d (zoneOn z d)))
+
+-- ---- in flight
+
+parity-set : (p : Params) (fl : List ℕ) (i s : ℕ) → Bytes fl → Bytes (setSlotParity p fl i s)
+unfolding setSlotParity setSlotBlock slotBlock
+parity-set p fl i s h = bytes-splice fl _ (parity (p .B) (map (slotBlock p fl i) (dataDrives p s))) h
+    (bytes-parity (p .B) (map (slotBlock p fl i) (dataDrives p s))
+    (λ b m. let (d, j, e) = map-in (slotBlock p fl i) (dataDrives p s) b m in subst Bytes (sym e) (bytes-part (slotByte p i d) (p .B) fl h)))
+
+placed-bytes : (p : Params) (st : State) (fl : List ℕ) (i a t w : ℕ) (b : List ℕ) → Bytes fl → Bytes b → Bytes (placed p st fl i a t w b .inflight)
+unfolding placed setSlotBlock
+placed-bytes p st fl i a t w b h g =
+    let k = bytes-splice fl _ b h g in
+    either Bytes (isFull p (addEntry st i a t w) i) _ _ (parity-set p _ i (stripeIn st i) k) k
+
+module _ (p : Params) (v : View) (st : State) (fl : List ℕ) (a t w : ℕ) (b : List ℕ) where
+  sending-inflight : Bytes fl → Bytes b → Bytes (sending p v st fl a t w b .inflight)
+  unfolding sending
+  sending-inflight h g = placed-bytes p (begunBy p st (openedBy p v st)) fl (slotFor p st) a t w b h g
+
+  sending-stores : StoresBytes (sending p v st fl a t w b .stores)
+  unfolding sending
+  sending-stores = stores-cond (opens p st) (headerStores p (firstOr 0 (emptyZones p v)) (suc (st .serial .0)) 0) [] (headers-bytes p (firstOr 0 (emptyZones p v)) (suc (st .serial .0)) 0) stores-none
+
+padded-bytes : (p : Params) (i k : ℕ) (st : State) (fl : List ℕ) → Bytes fl → Bytes (padded p i k st fl .inflight)
+unfolding padded
+padded-bytes p i zero st fl h = h
+padded-bytes p i (suc k) st fl h =
+    let q = placed p st fl i paddingAddress 0 0 (replicate (p .B) 0) in
+    padded-bytes p i k (q .state) (q .inflight) (placed-bytes p st fl i paddingAddress 0 0 (replicate (p .B) 0) h (bytes-zeros (p .B)))
+
+-- ---- what is due at each call
+
+-- what a plan stores and leaves is bytes
+pub record PlanBytes (q : Plan) : Type 0 where
+  pub stores-bytes : StoresBytes (q .stores)
+  pub inflight-bytes : Bytes (q .memory .inflight)
+  pub block-bytes : Bytes (q .block)
+
+module _ (p : Params) (v : View) (m : Memory) (h : ViewBytes v) (g : Bytes (m .inflight)) where
+  abbrev st : State
+  st = m .state
+
+  pub write-bytes : (a : ℕ) (b : List ℕ) → Bytes b → PlanBytes (writePlan p v m a b)
+  unfolding writePlan
+  write-bytes a b k =
+      let t = suc (st .stamp .0) in
+      record { stores-bytes = sending-stores p v st (m .inflight) a t 1 b; inflight-bytes = sending-inflight p v st (m .inflight) a t 1 b g k; block-bytes = k }
+
+  pub land-bytes : (d s : ℕ) → PlanBytes (landPlan p v m d s)
+  unfolding landPlan
+  land-bytes d s = record { stores-bytes = landing-bytes p v m d s h g; inflight-bytes = g; block-bytes = bytes-nil }
+
+  pub close-bytes : PlanBytes (closePlan p m)
+  unfolding closePlan
+  close-bytes = record {
+    stores-bytes = stores-none;
+    inflight-bytes = padded-bytes p (fillingSlot p st) (dataCount p - filledIn st (fillingSlot p st)) st (m .inflight) g;
+    block-bytes = bytes-nil;
+  }
+
+  reset-bytes : (z : ℕ) → PlanBytes (resetPlan p m z)
+  unfolding resetPlan
+  reset-bytes z = record { stores-bytes = resets-bytes p z; inflight-bytes = g; block-bytes = bytes-nil }
+
+  copy-bytes : (q : ℕ) → PlanBytes (copyPlan p v m q)
+  unfolding copyPlan chunkAt
+  copy-bytes q = record {
+    stores-bytes = sending-stores p v st (m .inflight) _ _ 0 _;
+    inflight-bytes = sending-inflight p v st (m .inflight) _ _ 0 _ g (h (placeDrive p q) (placeZone p q) (placeBlock p q) .0);
+    block-bytes = bytes-nil;
+  }
+
+  pub reclaim-bytes : (w : Opt Victim) (q : ℕ) → PlanBytes (cond (isNil (victimLive w)) (resetPlan p m (victimSegment w)) (copyPlan p v m q))
+  reclaim-bytes w q = either PlanBytes (isNil (victimLive w)) (resetPlan p m (victimSegment w)) (copyPlan p v m q) (reset-bytes (victimSegment w)) (copy-bytes q)
+
+  -- a read stores nothing
+  pub read-bytes : (x : Answer) (b : List ℕ) → Bytes b → PlanBytes (mkPlan [] x m b)
+  read-bytes x b k = record { stores-bytes = stores-none; inflight-bytes = g; block-bytes = k }
+
+  pub found-bytes : (gone : ℕ) (cs : List ℕ) (f : Found) → Bytes (readPiece p v gone cs f .block)
+  unfolding readPiece decodedAt storedAt chunkAt
+  found-bytes gone cs nowhere = bytes-zeros (p .B)
+  found-bytes gone cs (here q) = h (placeDrive p q) (placeZone p q) (1 + (placeBlock p q - 1)) .0
+  found-bytes gone cs (away q) =
+      let z = placeZone p q in
+      let s = placeBlock p q - 1 in
+      let f : ℕ → Piece = λ d. storedAt p v gone d z (firstOr 0 (shownAt p v cs d z s)) in
+      parity-piece p s (map f (present p gone))
+      (λ x i. let (d, j, e) = map-in f (present p gone) x i in subst (λ (y : Piece). Bytes (y .block)) (sym e) (h d z (1 + firstOr 0 (shownAt p v cs d z s)) .0))
+
+  pub restarts-bytes : (d : ℕ) → PlanBytes (restartPlan p v d (segments p v (named d)) (m .inflight))
+  unfolding restartPlan restartMemory
+  restarts-bytes d = record {
+    stores-bytes = restart-bytes p (named d) (segments p v (named d)) (segments-bytes p v (named d) h);
+    inflight-bytes = g;
+    block-bytes = bytes-nil;
+  }
+
+  pub rebuilds-bytes : (d : ℕ) → PlanBytes (mkPlan (rebuildStores p d (segments p v (named d))) Rebuilt m [])
+  rebuilds-bytes d = record {
+    stores-bytes = rebuild-bytes p d (segments p v (named d)) (segments-bytes p v (named d) h);
+    inflight-bytes = g;
+    block-bytes = bytes-nil;
+  }

@@ -1,0 +1,467 @@
+-- Demand 3 on the lent bytes, from demand 3 with the state as a value: histories on bytes, decoded, are histories on values, step by step. Assumes nothing.
+use mathlib.Core.Path.{_≡_, refl, sym, ap, ap₂, _∙_, subst}
+use mathlib.Core.List.{List, [], _∷_, append-nil}
+use mathlib.Core.Bool.{Bool, true, false, cond, not, _&&_, and-true, and-false}
+use Prim.Native.Nat.{ℕ, _*_, _<_}
+use borrow.Author.Tests.{eq-eqb, ne-eqb}
+use native.Mathlib.Decide.{ℕ-discrete}
+use lib.Dec.{ltb, eqb}
+use lib.ListN.{length, replicate, length-replicate}
+use Rattle.defs.specs.declared.Params.{Params}
+use Rattle.defs.specs.declared.State.{State}
+use Rattle.defs.specs.declared.Answer.{Answer}
+use Rattle.defs.specs.Answers.{kind, isRefused, isRefusedAs, isCut, finished}
+use Rattle.defs.specs.Bytes.{splice}
+use Rattle.defs.specs.Calls.{After}
+use Rattle.defs.specs.Demands.{areBytes, ReadOk, SameAs, RestartOk, ClaimOf, Allowed, Claims}
+use Rattle.defs.specs.Drives.{Disk, mkDisk, pointerByte}
+use Rattle.defs.specs.Engine.{Call, lentBlock, lentOk, callDisk, Lent, Left, lentDisk, lentMemory, callBytes}
+use Rattle.defs.specs.Engine.Call.{read, fill, restart}
+use Rattle.defs.specs.History.{World, mkWorld, Event, callOf, restartOf, inOrder, swapped, before, happens, onlyIf, orderly, restartIn, worldAfter, Send, endsRun, sentAfter, untrustedAfter, Mark, Hist, marked, step, emptyDisk, began, namesAll, allowed, Seen, seenFilled, seenAt}
+use Rattle.defs.specs.History.Event.{calls as calls′, boots as boots′}
+use Rattle.defs.specs.History.Seen.{unwritten, got, failed}
+use Rattle.defs.specs.Lists.{Opt, consIf}
+use Rattle.defs.specs.Lists.Opt.{none, some}
+use Rattle.defs.specs.Memory.{Memory, mkMemory, zeroState, stateLen, stateOf}
+use Rattle.defs.specs.Params.{inRange, driveLen, addressesLen, compactLen, inflightLen, named}
+use Rattle.defs.specs.Restart.{namesDrive}
+use Rattle.laws.specs.Ranges.{Test, test, and-left, and-right, and-both}
+use Rattle.laws.specs.Ranges.Test.{yes!, no! }
+use Rattle.demand3.specs.Demand.{demand-3}
+use Rattle.hosts.specs.Shorts.{shortAnswer, short-refused}
+use Rattle.runs.specs.Join.{sent-refused}
+use Rattle.spec_demands.specs.Engines.{onBytes, callLent, readsAs}
+use Rattle.spec_demands.specs.Histories.{LentEvent, lentCall, withDisk, lentInOrder, lentBefore, lentHappens, lentOrderly, lentRestart, lentAfter, LentMark, LentHist, lentMarked, lentStep, lentBegan, lentBytes, eventBytes, lentAllowed, LentAllowed, LentSame, LentRestartOk, LentClaim, LentClaims, Demand3}
+use Rattle.spec_demands.specs.Histories.LentEvent.{calls, boots}
+use Rattle.tablesay.specs.Image.{bytes-of}
+use Rattle.tablesay.specs.Laid.{bytes-nil, bytes-zeros}
+use Rattle.tablesay.specs.Outcomes.{refused-unfinished}
+use Rattle.tablesay.specs.Tests.{cond-true, cond-false}
+use Rattle.tablesay.specs.Zones.{Bytes}
+use Rattle.proof_bytes.specs.Sections.{Fits, stateOf-zeros}
+use Rattle.proof_bytes.specs.Images.{bytes-splice}
+use Rattle.proof_bytes.specs.Kept.{LentBytes, call-fits, call-bytes, decoded, simulates, state-long}
+use Rattle.proof_bytes.specs.Two.{worldOf, short-answer}
+
+-- ---- lent bytes of their length
+
+pub record Good (l : Lent) : Type 0 where
+  pub bytes : LentBytes l
+  pub long : length (l .state) ≡ stateLen
+
+module _ (p : Params) (l : Lent) (g : Good l) (c : Call) (b : Bytes (lentBlock c)) where
+  good-fits : Fits (callDisk p (lentDisk l) (lentMemory l) c .memory .state)
+  good-fits = call-fits p l c (g .bytes) b
+
+  good-same : decoded (callBytes p l c) ≡ callDisk p (lentDisk l) (lentMemory l) c
+  good-same = simulates p l c (g .long) good-fits
+
+  good-on : Good (callBytes p l c .lent)
+  good-on = record { bytes = call-bytes p l c (g .bytes) b .0; long = state-long p l c (g .long) good-fits }
+
+reads-same : (p : Params) (l : Lent) → Good l → (a : ℕ) → readsAs onBytes p l a ≡ seenAt p (worldOf l) a
+unfolding readsAs callLent seenAt seenFilled
+reads-same p l g a =
+    ap₂ (λ (r s : After Disk). cond (eqb (kind (s .answer)) 9) unwritten (cond (eqb (kind (r .answer)) 11) (got (r .block)) failed))
+    (good-same p l g (fill a (replicate (p .B) 0)) fill!) (good-same p l g (read a) read!)
+  where
+    fill! : Bytes (lentBlock (fill a (replicate (p .B) 0)))
+    fill! = unfold lentBlock in bytes-zeros (p .B)
+
+    read! : Bytes (lentBlock (read a))
+    read! = unfold lentBlock in bytes-nil
+
+-- ---- events
+
+-- a restart whose state has another length is refused and leaves all as it was: on values nothing happens
+unfoldable pub eventsOf : List LentEvent → List Event
+eventsOf [] = []
+eventsOf (calls c ∷ es) = calls′ c ∷ eventsOf es
+eventsOf (boots d n u im ps ∷ es) = consIf (eqb (length (u .state)) stateLen) (boots′ d n (lentMemory u) im ps) (eventsOf es)
+
+-- an event on bytes, and the same on values
+pub data Same : LentEvent → Event → Type 0 where
+  same-calls : (c : Call) → Same (calls c) (calls′ c)
+  same-boots : (d n : ℕ) (u : Lent) (im ps : List ℕ) → length (u .state) ≡ stateLen → Same (boots d n u im ps) (boots′ d n (lentMemory u) im ps)
+
+with-disk : (u : Lent) (k : Disk) → worldOf (withDisk u k) ≡ mkWorld k (lentMemory u)
+unfolding withDisk lentDisk lentMemory
+with-disk u k = refl
+
+order-same : (p : Params) (l : Lent) (d : ℕ) → length (l .state) ≡ stateLen → lentInOrder p l d ≡ inOrder p (worldOf l) d
+unfolding lentInOrder inOrder
+order-same p l d e =
+    ap (λ (b : Bool). inRange p && namesDrive p d && lentOk p (lentDisk l) (lentMemory l) && b) (eq-eqb (length (l .state)) stateLen e)
+    ∙ and-true (inRange p && namesDrive p d && lentOk p (lentDisk l) (lentMemory l))
+
+order-short : (p : Params) (l : Lent) (d : ℕ) → (length (l .state) ≡ stateLen → ⊥) → lentInOrder p l d ≡ false
+unfolding lentInOrder
+order-short p l d e =
+    ap (λ (b : Bool). inRange p && namesDrive p d && lentOk p (lentDisk l) (lentMemory l) && b) (ne-eqb (length (l .state)) stateLen e)
+    ∙ and-false (inRange p && namesDrive p d && lentOk p (lentDisk l) (lentMemory l))
+
+with-state : (u : Lent) (k : Disk) → withDisk u k .state ≡ u .state
+unfolding withDisk
+with-state u k = refl
+
+module _ (p : Params) (l : Lent) (d n : ℕ) (u : Lent) (im ps : List ℕ) where
+  abbrev k : Disk
+  k = lentDisk l
+
+  with-long : (k : Disk) → length (u .state) ≡ stateLen → length (withDisk u k .state) ≡ stateLen
+  with-long k e = ap length (with-state u k) ∙ e
+
+  boot-order : length (u .state) ≡ stateLen → lentInOrder p (withDisk u k) d ≡ inOrder p (mkWorld k (lentMemory u)) d
+  boot-order e = order-same p (withDisk u k) d (with-long k e) ∙ ap (λ (w : World). inOrder p w d) (with-disk u k)
+
+  boot-before : length (u .state) ≡ stateLen → worldOf (lentBefore p l (boots d n u im ps)) ≡ before p (worldOf l) (boots′ d n (lentMemory u) im ps)
+  unfolding lentBefore before
+  boot-before e = go (lentInOrder p (withDisk u k) d) ∙ ap (λ (b : Bool). cond b (mkWorld (swapped p k d im ps) (lentMemory u)) (mkWorld k (lentMemory u))) (boot-order e)
+    where
+      go : (b : Bool) → worldOf (cond b (withDisk u (swapped p k d im ps)) (withDisk u k)) ≡ cond b (mkWorld (swapped p k d im ps) (lentMemory u)) (mkWorld k (lentMemory u))
+      go true = with-disk u (swapped p k d im ps)
+      go false = with-disk u k
+
+  boot-after : length (u .state) ≡ stateLen → (r : Left) → worldOf (lentAfter p l (boots d n u im ps) r) ≡ worldAfter p (worldOf l) (boots′ d n (lentMemory u) im ps) (decoded r)
+  unfolding lentAfter worldAfter
+  boot-after e r = go (lentInOrder p (withDisk u k) d) ∙ ap (λ (b : Bool). cond b (worldOf (r .lent)) (worldOf l)) (boot-order e)
+    where
+      go : (b : Bool) → worldOf (cond b (r .lent) l) ≡ cond b (worldOf (r .lent)) (worldOf l)
+      go true = refl
+      go false = refl
+
+swapped-bytes : (p : Params) (k : Disk) (d : ℕ) (im ps : List ℕ) → Bytes (k .image) → Bytes im → Bytes (swapped p k d im ps .image)
+unfolding swapped
+swapped-bytes p k d im ps h g = go (ltb d (p .N) && eqb (length im) (driveLen p) && eqb (length ps) (4 * p .Z))
+  where
+    go : (b : Bool) → Bytes (cond b (mkDisk (splice (k .image) (d * driveLen p) im) (splice (k .pointers) (pointerByte p d 0) ps)) k .image)
+    go true = bytes-splice (k .image) (d * driveLen p) im h g
+    go false = h
+
+-- what an event brings
+boot-bytes : (d n : ℕ) (u : Lent) (im ps : List ℕ) → eventBytes (boots d n u im ps) ≡ true → Bytes (u .inflight) × Bytes (u .state) × Bytes im
+unfolding eventBytes lentBytes
+boot-bytes d n u im ps q =
+    let a = areBytes (u .image) && areBytes (u .pointers) && areBytes (u .addresses) && areBytes (u .compact) in
+    let b = areBytes (u .inflight) in
+    let c = areBytes (u .state) in
+    let e = and-left (a && b && c && areBytes im) (areBytes ps) q in
+    let f = and-left (a && b && c) (areBytes im) e in
+    let g = and-left (a && b) c f in
+    (bytes-of (u .inflight) (and-right a b g), bytes-of (u .state) (and-right (a && b) c f), bytes-of im (and-right (a && b && c) (areBytes im) e))
+
+good-with : (u : Lent) (k : Disk) → length (u .state) ≡ stateLen → Bytes (k .image) → Bytes (u .inflight) → Bytes (u .state) → Good (withDisk u k)
+unfolding withDisk
+good-with u k e h f s = record { bytes = record { image-bytes = h; inflight-bytes = f; state-bytes = s }; long = e }
+
+-- ---- one event
+
+module _ (p : Params) (l : Lent) (g : Good l) where
+  good-before : (e : LentEvent) (e′ : Event) → Same e e′ → eventBytes e ≡ true → Good (lentBefore p l e)
+  unfolding lentBefore
+  good-before (calls c) _ (same-calls _) q = g
+  good-before (boots d n u im ps) _ (same-boots _ _ _ _ _ x) q = go (lentInOrder p (withDisk u (lentDisk l)) d) (boot-bytes d n u im ps q)
+    where
+      im! : Bytes (lentDisk l .image)
+      im! = unfold lentDisk in g .bytes .image-bytes
+
+      go : (b : Bool) → Bytes (u .inflight) × Bytes (u .state) × Bytes im → Good (cond b (withDisk u (swapped p (lentDisk l) d im ps)) (withDisk u (lentDisk l)))
+      go true (f, s, i) = good-with u (swapped p (lentDisk l) d im ps) x (swapped-bytes p (lentDisk l) d im ps im! i) f s
+      go false (f, s, i) = good-with u (lentDisk l) x im! f s
+
+  before-same : (e : LentEvent) (e′ : Event) → Same e e′ → worldOf (lentBefore p l e) ≡ before p (worldOf l) e′
+  before-same (calls c) _ (same-calls _) = unfold lentBefore before in refl
+  before-same (boots d n u im ps) _ (same-boots _ _ _ _ _ x) = boot-before p l d n u im ps x
+
+  call-same : (e : LentEvent) (e′ : Event) → Same e e′ → lentCall e ≡ callOf e′
+  unfolding lentCall callOf
+  call-same (calls c) _ (same-calls _) = refl
+  call-same (boots d n u im ps) _ (same-boots _ _ _ _ _ x) = refl
+
+  after-same : (e : LentEvent) (e′ : Event) → Same e e′ → (r : Left) → worldOf (lentAfter p l e r) ≡ worldAfter p (worldOf l) e′ (decoded r)
+  after-same (calls c) _ (same-calls _) r = unfold lentAfter worldAfter in refl
+  after-same (boots d n u im ps) _ (same-boots _ _ _ _ _ x) r = boot-after p l d n u im ps x r
+
+  block-bytes : (e : LentEvent) → eventBytes e ≡ true → Bytes (lentBlock (lentCall e))
+  unfolding eventBytes lentCall
+  block-bytes (calls c) q = bytes-of (lentBlock c) q
+  block-bytes (boots d n u im ps) q = unfold lentBlock in bytes-nil
+
+  module _ (e : LentEvent) (e′ : Event) (s : Same e e′) (q : eventBytes e ≡ true) where
+    happens-same : decoded (lentHappens p l e) ≡ happens p (worldOf l) e′
+    unfolding lentHappens happens
+    happens-same = good-same p (lentBefore p l e) (good-before e e′ s q) (lentCall e) (block-bytes e q)
+        ∙ ap₂ (λ (w : World) (c : Call). callDisk p (w .disk) (w .memory) c) (before-same e e′ s) (call-same e e′ s)
+
+    restart-same : lentRestart p l e ≡ restartIn p (worldOf l) e′
+    unfolding lentRestart restartIn
+    restart-same = go (restartOf (lentCall e)) ∙ ap₂ (λ (w : World) (c : Call). orderly p w (restartOf c)) (before-same e e′ s) (call-same e e′ s)
+      where
+        go : (o : Opt ℕ) → lentOrderly p (lentBefore p l e) o ≡ orderly p (worldOf (lentBefore p l e)) o
+        go none = unfold lentOrderly orderly in refl
+        go (some d) = unfold lentOrderly orderly in ap (λ (b : Bool). onlyIf b (some d)) (order-same p (lentBefore p l e) d (good-before e e′ s q .long))
+
+    good-after : Good (lentAfter p l e (lentHappens p l e))
+    good-after = go e (good-on p (lentBefore p l e) (good-before e e′ s q) (lentCall e) (block-bytes e q))
+      where
+        as! : (e : LentEvent) → Good (callBytes p (lentBefore p l e) (lentCall e) .lent) → Good (lentHappens p l e .lent)
+        as! e x = unfold lentHappens in x
+
+        either : (b : Bool) (x y : Lent) → Good x → Good y → Good (cond b x y)
+        either true x y h k = h
+        either false x y h k = k
+
+        go : (e : LentEvent) → Good (callBytes p (lentBefore p l e) (lentCall e) .lent) → Good (lentAfter p l e (lentHappens p l e))
+        go (calls c) x = unfold lentAfter in as! (calls c) x
+        go (boots d n u im ps) x = unfold lentAfter in
+            either (lentInOrder p (withDisk u (lentDisk l)) d) (lentHappens p l (boots d n u im ps) .lent) l (as! (boots d n u im ps) x) g
+
+-- ---- histories
+
+unfoldable pub markOf : Opt LentMark → Opt Mark
+markOf none = none
+markOf (some k) = some (record { world = worldOf (k .lent); sentThen = k .sentThen })
+
+-- a history on bytes, decoded
+abbrev pub histOf : LentHist → Hist
+histOf h = record { world = worldOf (h .lent); sends = h .sends; untrusted = h .untrusted; mark = markOf (h .mark) }
+
+abbrev MarkGood : Opt LentMark → Type 0
+MarkGood none = Unit {0}
+MarkGood (some k) = Good (k .lent)
+
+-- what a history remembers are lent bytes of their length
+pub record HistGood (h : LentHist) : Type 0 where
+  pub now-good : Good (h .lent)
+  pub mark-good : MarkGood (h .mark)
+
+module _ (p : Params) (h : LentHist) (g : HistGood h) (e : LentEvent) (e′ : Event) (s : Same e e′) (q : eventBytes e ≡ true) where
+  abbrev l : Lent
+  l = h .lent
+
+  answer-same : lentHappens p l e .answer ≡ happens p (worldOf l) e′ .answer
+  answer-same = ap (λ (r : After Disk). r .answer) (happens-same p l (g .now-good) e e′ s q)
+
+  mark-same : (b : Bool) (x : Lent) (n : ℕ) (o : Opt LentMark) → markOf (lentMarked b x n o) ≡ marked b (worldOf x) n (markOf o)
+  unfolding markOf lentMarked marked
+  mark-same true x n o = refl
+  mark-same false x n o = refl
+
+  left : Call → World → Answer → Hist
+  left c w a =
+      let ss = sentAfter c a (h .sends) in
+      record { world = w; sends = ss; untrusted = untrustedAfter c a (h .untrusted); mark = marked (finished a) w (length ss) (markOf (h .mark)) }
+
+  step-same : histOf (lentStep p h e) ≡ step p (histOf h) e′
+  unfolding lentStep step left
+  step-same =
+      let r = lentHappens p l e in
+      let x = lentAfter p l e r in
+      let ss = sentAfter (lentCall e) (r .answer) (h .sends) in
+      ap (λ (o : Opt Mark). record { world = worldOf x; sends = ss; untrusted = untrustedAfter (lentCall e) (r .answer) (h .untrusted); mark = o }) (mark-same (finished (r .answer)) x (length ss) (h .mark))
+      ∙ ap₂ (left (lentCall e)) (after-same p l (g .now-good) e e′ s r ∙ ap (worldAfter p (worldOf l) e′) (happens-same p l (g .now-good) e e′ s q)) answer-same
+      ∙ ap (λ (c : Call). left c (worldAfter p (worldOf l) e′ (happens p (worldOf l) e′)) (happens p (worldOf l) e′ .answer)) (call-same p l (g .now-good) e e′ s)
+
+  step-good : HistGood (lentStep p h e)
+  unfolding lentStep
+  step-good = record { now-good = x; mark-good = go (finished (lentHappens p l e .answer)) (length (sentAfter (lentCall e) (lentHappens p l e .answer) (h .sends))) }
+    where
+      x : Good (lentAfter p l e (lentHappens p l e))
+      x = good-after p l (g .now-good) e e′ s q
+
+      go : (b : Bool) (n : ℕ) → MarkGood (lentMarked b (lentAfter p l e (lentHappens p l e)) n (h .mark))
+      go true n = unfold lentMarked in x
+      go false n = unfold lentMarked in g .mark-good
+
+  allowed-same : lentAllowed p h e ≡ true → allowed p (histOf h) e′ ≡ true
+  unfolding lentAllowed allowed
+  allowed-same t =
+      let a = not (isRefusedAs 6 (lentHappens p l e .answer)) in
+      let b = namesAll (h .untrusted) (lentRestart p l e) in
+      let u = and-left (eventBytes e && a) b t in
+      and-both (not (isRefusedAs 6 (happens p (worldOf l) e′ .answer))) (namesAll (h .untrusted) (restartIn p (worldOf l) e′))
+      (ap (λ (x : Answer). not (isRefusedAs 6 x)) (sym answer-same) ∙ and-right (eventBytes e) a u)
+      (ap (namesAll (h .untrusted)) (sym (restart-same p l (g .now-good) e e′ s q)) ∙ and-right (eventBytes e && a) b t)
+
+  same-lift : (h′ : LentHist) → HistGood h′ → SameAs p (markOf (h .mark)) (histOf h′) → LentSame p (h .mark) h′
+  same-lift h′ k = go (h .mark) (g .mark-good)
+    where
+      go : (o : Opt LentMark) → MarkGood o → SameAs p (markOf o) (histOf h′) → LentSame p o h′
+      go none m x = tt
+      go (some o) m x = λ n a b. reads-same p (h′ .lent) (k .now-good) a ∙ as! x n a b ∙ sym (reads-same p (o .lent) m a)
+        where
+          as! : SameAs p (markOf (some o)) (histOf h′) → length (h′ .sends) ≡ o .sentThen → (a : ℕ) → a < p .L → seenAt p (worldOf (h′ .lent)) a ≡ seenAt p (worldOf (o .lent)) a
+          as! x = unfold markOf in x
+
+  claim-same : ClaimOf p (histOf h) e′ (restartIn p (worldOf l) e′) → LentClaim p h e (lentRestart p l e)
+  claim-same x = go (lentRestart p l e) (subst (ClaimOf p (histOf h) e′) (sym (restart-same p l (g .now-good) e e′ s q)) x)
+    where
+      h′ : LentHist
+      h′ = lentStep p h e
+
+      go : (o : Opt ℕ) → ClaimOf p (histOf h) e′ o → LentClaim p h e o
+      go none x = tt
+      go (some d) x =
+          let y : RestartOk p (histOf h) (lentHappens p l e .answer) (histOf h′) =
+          subst (λ (a : Answer). RestartOk p (histOf h) a (histOf h′)) (sym answer-same) (subst (RestartOk p (histOf h) (happens p (worldOf l) e′ .answer)) (sym step-same) x) in
+          record {
+            not-refused = y .not-refused;
+            reads = λ f a b. subst (ReadOk (h′ .sends) a) (sym (reads-same p (h′ .lent) (step-good .now-good) a)) (y .reads f a b);
+            same = λ f. same-lift h′ step-good (y .same f);
+          }
+
+-- ---- a restart whose state has another length
+
+module _ (p : Params) (h : LentHist) (d n : ℕ) (u : Lent) (im ps : List ℕ) (x : length (u .state) ≡ stateLen → ⊥) where
+  abbrev e : LentEvent
+  e = boots d n u im ps
+
+  short! : (k : Disk) → length (withDisk u k .state) ≡ stateLen → ⊥
+  short! k y = x (sym (ap length (with-state u k)) ∙ y)
+
+  out : lentInOrder p (withDisk u (lentDisk (h .lent))) d ≡ false
+  out = order-short p (withDisk u (lentDisk (h .lent))) d (short! (lentDisk (h .lent)))
+
+  short-before : lentBefore p (h .lent) (boots d n u im ps) ≡ withDisk u (lentDisk (h .lent))
+  unfolding lentBefore
+  short-before =
+      cond-false (lentInOrder p (withDisk u (lentDisk (h .lent))) d) (withDisk u (swapped p (lentDisk (h .lent)) d im ps)) (withDisk u (lentDisk (h .lent))) out
+
+  short-restart : lentRestart p (h .lent) (boots d n u im ps) ≡ none
+  unfolding lentRestart lentCall restartOf
+  short-restart = ap (λ (l : Lent). lentOrderly p l (some d)) short-before ∙ (unfold lentOrderly in (ap (λ (b : Bool). onlyIf b (some d)) out ∙ (unfold onlyIf in refl)))
+
+  refuses : isRefused (lentHappens p (h .lent) (boots d n u im ps) .answer) ≡ true
+  unfolding lentHappens lentCall
+  refuses = ap (λ (l : Lent). isRefused (callBytes p l (restart d n) .answer)) short-before
+      ∙ ap isRefused (short-answer p (withDisk u (lentDisk (h .lent))) d n (short! (lentDisk (h .lent)))) ∙ short-refused (inRange p && namesDrive p d)
+
+  -- nothing changes
+  short-step : lentStep p h (boots d n u im ps) ≡ h
+  unfolding lentStep lentAfter lentCall
+  short-step = λ j. record {
+    lent = lent-is j;
+    sends = sends-is j;
+    untrusted = untrusted-is j;
+    mark = mark-is j;
+  }
+    where
+      a : Answer
+      a = lentHappens p (h .lent) (boots d n u im ps) .answer
+
+      lent-is : cond (lentInOrder p (withDisk u (lentDisk (h .lent))) d) (lentHappens p (h .lent) (boots d n u im ps) .lent) (h .lent) ≡ h .lent
+      lent-is = cond-false (lentInOrder p (withDisk u (lentDisk (h .lent))) d) (lentHappens p (h .lent) (boots d n u im ps) .lent) (h .lent) out
+
+      sends-is : sentAfter (restart d n) a (h .sends) ≡ h .sends
+      sends-is = sent-refused (restart d n) a (h .sends) refuses
+
+      untrusted-is : untrustedAfter (restart d n) a (h .untrusted) ≡ h .untrusted
+      untrusted-is = unfold untrustedAfter in cond-true (isRefused a) (h .untrusted) (named d) refuses
+
+      mark-is : lentMarked (finished a) (cond (lentInOrder p (withDisk u (lentDisk (h .lent))) d) (lentHappens p (h .lent) (boots d n u im ps) .lent) (h .lent)) (length (sentAfter (restart d n) a (h .sends))) (h .mark) ≡ h .mark
+      mark-is = ap (λ (b : Bool). lentMarked b (cond (lentInOrder p (withDisk u (lentDisk (h .lent))) d) (lentHappens p (h .lent) (boots d n u im ps) .lent) (h .lent)) (length (sentAfter (restart d n) a (h .sends))) (h .mark))
+          (refused-unfinished a refuses) ∙ (unfold lentMarked in refl)
+
+-- ---- lists of events
+
+bytes-first : (p : Params) (h : LentHist) (e : LentEvent) → lentAllowed p h e ≡ true → eventBytes e ≡ true
+unfolding lentAllowed
+bytes-first p h e t =
+    let a = not (isRefusedAs 6 (lentHappens p (h .lent) e .answer)) in
+    and-left (eventBytes e) a (and-left (eventBytes e && a) (namesAll (h .untrusted) (lentRestart p (h .lent) e)) t)
+
+events-boot : (d n : ℕ) (u : Lent) (im ps : List ℕ) (es : List LentEvent) → length (u .state) ≡ stateLen
+    → eventsOf (boots d n u im ps ∷ es) ≡ boots′ d n (lentMemory u) im ps ∷ eventsOf es
+unfolding eventsOf consIf
+events-boot d n u im ps es x = ap (λ (b : Bool). consIf b (boots′ d n (lentMemory u) im ps) (eventsOf es)) (eq-eqb (length (u .state)) stateLen x)
+
+events-short : (d n : ℕ) (u : Lent) (im ps : List ℕ) (es : List LentEvent) → (length (u .state) ≡ stateLen → ⊥) → eventsOf (boots d n u im ps ∷ es) ≡ eventsOf es
+unfolding eventsOf consIf
+events-short d n u im ps es x = ap (λ (b : Bool). consIf b (boots′ d n (lentMemory u) im ps) (eventsOf es)) (ne-eqb (length (u .state)) stateLen x)
+
+events-call : (c : Call) (es : List LentEvent) → eventsOf (calls c ∷ es) ≡ calls′ c ∷ eventsOf es
+unfolding eventsOf
+events-call c es = refl
+
+module _ (p : Params) where
+  -- the premises carry over
+  all-allowed : (es : List LentEvent) (h : LentHist) → HistGood h → LentAllowed p h es → Allowed p (histOf h) (eventsOf es)
+  all-allowed [] h g t = unfold eventsOf in tt
+  all-allowed (calls c ∷ es) h g (t, ts) =
+      let q = bytes-first p h (calls c) t in
+      let s = same-calls c in
+      subst (Allowed p (histOf h)) (sym (events-call c es))
+      (allowed-same p h g (calls c) (calls′ c) s q t, subst (λ (x : Hist). Allowed p x (eventsOf es)) (step-same p h g (calls c) (calls′ c) s q) (all-allowed es (lentStep p h (calls c)) (step-good p h g (calls c) (calls′ c) s q) ts))
+  all-allowed (boots d n u im ps ∷ es) h g (t, ts) = go (ℕ-discrete (length (u .state)) stateLen) (all-allowed es (lentStep p h (boots d n u im ps)))
+    where
+      b : LentEvent
+      b = boots d n u im ps
+
+      go : Dec (length (u .state) ≡ stateLen) → (HistGood (lentStep p h (boots d n u im ps)) → LentAllowed p (lentStep p h (boots d n u im ps)) es → Allowed p (histOf (lentStep p h (boots d n u im ps))) (eventsOf es))
+          → Allowed p (histOf h) (eventsOf (boots d n u im ps ∷ es))
+      go (yes x) ih =
+          let q = bytes-first p h b t in
+          let e′ = boots′ d n (lentMemory u) im ps in
+          let s = same-boots d n u im ps x in
+          subst (Allowed p (histOf h)) (sym (events-boot d n u im ps es x))
+          (allowed-same p h g b e′ s q t, subst (λ (y : Hist). Allowed p y (eventsOf es)) (step-same p h g b e′ s q) (ih (step-good p h g b e′ s q) ts))
+      go (no x) ih =
+          let f = short-step p h d n u im ps x in
+          subst (Allowed p (histOf h)) (sym (events-short d n u im ps es x))
+          (subst (λ (y : LentHist). Allowed p (histOf y) (eventsOf es)) f (ih (subst HistGood (sym f) g) ts))
+
+  -- and the claims come back
+  all-claims : (es : List LentEvent) (h : LentHist) → HistGood h → LentAllowed p h es → Claims p (histOf h) (eventsOf es) → LentClaims p h es
+  all-claims [] h g t c = tt
+  all-claims (calls c ∷ es) h g (t, ts) y =
+      let q = bytes-first p h (calls c) t in
+      let s = same-calls c in
+      let (a, b) = subst (Claims p (histOf h)) (events-call c es) y in
+      (claim-same p h g (calls c) (calls′ c) s q a, all-claims es (lentStep p h (calls c)) (step-good p h g (calls c) (calls′ c) s q) ts (subst (λ (x : Hist). Claims p x (eventsOf es)) (sym (step-same p h g (calls c) (calls′ c) s q)) b))
+  all-claims (boots d n u im ps ∷ es) h g (t, ts) y = go (ℕ-discrete (length (u .state)) stateLen) (all-claims es (lentStep p h (boots d n u im ps)))
+    where
+      b : LentEvent
+      b = boots d n u im ps
+
+      go : Dec (length (u .state) ≡ stateLen)
+          → (HistGood (lentStep p h (boots d n u im ps)) → LentAllowed p (lentStep p h (boots d n u im ps)) es → Claims p (histOf (lentStep p h (boots d n u im ps))) (eventsOf es) → LentClaims p (lentStep p h (boots d n u im ps)) es)
+          → LentClaims p h (boots d n u im ps ∷ es)
+      go (yes x) ih =
+          let q = bytes-first p h b t in
+          let e′ = boots′ d n (lentMemory u) im ps in
+          let s = same-boots d n u im ps x in
+          let (a, z) = subst (Claims p (histOf h)) (events-boot d n u im ps es x) y in
+          (claim-same p h g b e′ s q a, ih (step-good p h g b e′ s q) ts (subst (λ (w : Hist). Claims p w (eventsOf es)) (sym (step-same p h g b e′ s q)) z))
+      go (no x) ih =
+          let f = short-step p h d n u im ps x in
+          let z = subst (Claims p (histOf h)) (events-short d n u im ps es x) y in
+          (subst (LentClaim p h (boots d n u im ps)) (sym (short-restart p h d n u im ps x)) tt, ih (subst HistGood (sym f) g) ts (subst (λ (w : LentHist). Claims p (histOf w) (eventsOf es)) (sym f) z))
+
+-- ---- from the start
+
+began-same : (p : Params) (k : Disk) → histOf (lentBegan p k) ≡ began p k
+unfolding lentBegan began lentDisk lentMemory markOf
+began-same p k = ap (λ (s : State). record {
+  world = mkWorld k (mkMemory s (replicate (addressesLen p) 0) (replicate (compactLen p) 0) (replicate (inflightLen p) 0));
+  sends = [];
+  untrusted = 0;
+  mark = none;
+}) stateOf-zeros
+
+began-good : (p : Params) (k : Disk) → Bytes (k .image) → HistGood (lentBegan p k)
+unfolding lentBegan
+began-good p k h = record {
+  now-good = record {
+    bytes = record { image-bytes = h; inflight-bytes = bytes-zeros (inflightLen p); state-bytes = bytes-zeros stateLen };
+    long = length-replicate stateLen 0;
+  };
+  mark-good = tt;
+}
+
+-- demand 3, of the lent bytes
+pub demand-3-bytes : Demand3
+demand-3-bytes p r k em by es al =
+    let g = began-good p k (bytes-of (k .image) by) in
+    all-claims p es (lentBegan p k) g al
+    (subst (λ (h : Hist). Claims p h (eventsOf es)) (sym (began-same p k))
+    (demand-3 p r k em (eventsOf es) (subst (λ (h : Hist). Allowed p h (eventsOf es)) (began-same p k) (all-allowed p es (lentBegan p k) g al))))

@@ -1,0 +1,194 @@
+-- Demand 2 on the lent bytes, from demand 2 with the state as a value: in a run each call on bytes is the call on the decoded state. Assumes nothing.
+use mathlib.Core.Path.{_≡_, refl, sym, ap, ap₂, _∙_, subst}
+use mathlib.Core.List.{List, [], _∷_}
+use mathlib.Core.Bool.{Bool, true, false, cond, _&&_}
+use Prim.Native.Nat.{ℕ, _<_}
+use native.Mathlib.Decide.{ℕ-discrete}
+use lib.Dec.{eqb}
+use lib.ListN.{length, replicate}
+use Rattle.defs.specs.declared.Params.{Params}
+use Rattle.defs.specs.declared.Answer.{Answer}
+use Rattle.defs.specs.declared.Answer.the-variants.{Landed, Restarted}
+use Rattle.defs.specs.Answers.{kind, values, isRefused, isRefusedAs, isCut, finished}
+use Rattle.defs.specs.Calls.{After}
+use Rattle.defs.specs.Demands.{areBytes, NotNinth}
+use Rattle.defs.specs.Drives.{Disk, View}
+use Rattle.defs.specs.Engine.{Call, lentOk, callOn, callDisk, Lent, Left, lentDisk, lentMemory, callBytes}
+use Rattle.defs.specs.Engine.Call.{write, land, close, reclaim, read, fill, restart, rebuild}
+use Rattle.defs.specs.History.{World, mkWorld, restartOf, Seen}
+use Rattle.defs.specs.History.Seen.{unwritten, got, failed}
+use Rattle.defs.specs.Memory.{Memory, stateLen, stateOf}
+use Rattle.defs.specs.Params.{inRange, noDrive, named}
+use Rattle.defs.specs.Restart.{namesDrive}
+use Rattle.defs.specs.Segments.{Segment, segments}
+use Rattle.views.specs.Views.{Whole, seen}
+use Rattle.hosts.specs.Hosts.{bytes-short}
+use Rattle.hosts.specs.Shorts.{shortAnswer, short-refused, restart-short}
+use Rattle.spec_demands.specs.Engines.{Reply, onValues, onBytes, callWorld, callLent, viewIn, readsAs}
+use Rattle.spec_demands.specs.Layouts.{Layout}
+use Rattle.spec_demands.specs.Tables.{Pending, pendingAfter, foundAfter, Says, openIn, landingStores, Lands, Restarts, Rebuilds, CallSays, SaysOn, AfterRestart}
+use Rattle.tablesay.specs.Image.{bytes-of, shaped-of}
+use Rattle.tablesay.specs.Outcomes.{refused-unfinished}
+use Rattle.tablesay.specs.Run.{Run}
+use Rattle.tablesay.specs.Tests.{clash}
+use Rattle.tablesay.specs.Theorem.{restart-finished, stepped}
+use Rattle.tablesay.specs.Zones.{Shaped}
+use Rattle.proof_bytes.specs.Sections.{Fits}
+use Rattle.proof_bytes.specs.Reads.{grounded-reads, shaped-grounded}
+use Rattle.proof_bytes.specs.Kept.{on-fits, finished-fits, answer-same, decoded, simulates, state-long}
+use Rattle.proof_bytes.specs.Runs.{run-restart}
+
+-- ---- a reply on bytes, decoded
+
+abbrev pub worldOf : Lent → World
+worldOf l = mkWorld (lentDisk l) (lentMemory l)
+
+abbrev pub replyOf : Reply Lent → Reply World
+replyOf r = record { answer = r .answer; world = worldOf (r .world); block = r .block }
+
+pub reply-same : (p : Params) (l : Lent) (c : Call) → length (l .state) ≡ stateLen → Fits (callDisk p (lentDisk l) (lentMemory l) c .memory .state)
+    → replyOf (callLent p l c) ≡ callWorld p (worldOf l) c
+unfolding callLent callWorld
+reply-same p l c e f = ap (λ (r : After Disk). record { answer = r .answer; world = mkWorld (r .drives) (r .memory); block = r .block }) (simulates p l c e f)
+
+-- a state of another length: refused with 1 or 2
+pub short-answer : (p : Params) (l : Lent) (d n : ℕ) → (length (l .state) ≡ stateLen → ⊥) → callBytes p l (restart d n) .answer ≡ shortAnswer (inRange p && namesDrive p d)
+short-answer p l d n h = sym (ap (λ (x : Left). x .answer) (bytes-short p l (restart d n) h (shortAnswer good) [] (short-refused good) (restart-short p (lentDisk l) (lentMemory l) d n)))
+  where
+    good : Bool
+    good = inRange p && namesDrive p d
+
+short-ninth : (b : Bool) → isRefusedAs 9 (shortAnswer b) ≡ false
+unfolding isRefusedAs isRefused kind values
+short-ninth true = refl
+short-ninth false = refl
+
+-- ---- between calls
+
+-- what holds of the lent bytes in a run
+pub record Going (p : Params) (l : Lent) : Type 0 where
+  pub long : length (l .state) ≡ stateLen
+  pub fits : Fits (lentMemory l .state)
+  pub run : Run p (lentDisk l) (lentMemory l)
+
+module _ (p : Params) (l : Lent) (g : Going p l) where
+  pub going-fits : (c : Call) → Fits (callDisk p (lentDisk l) (lentMemory l) c .memory .state)
+  unfolding callDisk
+  going-fits c = on-fits p (lentOk p (lentDisk l) (lentMemory l)) (lentDisk l) (lentMemory l) c (g .fits)
+      (grounded-reads p (seen p (lentDisk l)) (shaped-grounded p (seen p (lentDisk l)) (g .run .base .shaped))) (run-restart p (lentDisk l) (lentMemory l) c (λ w. g .run .base .shaped))
+
+  pub going-same : (c : Call) → replyOf (callLent p l c) ≡ callWorld p (worldOf l) c
+  going-same c = reply-same p l c (g .long) (going-fits c)
+
+  pub going-on : (c : Call) → isCut (callLent p l c .answer) ≡ false → Going p (callLent p l c .world)
+  unfolding callLent
+  going-on c q =
+      let e = simulates p l c (g .long) (going-fits c) in
+      record {
+        long = state-long p l c (g .long) (going-fits c);
+        fits = subst (λ (r : After Disk). Fits (r .memory .state)) (sym e) (going-fits c);
+        run = subst (λ (r : After Disk). Run p (r .drives) (r .memory)) (sym e)
+            (stepped p (lentDisk l) (lentMemory l) (g .run) c .1 (ap (λ (r : After Disk). isCut (r .answer)) (sym e) ∙ q));
+      }
+
+  reads-same : (a : ℕ) → readsAs onBytes p l a ≡ readsAs onValues p (worldOf l) a
+  unfolding readsAs
+  reads-same a = ap₂ (λ (r s : Reply World). cond (eqb (kind (s .answer)) 9) unwritten (cond (eqb (kind (r .answer)) 11) (got (r .block)) failed))
+      (going-same (fill a (replicate (p .B) 0))) (going-same (read a))
+
+  says-same : Says onValues p (worldOf l) → Says onBytes p l
+  unfolding viewIn
+  says-same s = record { addresses-say = s .addresses-say; compact-says = s .compact-says; reads-say = λ a h. reads-same a ∙ s .reads-say a h }
+
+-- ---- one call
+
+module _ (p : Params) (l : Lent) (ws : List Pending) (r : Reply Lent) where
+  lands-same : (d s n : ℕ) → Lands onValues p (worldOf l) ws d s (replyOf r) n → Lands onBytes p l ws d s r n
+  unfolding viewIn openIn landingStores
+  lands-same d s n x = record { block = x .block; rec = x .rec; stored = x .stored; numbered = x .numbered; sent = x .sent; acknowledges = x .acknowledges }
+
+  restarts-same : (d : ℕ) → Restarts onValues p (worldOf l) d (replyOf r) → Restarts onBytes p l d r
+  unfolding viewIn
+  restarts-same d x = record { reports = x .reports; under = x .under }
+
+  rebuilds-same : Rebuilds onValues p (worldOf l) (replyOf r) → Rebuilds onBytes p l r
+  unfolding viewIn callLent callWorld
+  rebuilds-same x = record { says-same = x .says-same; accepted = λ u n e. go u n e (ℕ-discrete (length (u .state)) stateLen) }
+    where
+      go : (u : Lent) (n : ℕ) → lentDisk u ≡ lentDisk (r .world) → Dec (length (u .state) ≡ stateLen) → isRefusedAs 9 (callBytes p u (restart noDrive n) .answer) ≡ false
+      go u n e (yes h) = ap (isRefusedAs 9) (answer-same p u (restart noDrive n) h) ∙ x .accepted (worldOf u) n e
+      go u n e (no h) = ap (isRefusedAs 9) (short-answer p u noDrive n h) ∙ short-ninth (inRange p && namesDrive p noDrive)
+
+  call-says : (c : Call) → CallSays onValues p (worldOf l) ws c (replyOf r) → CallSays onBytes p l ws c r
+  call-says (write a b n) x = tt
+  call-says (land d s n) x = λ y e. lands-same d s y (x y e)
+  call-says (close n) x = tt
+  call-says (reclaim n) x = tt
+  call-says (read a) x = tt
+  call-says (fill a b) x = tt
+  call-says (restart d n) x = λ e. restarts-same d (x e)
+  call-says (rebuild d n) x = λ e. rebuilds-same (x e)
+
+-- ---- lists of calls
+
+says-on : (p : Params) (l : Lent) → Going p l → (ws : List Pending) (old : List Segment) (cs : List Call) → SaysOn onValues p (worldOf l) ws old cs → SaysOn onBytes p l ws old cs
+unfolding viewIn
+says-on p l g ws old [] (s, y) = (says-same p l g s, y)
+says-on p l g ws old (c ∷ cs) (s, y, n, x, t) = (
+  says-same p l g s,
+  y,
+  subst (λ (r : Reply World). NotNinth (restartOf c) (r .answer)) (sym e) n,
+  call-says p l ws (callLent p l c) c (subst (λ (r : Reply World). CallSays onValues p (worldOf l) ws c r) (sym e) x),
+  λ q. says-on p (callLent p l c .world) (going-on p l g c q) (pendingAfter c (callLent p l c .answer) ws) (foundAfter p (viewIn onBytes p l) c (callLent p l c .answer) old) cs
+      (subst (λ (r : Reply World). isCut (r .answer) ≡ false → SaysOn onValues p (r .world) (pendingAfter c (r .answer) ws) (foundAfter p (viewIn onValues p (worldOf l)) c (r .answer) old) cs) (sym e) t q),
+)
+  where
+    e : replyOf (callLent p l c) ≡ callWorld p (worldOf l) c
+    e = going-same p l g c
+
+-- ---- from the restart on
+
+-- demand 2 with the state as a value gives demand 2 of the lent bytes
+pub lift-2 : AfterRestart onValues → AfterRestart onBytes
+unfolding viewIn
+lift-2 two p l d n cs by q = go (ℕ-discrete (length (l .state)) stateLen)
+  where
+    c : Call
+    c = restart d n
+
+    answer! : callLent p l c .answer ≡ callBytes p l c .answer
+    answer! = unfold callLent in refl
+
+    go : Dec (length (l .state) ≡ stateLen)
+        → Restarts onBytes p l d (callLent p l (restart d n)) × SaysOn onBytes p (callLent p l (restart d n) .world) [] (segments p (viewIn onBytes p l) (named d)) cs
+    go (no h) = clash q (ap finished (answer! ∙ short-answer p l d n h) ∙ refused-unfinished (shortAnswer (inRange p && namesDrive p d)) (short-refused (inRange p && namesDrive p d)))
+    go (yes h) = (
+      restarts-same p l [] (callLent p l c) d (subst (λ (r : Reply World). Restarts onValues p (worldOf l) d r) (sym e) (t .0)),
+      says-on p (callLent p l c .world) going [] (segments p (viewIn onBytes p l) (named d)) cs
+          (subst (λ (r : Reply World). SaysOn onValues p (r .world) [] (segments p (viewIn onValues p (worldOf l)) (named d)) cs) (sym e) (t .1)),
+    )
+      where
+        shaped! : Whole p (lentDisk l) → Shaped p (seen p (lentDisk l))
+        shaped! w = shaped-of p (lentDisk l) w (bytes-of (lentDisk l .image) by)
+
+        fin : finished (callDisk p (lentDisk l) (lentMemory l) c .answer) ≡ true
+        fin = ap finished (sym (answer! ∙ answer-same p l c h)) ∙ q
+
+        f : Fits (callDisk p (lentDisk l) (lentMemory l) c .memory .state)
+        f = unfold callDisk in finished-fits p (lentOk p (lentDisk l) (lentMemory l)) (lentDisk l) (lentMemory l) d n (run-restart p (lentDisk l) (lentMemory l) c shaped!) (on! fin)
+          where
+            on! : finished (callDisk p (lentDisk l) (lentMemory l) (restart d n) .answer) ≡ true → finished (callOn p (lentOk p (lentDisk l) (lentMemory l)) (lentDisk l) (lentMemory l) (restart d n) .answer) ≡ true
+            on! x = unfold callDisk in x
+
+        e : replyOf (callLent p l c) ≡ callWorld p (worldOf l) c
+        e = reply-same p l c h f
+
+        t : Restarts onValues p (worldOf l) d (callWorld p (worldOf l) (restart d n)) × SaysOn onValues p (callWorld p (worldOf l) (restart d n) .world) [] (segments p (viewIn onValues p (worldOf l)) (named d)) cs
+        t = two p (worldOf l) d n cs by (ap (λ (r : Reply World). finished (r .answer)) (sym e) ∙ q)
+
+        going : Going p (callLent p l (restart d n) .world)
+        going = unfold callLent in record {
+          long = state-long p l c h f;
+          fits = subst (λ (r : After Disk). Fits (r .memory .state)) (sym (simulates p l c h f)) f;
+          run = subst (λ (r : After Disk). Run p (r .drives) (r .memory)) (sym (simulates p l c h f)) (restart-finished p (lentDisk l) (lentMemory l) d n shaped! fin);
+        }

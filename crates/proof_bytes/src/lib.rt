@@ -1,0 +1,8 @@
+// Demands 2 and 3 carried from the state as a value to the lent bytes (specs/): the state that every call leaves fits its bytes, so that a call on bytes is the call on the decoded state.
+// specs/Two.antt makes demand 2 of the lent bytes from demand 2 of values.
+ghost use Rattle.spec_demands.specs.Histories.{Demand3};
+
+// Demand 3, of the lent bytes.
+pub fn demand_three()
+    ensures { λ _. ⌜ Demand3 ⌝ }
+{}
