@@ -82,7 +82,7 @@ module _ (p : Params) (r : Ranged p) (v : View) (sh : Shaped p v) (st : State) (
 
   -- ---- the pointer
 
-  not-landed : isIn (landedIn st i) d ≡ false
+  pub not-landed : isIn (landedIn st i) d ≡ false
   not-landed = go rd
     where
       go : ready p st i d ≡ true → isIn (landedIn st i) d ≡ false

@@ -48,7 +48,7 @@ use Rattle.tablesay.specs.Zones.{Shaped}
 
 -- ---- a restart, on any bytes
 
-restart-ends : (p : Params) (k : Disk) (m : Memory) (d n : ℕ) → Ended p k m (startChecks p k m d) (startPlan p k m d) (callDisk p k m (restart d n))
+pub restart-ends : (p : Params) (k : Disk) (m : Memory) (d n : ℕ) → Ended p k m (startChecks p k m d) (startPlan p k m d) (callDisk p k m (restart d n))
 unfolding callDisk callOn verdict storeCount lentBlock restartVerdict
 restart-ends p k m d n = ended p k m (startChecks p k m d) (startPlan p k m d) n []
 
@@ -68,7 +68,7 @@ restart-finished p k m d n sh q = go (restart-ends p k m d n)
 -- ---- one call
 
 -- what a call gives
-abbrev Stepped : Params → Call → After Disk → Type 0
+abbrev pub Stepped : Params → Call → After Disk → Type 0
 Stepped p c r = NotNinth (restartOf c) (r .answer) × (isCut (r .answer) ≡ false → Run p (r .drives) (r .memory))
 
 kept-step : (p : Params) (r : After Disk) → Kept p r → (isRefusedAs 9 (r .answer) ≡ false) × (isCut (r .answer) ≡ false → Run p (r .drives) (r .memory))
@@ -111,7 +111,7 @@ restart-step p k m u d n nc = go (restart-ends p k m d n)
         (started p k m d (λ w. u .base .shaped) (begins p k m d c)))
     go (ended-cut c f) = clash (ap isCut f ∙ cut-cut) nc
 
-stepped : (p : Params) (k : Disk) (m : Memory) → Run p k m → (c : Call) → Stepped p c (callDisk p k m c)
+pub stepped : (p : Params) (k : Disk) (m : Memory) → Run p k m → (c : Call) → Stepped p c (callDisk p k m c)
 unfolding restartOf
 stepped p k m u (write a b n) = kept-step p (callDisk p k m (write a b n)) (⊎-elim (λ x. lost-write p k m u x a b n) (λ x. well-write p k m u x a n b) (u .mode))
 stepped p k m u (land d s n) = kept-step p (callDisk p k m (land d s n)) (⊎-elim (λ x. lost-land p k m u x d s n) (λ x. well-land p k m u x d s n) (u .mode))
