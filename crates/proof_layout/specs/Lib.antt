@@ -1,3 +1,4 @@
 pub mod Laid
 pub mod Stored
+pub mod Segments
 pub mod Assembly

@@ -129,7 +129,7 @@ module _ (p : Params) (r : Ranged p) (v : View) (sh : Shaped p v) (st : State) (
   abbrev rc : Rec
   rc = flightRec p st i d
 
-  stripe-of : rc .stripe ≡ s
+  pub stripe-of : rc .stripe ≡ s
   stripe-of = go (test (isData p s d))
     where
       go : Test (isData p s d) → flightRec p st i d .stripe ≡ s
