@@ -1,4 +1,5 @@
 pub mod Laid
 pub mod Stored
 pub mod Segments
+pub mod Calls
 pub mod Assembly

@@ -1,0 +1,268 @@
+-- The layout is kept by every call that isn't a restart: refused ones leave all, the others store as the views say. Assumes nothing.
+use mathlib.Core.Path.{_≡_, refl, sym, ap, ap₂, _∙_, subst}
+use mathlib.Core.List.{List, [], _∷_, _++_, map}
+use mathlib.Core.Bool.{Bool, true, false, cond, not, _&&_, _||_}
+use mathlib.Core.Logic.{_⊎_, inl, inr, ⊎-elim}
+use Prim.Native.Nat.{ℕ, zero, suc, _+_, _-_, _^_, _≤_, _<_}
+use borrow.Author.Tests.{ne-eqb, eq-eqb, leb-false, ltb-true, eqb-true, eqb-false, not-false}
+use native.Mathlib.Omega.{arith}
+use lib.Dec.{leb, ltb, eqb}
+use lib.ListN.{length, replicate}
+use Rattle.defs.specs.declared.Params.{Params}
+use Rattle.defs.specs.declared.State.{State}
+use Rattle.defs.specs.declared.Answer.the-variants.{Rebuilt}
+use Rattle.defs.specs.Answers.{isCut}
+use Rattle.defs.specs.Calls.{Check, firstRefusal, Plan, mkPlan, decided, After, outcome}
+use Rattle.defs.specs.Calls.Check.{rule, zones}
+use Rattle.defs.specs.Closing.{padded, closeChecks, closePlan, closeVerdict}
+use Rattle.defs.specs.Counts.{paddingAddress, lastCount}
+use Rattle.defs.specs.Drives.{View, zoneAt, pointerAt, chunkAt, Store, storeView, Disk, storeDisk, storeAll, segmentNumbers, placeSegment, emptyOnAll, emptyZones, sealedIn, recordAt, headerStores, resetStores}
+use Rattle.defs.specs.Drives.Store.{put}
+use Rattle.defs.specs.Engine.{Call, storeCount, lentBlock, verdict, lentOk, callOn, callDisk}
+use Rattle.defs.specs.Engine.Call.{write, land, close, reclaim, read, fill, rebuild}
+use Rattle.defs.specs.Landing.{slotOf, waiting, completes, seals, flightRec, landFaults, landChecks, sealStores, landStore, landPlan, landVerdict}
+use Rattle.defs.specs.Layout.{recordBytes}
+use Rattle.defs.specs.Lists.{below, keep, isNil, firstOr, isIn}
+use Rattle.defs.specs.Memory.{Memory, mkMemory, filledIn, openSegment, freeSlot, fillingSlot, hasFilling, inFlight, stateFaults, setStamp, setOpen, setClosed, beginStripe, addEntry, markLanded, freeStripe, slotBlock}
+use Rattle.defs.specs.Params.{between, dataCount, inRange, placeBlock, placeZone, placeDrive, named, present}
+use Rattle.defs.specs.Rebuild.{namesMissing, rebuildChecks, rebuildStores, rebuildVerdict}
+use Rattle.defs.specs.Reclaim.{tableFaults, victim, isNone, victimSegment, victimLive, idle, reclaimChecks, resetPlan, copyPlan, reclaimVerdict}
+use Rattle.defs.specs.Segments.{lowDrive, Segment, segmentOf, segments}
+use Rattle.defs.specs.Write.{opens, noStamp, noSerial, mustWait, scarce, placed, sending, openedBy, begunBy, writeChecks, writePlan, writeVerdict}
+use Rattle.laws.specs.Geometry.{Ranged, ranged}
+use Rattle.laws.specs.Ranges.{Test, test, and-left, and-right}
+use Rattle.laws.specs.Ranges.Test.{yes!, no! }
+use Rattle.laws.specs.Stores.{storeAll-append}
+use Rattle.tablesay.specs.Checks.{Passes}
+use Rattle.tablesay.specs.Chunks.{chunk-roomy, all-behind, open-after, chunk-grows}
+use Rattle.tablesay.specs.Filling.{block-long! }
+use Rattle.tablesay.specs.Frame.{Agree, same-remaining, same-sealed, same-core, core}
+use Rattle.tablesay.specs.Going.{buffer-long}
+use Rattle.tablesay.specs.Heading.{header-roomy, header-within, empty-all}
+use Rattle.tablesay.specs.Idle.{StateOk, state-of, whole-of}
+use Rattle.tablesay.specs.Joins.{roomy-append, within-append, roomy-none, stores-none}
+use Rattle.tablesay.specs.Landings.{Waits, waits}
+use Rattle.tablesay.specs.Losing.{named-in, named-some, low-present, named-same}
+use Rattle.tablesay.specs.Members.{In, keep-in, below-in, first-in}
+use Rattle.tablesay.specs.Outcomes.{Ended, ended, cut-cut}
+use Rattle.tablesay.specs.Outcomes.Ended.{ended-refused, ended-done, ended-cut}
+use Rattle.tablesay.specs.Range.{capacity-word}
+use Rattle.tablesay.specs.Reading.{read-idle, fill-idle}
+use Rattle.tablesay.specs.Rebuilding.{rebuild-roomy, rebuild-within, rebuild-agrees}
+use Rattle.tablesay.specs.Reclaiming.{taken}
+use Rattle.tablesay.specs.Resetting.{reset-roomy, reset-within}
+use Rattle.tablesay.specs.Run.{usedAt, Lost, Tidy, Healthy, Well, Run}
+use Rattle.tablesay.specs.Sealing.{seal-roomy, seal-within}
+use Rattle.tablesay.specs.Segs.{remaining-low}
+use Rattle.tablesay.specs.Tests.{clash, or-left, or-right, cond-true, cond-false}
+use Rattle.tablesay.specs.Theorem.{stepped}
+use Rattle.tablesay.specs.Zones.{Shaped, Within, Roomy, all-fit, shaped-after}
+use Rattle.views.specs.Views.{Whole, seen, view-stores}
+use Rattle.proof_layout.specs.Laid.{Laid, ZoneLaid, Zoned, WellLaid, laid-zoned, laid-accepted, laid-tidy, tidy-laid}
+use Rattle.proof_layout.specs.Segments.{opened-laid, reset-laid, chunk-laid, seal-laid}
+
+-- ---- what a call leaves
+
+-- what is claimed of a call
+abbrev pub Keeps : Params → List Segment → After Disk → Type 0
+Keeps p old r = Laid p (seen p (r .drives)) (r .memory .state .missing) old
+
+-- drives and memory as they were
+pub same-keeps : (p : Params) (k : Disk) (m : Memory) (old : List Segment) (r : After Disk) → Laid p (seen p k) (m .state .missing) old → r .drives ≡ k → r .memory ≡ m → Keeps p old r
+same-keeps p k m old r l e f = subst (λ (x : Disk). Laid p (seen p x) (r .memory .state .missing) old) (sym e) (subst (λ (x : Memory). Laid p (seen p k) (x .state .missing) old) (sym f) l)
+
+-- the view of the bytes after stores that fit
+pub stored-view : (p : Params) (k : Disk) (ss : List Store) → inRange p ≡ true → Whole p k → Shaped p (seen p k) → Roomy p (seen p k) ss → ((s : Store) → In s ss → Within p s)
+    → seen p (storeAll (storeDisk p) ss k) ≡ storeAll storeView ss (seen p k)
+stored-view p k ss ir w sh ro wi = view-stores p k ss (capacity-word p (ranged p ir)) w (all-fit p (seen p k) ss (sh .sized) wi ro)
+
+-- with none missing the segments are tidy
+pub run-tidy : (p : Params) (k : Disk) (m : Memory) → Run p k m → m .state .missing ≡ 0 → Tidy p (seen p k) (m .state .serial .0)
+run-tidy p k m u e = ⊎-elim (λ (x : Lost p k m). clash (eq-eqb (named (x .which)) 0 (sym (x .names-it) ∙ e)) (named-some p (ranged p (u .base .ranged)) (x .which) (x .which-low))) (λ (x : Well p k m). x .healthy .tidy) (u .mode)
+
+-- stores done with none missing, in a run that goes on
+pub done-keeps : (p : Params) (k : Disk) (m : Memory) (old : List Segment) (r : After Disk) (ss : List Store) → Run p k m → Run p (r .drives) (r .memory) → r .drives ≡ storeAll (storeDisk p) ss k → r .memory .state .missing ≡ 0
+    → Roomy p (seen p k) ss → ((s : Store) → In s ss → Within p s) → WellLaid p (storeAll storeView ss (seen p k)) old → Keeps p old r
+done-keeps p k m old r ss u u2 e mz ro wi l =
+    let ev : seen p (r .drives) ≡ storeAll storeView ss (seen p k) = ap (seen p) e ∙ stored-view p k ss (u .base .ranged) (whole-of p k m (u .base .lent)) (u .base .shaped) ro wi in
+    subst (λ (g : ℕ). Laid p (seen p (r .drives)) g old) (sym mz)
+    (laid-tidy p (ranged p (u .base .ranged)) (seen p (r .drives)) (r .memory .state .serial .0) (run-tidy p (r .drives) (r .memory) u2 mz) old (subst (λ (v : View). WellLaid p v old) (sym ev) l))
+
+-- ---- a drive is missing: the third check refuses
+
+-- a list of checks with the third one among the first three leaves all
+stopped : (p : Params) (k : Disk) (m : Memory) (c1 c2 : Bool) (cs : List Check) (q : Plan) (n : ℕ) (b : List ℕ) (r : After Disk) (old : List Segment) → eqb (m .state .missing) 0 ≡ false
+    → Laid p (seen p k) (m .state .missing) old → Ended p k m (rule 1 c1 ∷ rule 2 c2 ∷ rule 3 (not (eqb (m .state .missing) 0)) ∷ cs) q r → isCut (r .answer) ≡ false → Keeps p old r
+stopped p k m c1 c2 cs q n b r old ms l (ended-refused a e f g h) nc = same-keeps p k m old r l g h
+stopped p k m c1 c2 cs q n b r old ms l (ended-done c f g h) nc = clash (ap not ms) (c .1 .1 .0)
+stopped p k m c1 c2 cs q n b r old ms l (ended-cut c f) nc = clash (ap isCut f ∙ cut-cut) nc
+
+module _ (p : Params) (k : Disk) (m : Memory) (u : Run p k m) (old : List Segment) (l : Laid p (seen p k) (m .state .missing) old) where
+  abbrev v : View
+  v = seen p k
+
+  abbrev st : State
+  st = m .state
+
+  rg : Ranged p
+  rg = ranged p (u .base .ranged)
+
+  some-missing : Lost p k m → eqb (st .missing) 0 ≡ false
+  some-missing lo = ap (λ (x : ℕ). eqb x 0) (lo .names-it) ∙ named-some p rg (lo .which) (lo .which-low)
+
+  well-laid : Well p k m → WellLaid p v old
+  well-laid we = tidy-laid p rg v (st .serial .0) (we .healthy .tidy) old (subst (λ (g : ℕ). Laid p v g old) (we .none-missing) l)
+
+  -- ---- a block sent
+
+  abbrev headers : List Store
+  headers = headerStores p (firstOr 0 (emptyZones p v)) (suc (st .serial .0)) 0
+
+  sending-stores : (fl : List ℕ) (a t w : ℕ) (b : List ℕ) → sending p v st fl a t w b .stores ≡ cond (opens p st) headers []
+  sending-stores fl a t w b = unfold sending in refl
+
+  sending-missing : (fl : List ℕ) (a t w : ℕ) (b : List ℕ) → sending p v st fl a t w b .state .missing ≡ st .missing
+  sending-missing fl a t w b = as! (begun (hasFilling p st) (opens p st))
+    where
+      begun : (x y : Bool) → cond x st (beginStripe (cond y (setOpen st (firstOr 0 (emptyZones p v)) (suc (st .serial .0))) st) (freeSlot st)) .missing ≡ st .missing
+      begun true y = refl
+      begun false true = unfold beginStripe setOpen in refl
+      begun false false = unfold beginStripe in refl
+
+      as! : cond (hasFilling p st) st (beginStripe (cond (opens p st) (setOpen st (firstOr 0 (emptyZones p v)) (suc (st .serial .0))) st) (freeSlot st)) .missing ≡ st .missing
+          → sending p v st fl a t w b .state .missing ≡ st .missing
+      as! e = unfold sending placed addEntry begunBy openedBy in e
+
+  -- the stores fit, and leave the segments laid out
+  abbrev Sent : List Store → Type 0
+  Sent ss = Roomy p v ss × ((s : Store) → In s ss → Within p s) × WellLaid p (storeAll storeView ss v) old
+
+  sent-laid : Well p k m → noSerial p st ≡ false → (opens p st ≡ true → isNil (emptyZones p v) ≡ false) → (ss : List Store) → ss ≡ cond (opens p st) headers [] → Sent ss
+  sent-laid we ns ne ss e = subst (λ (x : List Store). Sent x) (sym e) (go (test (opens p st)))
+    where
+      sh : Shaped p v
+      sh = u .base .shaped
+
+      serial-next : opens p st ≡ true → suc (st .serial .0) < 256 ^ 8
+      serial-next q =
+          let n : st .serial .0 ≡ lastCount → ⊥ = eqb-false (st .serial .0) lastCount (no-serial ns) in
+          let k = we .healthy .serial-fits in
+          omega arith
+        where
+          no-serial : noSerial p st ≡ false → eqb (st .serial .0) lastCount ≡ false
+          no-serial x = unfold noSerial in (sym (ap (λ (c : Bool). c && eqb (st .serial .0) lastCount) q) ∙ x)
+
+      go : Test (opens p st) → Sent (cond (opens p st) headers [])
+      go (no! q) = subst (λ (x : List Store). Sent x) (sym (cond-false (opens p st) headers [] q))
+          (roomy-none p v, λ s i. absurd i, subst (λ (x : View). WellLaid p x old) (sym (stores-none v)) (well-laid we))
+      go (yes! q) = subst (λ (x : List Store). Sent x) (sym (cond-true (opens p st) headers [] q)) (
+          let g = firstOr 0 (emptyZones p v) in
+          let (hg, eg) = parts g (first-in (emptyZones p v) 0 (ne q)) in
+          let em = empty-all p v g eg in
+          let s = suc (st .serial .0) in (
+            header-roomy p rg v sh g s 0 hg em,
+            header-within p rg v sh g s 0 hg em,
+            opened-laid p rg v sh old g s hg em (serial-next q) (well-laid we),
+          ))
+        where
+          parts : (g : ℕ) → In g (emptyZones p v) → (g < p .Z) × (emptyOnAll p v g ≡ true)
+          parts g i = unfold emptyZones segmentNumbers in (let (j, q) = keep-in (emptyOnAll p v) (below (p .Z)) g i in (below-in (p .Z) g j, q))
+
+  zones-left : (n : ℕ) → scarce p v n ≡ false → isNil (emptyZones p v) ≡ false
+  zones-left n q = go (emptyZones p v) (few q)
+    where
+      few : scarce p v n ≡ false → n < length (emptyZones p v)
+      few q = unfold scarce in leb-false (length (emptyZones p v)) n q
+
+      go : (x : List ℕ) → n < length x → isNil x ≡ false
+      go [] h = absurd (let z : ⊥ = omega arith in z)
+      go (y ∷ x) h = unfold isNil in refl
+
+  -- ---- write
+
+  module _ (a : ℕ) (b : List ℕ) (n : ℕ) where
+    abbrev wr : After Disk
+    wr = callDisk p k m (write a b n)
+
+    write-ends : Ended p k m (writeChecks p (lentOk p k m) v m a b) (writePlan p v m a b) wr
+    unfolding callDisk callOn verdict storeCount lentBlock writeVerdict
+    write-ends = ended p k m (writeChecks p (lentOk p k m) v m a b) (writePlan p v m a b) n b
+
+    write-well : Well p k m → isCut (wr .answer) ≡ false → Keeps p old wr
+    write-well we nc = go write-ends
+      where
+        parts : Passes (writeChecks p (lentOk p k m) v m a b) → (noSerial p st ≡ false) × (opens p st ≡ true → isNil (emptyZones p v) ≡ false)
+        parts c = unfold writeChecks in (or-right (noStamp st) (noSerial p st) (c .1 .1 .1 .1 .0), λ q. zones-left (cond (opens p st) 2 1) (c .1 .1 .1 .1 .1 .1 .0))
+
+        missing-is : writePlan p v m a b .memory .state .missing ≡ sending p v st (m .inflight) a (suc (st .stamp .0)) 1 b .state .missing
+        missing-is = unfold writePlan setStamp in refl
+
+        stores-is : writePlan p v m a b .stores ≡ sending p v st (m .inflight) a (suc (st .stamp .0)) 1 b .stores
+        stores-is = unfold writePlan in refl
+
+        go : Ended p k m (writeChecks p (lentOk p k m) v m a b) (writePlan p v m a b) wr → Keeps p old wr
+        go (ended-refused x e f g h) = same-keeps p k m old wr l g h
+        go (ended-done c f g h) =
+            let (ns, ne) = parts c in
+            let (ro, wi, wl) = sent-laid we ns ne (writePlan p v m a b .stores) (stores-is ∙ sending-stores (m .inflight) a (suc (st .stamp .0)) 1 b) in
+            done-keeps p k m old wr (writePlan p v m a b .stores) u (stepped p k m u (write a b n) .1 nc) g
+            (ap (λ (x : Memory). x .state .missing) h ∙ missing-is ∙ sending-missing (m .inflight) a (suc (st .stamp .0)) 1 b ∙ we .none-missing) ro wi wl
+        go (ended-cut c f) = clash (ap isCut f ∙ cut-cut) nc
+
+    write-lost : Lost p k m → isCut (wr .answer) ≡ false → Keeps p old wr
+    unfolding writeChecks
+    write-lost lo nc = stopped p k m _ _ _ _ n b wr old (some-missing lo) l write-ends nc
+
+    -- 01, Write
+    pub laid-write : isCut (wr .answer) ≡ false → Keeps p old wr
+    laid-write nc = ⊎-elim (λ x. write-lost x nc) (λ x. write-well x nc) (u .mode)
+
+  -- ---- closing
+
+  module _ (n : ℕ) where
+    abbrev cl : After Disk
+    cl = callDisk p k m (close n)
+
+    close-ends : Ended p k m (closeChecks p (lentOk p k m) v m) (closePlan p m) cl
+    unfolding callDisk callOn verdict storeCount lentBlock closeVerdict
+    close-ends = ended p k m (closeChecks p (lentOk p k m) v m) (closePlan p m) n []
+
+    padded-missing : (i x : ℕ) (su : State) (fl : List ℕ) → padded p i x su fl .state .missing ≡ su .missing
+    unfolding padded placed
+    padded-missing i zero su fl = refl
+    padded-missing i (suc x) su fl = padded-missing i x (addEntry su i paddingAddress 0 0) (placed p su fl i paddingAddress 0 0 (replicate (p .B) 0) .inflight) ∙ same su
+      where
+        same : (su : State) → addEntry su i paddingAddress 0 0 .missing ≡ su .missing
+        same su = unfold addEntry in refl
+
+    close-well : Well p k m → isCut (cl .answer) ≡ false → Keeps p old cl
+    close-well we nc = go close-ends
+      where
+        missing-is : closePlan p m .memory .state .missing ≡ padded p (fillingSlot p st) (dataCount p - filledIn st (fillingSlot p st)) st (m .inflight) .state .missing
+        missing-is = unfold closePlan in refl
+
+        stores-is : closePlan p m .stores ≡ []
+        stores-is = unfold closePlan in refl
+
+        go : Ended p k m (closeChecks p (lentOk p k m) v m) (closePlan p m) cl → Keeps p old cl
+        go (ended-refused x e f g h) = same-keeps p k m old cl l g h
+        go (ended-done c f g h) = done-keeps p k m old cl [] u (stepped p k m u (close n) .1 nc) (g ∙ ap (λ (x : List Store). storeAll (storeDisk p) x k) stores-is)
+            (ap (λ (x : Memory). x .state .missing) h ∙ missing-is ∙ padded-missing (fillingSlot p st) (dataCount p - filledIn st (fillingSlot p st)) st (m .inflight) ∙ we .none-missing)
+            (roomy-none p v) (λ s i. absurd i) (subst (λ (x : View). WellLaid p x old) (sym (stores-none v)) (well-laid we))
+        go (ended-cut c f) = clash (ap isCut f ∙ cut-cut) nc
+
+    close-lost : Lost p k m → isCut (cl .answer) ≡ false → Keeps p old cl
+    unfolding closeChecks
+    close-lost lo nc = stopped p k m _ _ _ _ n [] cl old (some-missing lo) l close-ends nc
+
+    -- 01, Closing
+    pub laid-close : isCut (cl .answer) ≡ false → Keeps p old cl
+    laid-close nc = ⊎-elim (λ x. close-lost x nc) (λ x. close-well x nc) (u .mode)
+
+  -- ---- reads
+
+  pub laid-read : (a : ℕ) → Keeps p old (callDisk p k m (read a))
+  laid-read a = let i = read-idle p k m (u .base) a in same-keeps p k m old (callDisk p k m (read a)) l (i .same-drives) (i .same-memory)
+
+  pub laid-fill : (a : ℕ) (b : List ℕ) → Keeps p old (callDisk p k m (fill a b))
+  laid-fill a b = let i = fill-idle p k m (u .base) a b in same-keeps p k m old (callDisk p k m (fill a b)) l (i .same-drives) (i .same-memory)
