@@ -230,7 +230,7 @@ module _ (p : Params) (v : View) (gone : ℕ) (acc : Accepted p v gone) where
       twice-once rs (zone-stripes p v gone acc g d m hd hq .1) o i (subst (λ (x : ℕ). o < x) (sym l) h) (subst (λ (x : ℕ). i < x) (sym l) j)
       (ap (λ (r : Rec). r .stripe) (record-at p w q o (mkRec 0 0 0) h) ∙ e ∙ ap (λ (r : Rec). r .stripe) (sym (record-at p w q i (mkRec 0 0 0) j)))
 
-  open-footers : (g d : ℕ) → In g (remaining p v gone) → d < p .N → isIn gone d ≡ false → sealedIn p v gone g ≡ false → footerFaultIn p (zoneAt v d g) ≡ false
+  pub open-footers : (g d : ℕ) → In g (remaining p v gone) → d < p .N → isIn gone d ≡ false → sealedIn p v gone g ≡ false → footerFaultIn p (zoneAt v d g) ≡ false
   open-footers g d m hd hq ns =
       ap (footerFaultIn p) (sym (zone-by p v gone g d hd))
       ∙ none-in (λ e. footerFaultIn p (getD (segmentOf p v gone g .zonesBy) e noZone)) (present p gone) (as! (faults-apart p v gone acc g m .no-footer-fault)) d (in-present p gone d hd hq)

@@ -2,4 +2,5 @@ pub mod Laid
 pub mod Stored
 pub mod Segments
 pub mod Calls
+pub mod Restarts
 pub mod Assembly
