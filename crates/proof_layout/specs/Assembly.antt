@@ -18,14 +18,16 @@ use Rattle.defs.specs.Segments.{Segment, segments}
 use Rattle.proof_flights.specs.Flown.{Flown}
 use Rattle.spec_demands.specs.Engines.{callWorld, onValues, viewIn, readsAs}
 use Rattle.spec_demands.specs.Layouts.{Layout}
-use Rattle.spec_demands.specs.Tables.{Pending, pendingAfter, foundAfter, Says, Lands, Restarts, Rebuilds, CallSays, SaysOn, AfterRestart}
+use Rattle.spec_demands.specs.Tables.{Pending, pendingAfter, foundAfter, Says, Lands, Rebuilds, CallSays, SaysOn, AfterRestart}
 use Rattle.tablesay.specs.Image.{bytes-of, shaped-of}
 use Rattle.tablesay.specs.Reading.{says}
 use Rattle.tablesay.specs.Run.{Run}
 use Rattle.tablesay.specs.Theorem.{restart-finished, stepped}
 use Rattle.tablesay.specs.Zones.{Shaped}
 use Rattle.views.specs.Views.{Whole, seen}
+use Rattle.proof_layout.specs.Calls.{Keeps, laid-write, laid-close, laid-read, laid-fill, laid-reclaim, laid-land, laid-rebuild}
 use Rattle.proof_layout.specs.Laid.{Laid, layout-of}
+use Rattle.proof_layout.specs.Restarts.{restarts-say, laid-first, laid-again}
 
 -- what holds between calls, of the tables, the layout and the stripes in flight
 pub record Holds (p : Params) (k : Disk) (m : Memory) (ws : List Pending) (old : List Segment) : Type 0 where
@@ -43,35 +45,36 @@ unfolding viewIn
 layout-here p k m ws old h = layout-of p (seen p k) (m .state .missing) old (h .laid) (h .flown .parities)
 
 -- one call, as others prove it
-abbrev FlownStep : Type 0
+abbrev pub FlownStep : Type 0
 FlownStep = (p : Params) (k : Disk) (m : Memory) → Run p k m → (ws : List Pending) (old : List Segment) → Flown p k m ws old → (c : Call) → isCut (callDisk p k m c .answer) ≡ false
     → Flown p (callDisk p k m c .drives) (callDisk p k m c .memory) (pendingAfter c (callDisk p k m c .answer) ws) (foundAfter p (seen p k) c (callDisk p k m c .answer) old)
 
-abbrev FlownFirst : Type 0
+abbrev pub FlownFirst : Type 0
 FlownFirst = (p : Params) (k : Disk) (m : Memory) (d n : ℕ) → (Whole p k → Shaped p (seen p k)) → finished (callDisk p k m (restart d n) .answer) ≡ true
     → Flown p (callDisk p k m (restart d n) .drives) (callDisk p k m (restart d n) .memory) [] (segments p (seen p k) (named d))
 
-abbrev LandsSay : Type 0
+abbrev pub LandsSay : Type 0
 LandsSay = (p : Params) (k : Disk) (m : Memory) → Run p k m → (ws : List Pending) (old : List Segment) → Flown p k m ws old → (d s n x : ℕ)
     → callDisk p k m (land d s n) .answer ≡ Landed x → Lands onValues p (mkWorld k m) ws d s (callWorld p (mkWorld k m) (land d s n)) x
 
-abbrev RebuildsSay : Type 0
+abbrev pub RebuildsSay : Type 0
 RebuildsSay = (p : Params) (k : Disk) (m : Memory) → Run p k m → (d n : ℕ) → eqb (kind (callDisk p k m (rebuild d n) .answer)) 13 ≡ true
     → Rebuilds onValues p (mkWorld k m) (callWorld p (mkWorld k m) (rebuild d n))
 
-abbrev LaidStep : Type 0
-LaidStep = (p : Params) (k : Disk) (m : Memory) → Run p k m → (old : List Segment) → Laid p (seen p k) (m .state .missing) old → (c : Call) → isCut (callDisk p k m c .answer) ≡ false
-    → Laid p (seen p (callDisk p k m c .drives)) (callDisk p k m c .memory .state .missing) (foundAfter p (seen p k) c (callDisk p k m c .answer) old)
+-- the layout, by any call
+pub laid-step : (p : Params) (k : Disk) (m : Memory) → Run p k m → (old : List Segment) → Laid p (seen p k) (m .state .missing) old → (c : Call) → isCut (callDisk p k m c .answer) ≡ false
+    → Keeps p (foundAfter p (seen p k) c (callDisk p k m c .answer) old) (callDisk p k m c)
+unfolding foundAfter
+laid-step p k m u old l (write a b n) nc = laid-write p k m u old l a b n nc
+laid-step p k m u old l (land d s n) nc = laid-land p k m u old l d s n nc
+laid-step p k m u old l (close n) nc = laid-close p k m u old l n nc
+laid-step p k m u old l (reclaim n) nc = laid-reclaim p k m u old l n nc
+laid-step p k m u old l (read a) nc = laid-read p k m u old l a
+laid-step p k m u old l (fill a b) nc = laid-fill p k m u old l a b
+laid-step p k m u old l (restart d n) nc = laid-again p k m u old l d n nc
+laid-step p k m u old l (rebuild d n) nc = laid-rebuild p k m u old l d n nc
 
-abbrev LaidFirst : Type 0
-LaidFirst = (p : Params) (k : Disk) (m : Memory) (d n : ℕ) → (Whole p k → Shaped p (seen p k)) → finished (callDisk p k m (restart d n) .answer) ≡ true
-    → Laid p (seen p (callDisk p k m (restart d n) .drives)) (callDisk p k m (restart d n) .memory .state .missing) (segments p (seen p k) (named d))
-
-abbrev RestartsSay : Type 0
-RestartsSay = (p : Params) (k : Disk) (m : Memory) (d n : ℕ) → finished (callDisk p k m (restart d n) .answer) ≡ true
-    → Restarts onValues p (mkWorld k m) d (callWorld p (mkWorld k m) (restart d n))
-
-module _ (flown-step : FlownStep) (flown-first : FlownFirst) (lands-say : LandsSay) (rebuilds-say : RebuildsSay) (laid-step : LaidStep) (laid-first : LaidFirst) (restarts-say : RestartsSay) where
+module _ (flown-step : FlownStep) (flown-first : FlownFirst) (lands-say : LandsSay) (rebuilds-say : RebuildsSay) where
   call-says : (p : Params) (k : Disk) (m : Memory) (ws : List Pending) (old : List Segment) → Holds p k m ws old → (c : Call) → CallSays onValues p (mkWorld k m) ws c (callWorld p (mkWorld k m) c)
   unfolding callWorld
   call-says p k m ws old h (write a b n) = tt
