@@ -4,3 +4,4 @@ pub mod Segments
 pub mod Calls
 pub mod Restarts
 pub mod Assembly
+pub mod Plain
