@@ -7,7 +7,6 @@ use lib.Dec.{eqb}
 use Rattle.defs.specs.declared.Params.{Params}
 use Rattle.defs.specs.declared.Answer.the-variants.{Landed}
 use Rattle.defs.specs.Answers.{kind, isCut, finished}
-use Rattle.defs.specs.Demands.{areBytes}
 use Rattle.defs.specs.Drives.{Disk}
 use Rattle.defs.specs.Engine.{Call, callDisk}
 use Rattle.defs.specs.Engine.Call.{write, land, close, reclaim, read, fill, restart, rebuild}
@@ -102,7 +101,8 @@ module _ (flown-step : FlownStep) (flown-first : FlownFirst) (lands-say : LandsS
     layout-here p k m ws old h,
     stepped p k m (h .runs) c .0,
     call-says p k m ws old h c,
-    λ nc. says-on p (callDisk p k m c .drives) (callDisk p k m c .memory) (pendingAfter c (callDisk p k m c .answer) ws) (foundAfter p (seen p k) c (callDisk p k m c .answer) old) (holds-step p k m ws old h c nc) cs,
+    λ nc. says-on p (callDisk p k m c .drives) (callDisk p k m c .memory) (pendingAfter c (callDisk p k m c .answer) ws)
+        (foundAfter p (seen p k) c (callDisk p k m c .answer) old) (holds-step p k m ws old h c nc) cs,
   )
 
   -- demand 2, with the state as a value

@@ -1,40 +1,41 @@
 -- The layout is kept by every call that isn't a restart: refused ones leave all, the others store as the views say. Assumes nothing.
 use mathlib.Core.Path.{_≡_, refl, sym, ap, ap₂, _∙_, subst}
-use mathlib.Core.List.{List, [], _∷_, _++_, map}
+use mathlib.Core.List.{List, [], _∷_, _++_}
 use mathlib.Core.Bool.{Bool, true, false, cond, not, _&&_, _||_}
 use mathlib.Core.Logic.{_⊎_, inl, inr, ⊎-elim}
 use Prim.Native.Nat.{ℕ, zero, suc, _+_, _-_, _^_, _≤_, _<_}
 use borrow.Author.Tests.{ne-eqb, eq-eqb, leb-false, ltb-true, eqb-true, eqb-false, not-false}
 use native.Mathlib.Omega.{arith}
-use lib.Dec.{leb, ltb, eqb}
+use lib.Dec.{ltb, eqb}
 use lib.ListN.{length, replicate}
 use Rattle.defs.specs.declared.Params.{Params}
 use Rattle.defs.specs.declared.State.{State}
 use Rattle.defs.specs.declared.Answer.the-variants.{Rebuilt}
 use Rattle.defs.specs.Answers.{isCut}
-use Rattle.defs.specs.Calls.{Check, firstRefusal, Plan, mkPlan, decided, After, outcome}
-use Rattle.defs.specs.Calls.Check.{rule, zones}
+use Rattle.defs.specs.Calls.{Check, Plan, mkPlan, After}
+use Rattle.defs.specs.Calls.Check.{rule}
 use Rattle.defs.specs.Closing.{padded, closeChecks, closePlan, closeVerdict}
 use Rattle.defs.specs.Counts.{paddingAddress, lastCount}
-use Rattle.defs.specs.Drives.{Zone, View, zoneAt, pointerAt, chunkAt, Store, storeView, Disk, storeDisk, storeAll, segmentNumbers, zoneOn, placeSegment, emptyOnAll, emptyZones, sealedIn, recordAt, headerStores, resetStores}
+use Rattle.defs.specs.Drives.{Zone, View, zoneAt, pointerAt, chunkAt, Store, storeView, Disk, storeDisk, storeAll}
+use Rattle.defs.specs.Drives.{segmentNumbers, zoneOn, placeSegment, emptyOnAll, emptyZones, sealedIn, recordAt, headerStores, resetStores}
 use Rattle.defs.specs.Drives.Store.{put}
-use Rattle.defs.specs.Engine.{Call, storeCount, lentBlock, verdict, lentOk, callOn, callDisk}
+use Rattle.defs.specs.Engine.{storeCount, lentBlock, verdict, lentOk, callOn, callDisk}
 use Rattle.defs.specs.Engine.Call.{write, land, close, reclaim, read, fill, rebuild}
-use Rattle.defs.specs.Landing.{slotOf, waiting, completes, seals, flightRec, landFaults, landChecks, sealStores, landStore, landPlan, landVerdict}
+use Rattle.defs.specs.Landing.{slotOf, waiting, completes, seals, flightRec, landChecks, sealStores, landStore, landPlan, landVerdict}
 use Rattle.defs.specs.Layout.{Rec, recordBytes}
 use Rattle.defs.specs.Lists.{Opt, below, isNil, firstOr}
-use Rattle.defs.specs.Memory.{Memory, mkMemory, filledIn, openSegment, freeSlot, fillingSlot, hasFilling, inFlight, stateFaults, setStamp, setOpen, setClosed, beginStripe, addEntry, markLanded, freeStripe, slotBlock}
-use Rattle.defs.specs.Params.{between, dataCount, inRange, placeBlock, placeZone, placeDrive, named, present}
+use Rattle.defs.specs.Memory.{Memory, filledIn, openSegment, freeSlot, fillingSlot, hasFilling, inFlight, setStamp, setOpen, setClosed, beginStripe, addEntry, markLanded, freeStripe, slotBlock}
+use Rattle.defs.specs.Params.{dataCount, inRange, placeBlock, placeZone, placeDrive, named, present}
 use Rattle.defs.specs.Rebuild.{namesMissing, rebuildChecks, rebuildStores, rebuildVerdict}
 use Rattle.defs.specs.Reclaim.{Victim, victim, isNone, victimSegment, victimLive, idle, reclaimChecks, resetPlan, copyPlan, reclaimVerdict}
 use Rattle.defs.specs.Segments.{lowDrive, remaining, Segment, segmentOf, segments}
-use Rattle.defs.specs.Write.{opens, noStamp, noSerial, mustWait, scarce, placed, sending, openedBy, begunBy, writeChecks, writePlan, writeVerdict}
+use Rattle.defs.specs.Write.{opens, noStamp, noSerial, scarce, placed, sending, openedBy, begunBy, writeChecks, writePlan, writeVerdict}
 use Rattle.laws.specs.Geometry.{Ranged, ranged}
 use Rattle.laws.specs.Ranges.{Test, test, and-left, and-right}
 use Rattle.laws.specs.Ranges.Test.{yes!, no! }
 use Rattle.laws.specs.Stores.{storeAll-append}
 use Rattle.tablesay.specs.Checks.{Passes}
-use Rattle.tablesay.specs.Chunks.{chunk-roomy, all-behind, open-after, chunk-grows}
+use Rattle.tablesay.specs.Chunks.{chunk-roomy, all-behind, open-after}
 use Rattle.tablesay.specs.Filling.{block-long! }
 use Rattle.tablesay.specs.Frame.{Agree, same-remaining, same-sealed, same-core, core}
 use Rattle.tablesay.specs.Going.{buffer-long}
@@ -78,10 +79,12 @@ stored-view p k ss ir w sh ro wi = view-stores p k ss (capacity-word p (ranged p
 
 -- with none missing the segments are tidy
 pub run-tidy : (p : Params) (k : Disk) (m : Memory) → Run p k m → m .state .missing ≡ 0 → Tidy p (seen p k) (m .state .serial .0)
-run-tidy p k m u e = ⊎-elim (λ (x : Lost p k m). clash (eq-eqb (named (x .which)) 0 (sym (x .names-it) ∙ e)) (named-some p (ranged p (u .base .ranged)) (x .which) (x .which-low))) (λ (x : Well p k m). x .healthy .tidy) (u .mode)
+run-tidy p k m u e = ⊎-elim (λ (x : Lost p k m). clash (eq-eqb (named (x .which)) 0 (sym (x .names-it) ∙ e)) (named-some p (ranged p (u .base .ranged)) (x .which) (x .which-low)))
+    (λ (x : Well p k m). x .healthy .tidy) (u .mode)
 
 -- stores done with none missing, in a run that goes on
-pub done-keeps : (p : Params) (k : Disk) (m : Memory) (old : List Segment) (r : After Disk) (ss : List Store) → Run p k m → Run p (r .drives) (r .memory) → r .drives ≡ storeAll (storeDisk p) ss k → r .memory .state .missing ≡ 0
+pub done-keeps : (p : Params) (k : Disk) (m : Memory) (old : List Segment) (r : After Disk) (ss : List Store)
+    → Run p k m → Run p (r .drives) (r .memory) → r .drives ≡ storeAll (storeDisk p) ss k → r .memory .state .missing ≡ 0
     → Roomy p (seen p k) ss → ((s : Store) → In s ss → Within p s) → WellLaid p (storeAll storeView ss (seen p k)) old → Keeps p old r
 done-keeps p k m old r ss u u2 e mz ro wi l =
     let ev : seen p (r .drives) ≡ storeAll storeView ss (seen p k) = ap (seen p) e ∙ stored-view p k ss (u .base .ranged) (whole-of p k m (u .base .lent)) (u .base .shaped) ro wi in
@@ -91,11 +94,11 @@ done-keeps p k m old r ss u u2 e mz ro wi l =
 -- ---- a drive is missing: the third check refuses
 
 -- a list of checks with the third one among the first three leaves all
-stopped : (p : Params) (k : Disk) (m : Memory) (c1 c2 : Bool) (cs : List Check) (q : Plan) (n : ℕ) (b : List ℕ) (r : After Disk) (old : List Segment) → eqb (m .state .missing) 0 ≡ false
+stopped : (p : Params) (k : Disk) (m : Memory) (c1 c2 : Bool) (cs : List Check) (q : Plan) (r : After Disk) (old : List Segment) → eqb (m .state .missing) 0 ≡ false
     → Laid p (seen p k) (m .state .missing) old → Ended p k m (rule 1 c1 ∷ rule 2 c2 ∷ rule 3 (not (eqb (m .state .missing) 0)) ∷ cs) q r → isCut (r .answer) ≡ false → Keeps p old r
-stopped p k m c1 c2 cs q n b r old ms l (ended-refused a e f g h) nc = same-keeps p k m old r l g h
-stopped p k m c1 c2 cs q n b r old ms l (ended-done c f g h) nc = clash (ap not ms) (c .1 .1 .0)
-stopped p k m c1 c2 cs q n b r old ms l (ended-cut c f) nc = clash (ap isCut f ∙ cut-cut) nc
+stopped p k m c1 c2 cs q r old ms l (ended-refused a e f g h) nc = same-keeps p k m old r l g h
+stopped p k m c1 c2 cs q r old ms l (ended-done c f g h) nc = clash (ap not ms) (c .1 .1 .0)
+stopped p k m c1 c2 cs q r old ms l (ended-cut c f) nc = clash (ap isCut f ∙ cut-cut) nc
 
 module _ (p : Params) (k : Disk) (m : Memory) (u : Run p k m) (old : List Segment) (l : Laid p (seen p k) (m .state .missing) old) where
   abbrev v : View
@@ -211,7 +214,7 @@ module _ (p : Params) (k : Disk) (m : Memory) (u : Run p k m) (old : List Segmen
 
     write-lost : Lost p k m → isCut (wr .answer) ≡ false → Keeps p old wr
     unfolding writeChecks
-    write-lost lo nc = stopped p k m _ _ _ _ n b wr old (some-missing lo) l write-ends nc
+    write-lost lo nc = stopped p k m _ _ _ _ wr old (some-missing lo) l write-ends nc
 
     -- 01, Write
     pub laid-write : isCut (wr .answer) ≡ false → Keeps p old wr
@@ -253,7 +256,7 @@ module _ (p : Params) (k : Disk) (m : Memory) (u : Run p k m) (old : List Segmen
 
     close-lost : Lost p k m → isCut (cl .answer) ≡ false → Keeps p old cl
     unfolding closeChecks
-    close-lost lo nc = stopped p k m _ _ _ _ n [] cl old (some-missing lo) l close-ends nc
+    close-lost lo nc = stopped p k m _ _ _ _ cl old (some-missing lo) l close-ends nc
 
     -- 01, Closing
     pub laid-close : isCut (cl .answer) ≡ false → Keeps p old cl
@@ -318,7 +321,8 @@ module _ (p : Params) (k : Disk) (m : Memory) (u : Run p k m) (old : List Segmen
             let e : rplan ≡ resetPlan p m (victimSegment w) = cond-true (isNil (victimLive w)) (resetPlan p m (victimSegment w)) (copyPlan p v m place) q in
             let hg = taken p v (m .addresses) (parts c .0) .taken-low in
             let s = victimSegment w in
-            done-keeps p k m old rc (resetStores p s) u (stepped p k m u (reclaim n) .1 nc) (g ∙ ap (λ (x : Plan). storeAll (storeDisk p) (x .stores) k) e ∙ ap (λ (x : List Store). storeAll (storeDisk p) x k) (reset-stores s))
+            done-keeps p k m old rc (resetStores p s) u (stepped p k m u (reclaim n) .1 nc)
+            (g ∙ ap (λ (x : Plan). storeAll (storeDisk p) (x .stores) k) e ∙ ap (λ (x : List Store). storeAll (storeDisk p) x k) (reset-stores s))
             (ap (λ (x : Memory). x .state .missing) h ∙ ap (λ (x : Plan). x .memory .state .missing) e ∙ reset-missing s ∙ we .none-missing)
             (reset-roomy p rg v (u .base .shaped) s hg) (reset-within p rg v (u .base .shaped) s hg) (reset-laid p rg v (u .base .shaped) old s hg (well-laid we))
         done (no! q) c g h =
@@ -327,9 +331,11 @@ module _ (p : Params) (k : Disk) (m : Memory) (u : Run p k m) (old : List Segmen
             let (nn, c6, c8) = parts c in
             let ns : noSerial p st ≡ false = sym (ap (λ (x : Bool). x && noSerial p st) lv) ∙ c6 in
             let ne : opens p st ≡ true → isNil (emptyZones p v) ≡ false = λ z. zones-left 1 (sym (ap₂ (λ (x y : Bool). x && y && scarce p v 1) lv z) ∙ c8) in
-            let (ro, wi, wl) = sent-laid we ns ne (copyPlan p v m place .stores) (copy-stores place ∙ sending-stores (m .inflight) (copy-rec place .address) (copy-rec place .stamp) 0 (copy-block place)) in
+            let (ro, wi, wl) = sent-laid we ns ne (copyPlan p v m place .stores)
+            (copy-stores place ∙ sending-stores (m .inflight) (copy-rec place .address) (copy-rec place .stamp) 0 (copy-block place)) in
             done-keeps p k m old rc (copyPlan p v m place .stores) u (stepped p k m u (reclaim n) .1 nc) (g ∙ ap (λ (x : Plan). storeAll (storeDisk p) (x .stores) k) e)
-            (ap (λ (x : Memory). x .state .missing) h ∙ ap (λ (x : Plan). x .memory .state .missing) e ∙ copy-missing place ∙ sending-missing (m .inflight) (copy-rec place .address) (copy-rec place .stamp) 0 (copy-block place) ∙ we .none-missing)
+            (ap (λ (x : Memory). x .state .missing) h ∙ ap (λ (x : Plan). x .memory .state .missing) e
+            ∙ copy-missing place ∙ sending-missing (m .inflight) (copy-rec place .address) (copy-rec place .stamp) 0 (copy-block place) ∙ we .none-missing)
             ro wi wl
 
         go : Ended p k m (reclaimChecks p (lentOk p k m) v m w) rplan rc → Keeps p old rc
@@ -339,7 +345,7 @@ module _ (p : Params) (k : Disk) (m : Memory) (u : Run p k m) (old : List Segmen
 
     reclaim-lost : Lost p k m → isCut (rc .answer) ≡ false → Keeps p old rc
     unfolding reclaimChecks
-    reclaim-lost lo nc = stopped p k m _ _ _ _ n [] rc old (some-missing lo) l reclaim-ends nc
+    reclaim-lost lo nc = stopped p k m _ _ _ _ rc old (some-missing lo) l reclaim-ends nc
 
     -- 01, Reclaim
     pub laid-reclaim : isCut (rc .answer) ≡ false → Keeps p old rc
@@ -358,7 +364,8 @@ module _ (p : Params) (k : Disk) (m : Memory) (u : Run p k m) (old : List Segmen
     land-missing : landPlan p v m d s .memory .state .missing ≡ st .missing
     land-missing = unfold landPlan zoneOn in go (seals p st (slotOf st s) d) (completes p st (slotOf st s) d) (slotOf st s) (pointerAt v d (openSegment st) - 1)
       where
-        go : (x y : Bool) (i o : ℕ) → cond x (setClosed (cond y (freeStripe (markLanded st i d o) i) (markLanded st i d o))) (cond y (freeStripe (markLanded st i d o) i) (markLanded st i d o)) .missing ≡ st .missing
+        go : (x y : Bool) (i o : ℕ) → cond x (setClosed (cond y (freeStripe (markLanded st i d o) i) (markLanded st i d o)))
+            (cond y (freeStripe (markLanded st i d o) i) (markLanded st i d o)) .missing ≡ st .missing
         go true true i o = unfold setClosed freeStripe markLanded in refl
         go true false i o = unfold setClosed markLanded in refl
         go false true i o = unfold freeStripe markLanded in refl
@@ -461,7 +468,7 @@ module _ (p : Params) (k : Disk) (m : Memory) (u : Run p k m) (old : List Segmen
 
     land-lost : Lost p k m → isCut (ld .answer) ≡ false → Keeps p old ld
     unfolding landChecks
-    land-lost lo nc = stopped p k m _ _ _ _ n [] ld old (some-missing lo) l land-ends nc
+    land-lost lo nc = stopped p k m _ _ _ _ ld old (some-missing lo) l land-ends nc
 
     -- 01, Landing
     pub laid-land : isCut (ld .answer) ≡ false → Keeps p old ld
@@ -487,10 +494,15 @@ module _ (p : Params) (k : Disk) (m : Memory) (u : Run p k m) (old : List Segmen
     rebuild-well we nc = go rebuild-ends
       where
         parts : namesMissing p st e ≡ true → (e < p .N) × (st .missing ≡ named e)
-        parts t = unfold namesMissing in (ltb-true e (p .N) (and-left (ltb e (p .N)) (eqb (st .missing) (named e)) t), eqb-true (st .missing) (named e) (and-right (ltb e (p .N)) (eqb (st .missing) (named e)) t))
+        parts t = unfold namesMissing in (
+          ltb-true e (p .N) (and-left (ltb e (p .N)) (eqb (st .missing) (named e)) t),
+          eqb-true (st .missing) (named e) (and-right (ltb e (p .N)) (eqb (st .missing) (named e)) t),
+        )
 
         never! : not (inRange p) || not (namesMissing p st e) ≡ false → Keeps p old rb
-        never! q = let (he, x) = parts (not-false (namesMissing p st e) (or-right (not (inRange p)) (not (namesMissing p st e)) q)) in clash (eq-eqb (named e) 0 (sym x ∙ we .none-missing)) (named-some p rg e he)
+        never! q =
+            let (he, x) = parts (not-false (namesMissing p st e) (or-right (not (inRange p)) (not (namesMissing p st e)) q)) in
+            clash (eq-eqb (named e) 0 (sym x ∙ we .none-missing)) (named-some p rg e he)
 
         go : Ended p k m (rebuildChecks p (lentOk p k m) v m e (segments p v (named e))) bplan rb → Keeps p old rb
         go (ended-refused x q f g h) = same-keeps p k m old rb l g h
@@ -507,7 +519,8 @@ module _ (p : Params) (k : Disk) (m : Memory) (u : Run p k m) (old : List Segmen
         subst (λ (x : Zone). ZoneLaid p old (sealedIn p v2 gone g) (segmentOf p v2 gone g .serial) (segmentOf p v2 gone g .copied) d g x) (ag d g hd hg hq)
         (subst (λ (x : ℕ). ZoneLaid p old (sealedIn p v2 gone g) (segmentOf p v2 gone g .serial) x d g (zoneAt v d g)) (copied! g c)
         (subst (λ (x : ℕ). ZoneLaid p old (sealedIn p v2 gone g) x (segmentOf p v gone g .copied) d g (zoneAt v d g)) (serial! g c)
-        (subst (λ (x : Bool). ZoneLaid p old x (segmentOf p v gone g .serial) (segmentOf p v gone g .copied) d g (zoneAt v d g)) (same-sealed p gone v v2 low ag g hg) (laid-zoned p v gone old l g d j hd hq))))
+        (subst (λ (x : Bool). ZoneLaid p old x (segmentOf p v gone g .serial) (segmentOf p v gone g .copied) d g (zoneAt v d g)) (same-sealed p gone v v2 low ag g hg)
+        (laid-zoned p v gone old l g d j hd hq))))
       where
         serial! : (g : ℕ) → core (segmentOf p v (st .missing) g) ≡ core (segmentOf p v2 (st .missing) g) → segmentOf p v (st .missing) g .serial ≡ segmentOf p v2 (st .missing) g .serial
         serial! g c = unfold core in ap (λ (x : Segment). x .serial) c
@@ -526,12 +539,14 @@ module _ (p : Params) (k : Disk) (m : Memory) (u : Run p k m) (old : List Segmen
             let sh = u .base .shaped in
             let ss = rebuildStores p e (segments p v (named e)) in
             let v2 = storeAll storeView ss v in
-            let ev : seen p (rb .drives) ≡ v2 = ap (seen p) g ∙ stored-view p k ss (u .base .ranged) (whole-of p k m (u .base .lent)) sh (rebuild-roomy p rg v sh e he lost) (rebuild-within p rg v sh e he lost) in
+            let ev : seen p (rb .drives) ≡ v2 = ap (seen p) g ∙ stored-view p k ss (u .base .ranged) (whole-of p k m (u .base .lent)) sh
+            (rebuild-roomy p rg v sh e he lost) (rebuild-within p rg v sh e he lost) in
             let low : In (lowDrive p gone) (present p gone) = subst (λ (y : ℕ). In (lowDrive p y) (present p y)) (sym q) (low-present p rg e he) in
             let ag : Agree p gone v v2 = subst (λ (y : ℕ). Agree p y v v2) (sym q) (rebuild-agrees p rg v sh e he lost) in
             let zn : Zoned p (seen p (rb .drives)) gone old = subst (λ (y : View). Zoned p y gone old) (sym ev) (agree-zoned v2 low ag) in
             let mm : rb .memory .state .missing ≡ gone = ap (λ (x : Memory). x .state .missing) h in
-            ⊎-elim (λ (x : Lost p (rb .drives) (rb .memory)). laid-accepted p (seen p (rb .drives)) (rb .memory .state .missing) (x .accepts) old (subst (λ (y : ℕ). Zoned p (seen p (rb .drives)) y old) (sym mm) zn))
+            ⊎-elim (λ (x : Lost p (rb .drives) (rb .memory)).
+            laid-accepted p (seen p (rb .drives)) (rb .memory .state .missing) (x .accepts) old (subst (λ (y : ℕ). Zoned p (seen p (rb .drives)) y old) (sym mm) zn))
             (λ (x : Well p (rb .drives) (rb .memory)). clash (eq-eqb gone 0 (sym mm ∙ x .none-missing)) (some-missing lo)) (stepped p k m u (rebuild e n) .1 nc .mode)
 
         go : Ended p k m (rebuildChecks p (lentOk p k m) v m e (segments p v (named e))) bplan rb → Keeps p old rb

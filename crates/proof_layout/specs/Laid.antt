@@ -15,7 +15,7 @@ use Rattle.defs.specs.Drives.{Chunk, mkChunk, noChunk, Zone, noZone, View, zone
 use Rattle.defs.specs.Faults.{sameChunk, headerFault, twice, footersStored, sameBlocks, footerFaultIn, footerFault}
 use Rattle.defs.specs.Layout.{inGroupOf, headerBlock, headerSerial, headerCopied, Rec, mkRec, footerBlock}
 use Rattle.defs.specs.Lists.{upFrom, any, sameList, isIn}
-use Rattle.defs.specs.Params.{footers, capacity, present}
+use Rattle.defs.specs.Params.{capacity, present}
 use Rattle.defs.specs.Segments.{headerAt, remaining, Segment, recordsIn, segmentOf, segments}
 use Rattle.laws.specs.Geometry.{Ranged}
 use Rattle.laws.specs.Mask.{isIn-empty}
@@ -27,8 +27,8 @@ use Rattle.tablesay.specs.Bounds.{blocks-at}
 use Rattle.tablesay.specs.Members.{In, in-map, in-any, none-in, in-getD, is-member, member-is}
 use Rattle.tablesay.specs.Run.{usedAt, Tidy}
 use Rattle.tablesay.specs.Sealing.{sparesIn}
-use Rattle.tablesay.specs.Segs.{in-present, remaining-low, length-records, record-at, zone-by, seg-is, serial-is, copied-is, full-is}
-use Rattle.tablesay.specs.Settled.{low-first, used-remains, remains-is-used, serial-of, SameZones, zones-sealed, zones-header, zones-used}
+use Rattle.tablesay.specs.Segs.{in-present, length-records, record-at, zone-by, seg-is, copied-is, full-is}
+use Rattle.tablesay.specs.Settled.{low-first, used-remains, remains-is-used, serial-of, SameZones, zones-sealed, zones-header}
 use Rattle.tablesay.specs.Tests.{clash, true-false, or-left, or-right, eqb-self}
 
 -- 01, What a zone holds: all of the layout but the parity
@@ -180,7 +180,8 @@ same-blocks (a ∷ s) (b ∷ t) q = ap₂ _∷_ (sameList-true a b (and-left (sa
 pub checked-footers : (p : Params) (q : Zone) → footerFaultIn p q ≡ false → (i : ℕ) → i < footersStored p q → getD (q .blocks) (1 + p .S + i) noChunk .block ≡ footerBlock p (sparesIn p q) i
 checked-footers p q f i h =
     let n = footersStored p q in
-    let e : blocksOf (take n (drop (1 + p .S) (q .blocks))) ≡ map (footerBlock p (sparesIn p q)) (upFrom 0 n) = same! (same-blocks (blocksOf (take n (drop (1 + p .S) (q .blocks)))) (footersOf p q 0 n) (fault! f)) in
+    let e : blocksOf (take n (drop (1 + p .S) (q .blocks))) ≡ map (footerBlock p (sparesIn p q)) (upFrom 0 n) =
+    same! (same-blocks (blocksOf (take n (drop (1 + p .S) (q .blocks)))) (footersOf p q 0 n) (fault! f)) in
     ap (λ (c : Chunk). c .block) (sym (getD-take n (drop (1 + p .S) (q .blocks)) i noChunk h ∙ getD-drop (1 + p .S) (q .blocks) i noChunk))
     ∙ sym (blocks-at (take n (drop (1 + p .S) (q .blocks))) i) ∙ ap (λ (l : List (List ℕ)). getD l i []) e
     ∙ getD-map (footerBlock p (sparesIn p q)) (upFrom 0 n) i [] 0 (subst (λ (x : ℕ). i < x) (sym (length-upFrom 0 n)) h) ∙ ap (footerBlock p (sparesIn p q)) (getD-upFrom 0 n i 0 h ∙ zero-add i)
@@ -195,7 +196,8 @@ module _ (p : Params) (v : View) (gone : ℕ) (acc : Accepted p v gone) where
   -- 01, Refusals, 9: the header
   checked-header : (g d : ℕ) → In g (remaining p v gone) → d < p .N → isIn gone d ≡ false
       → getD (zoneAt v d g .blocks) 0 noChunk ≡ mkChunk (headerBlock p d g (segmentOf p v gone g .serial) (segmentOf p v gone g .copied)) zeroSpare
-  checked-header g d m hd hq = chunk! (zone! (not-false (same (getD (x .zonesBy) d noZone) (x .seg)) (none-in fault (present p gone) (as! (faults-apart p v gone acc g m .no-header-fault)) d (in-present p gone d hd hq))))
+  checked-header g d m hd hq = chunk! (zone! (not-false (same (getD (x .zonesBy) d noZone) (x .seg))
+      (none-in fault (present p gone) (as! (faults-apart p v gone acc g m .no-header-fault)) d (in-present p gone d hd hq))))
     where
       x : Segment
       x = segmentOf p v gone g
@@ -204,7 +206,8 @@ module _ (p : Params) (v : View) (gone : ℕ) (acc : Accepted p v gone) where
       same q y = sameChunk (getD (q .blocks) 0 noChunk) (headerBlock p d y (segmentOf p v gone g .serial) (segmentOf p v gone g .copied)) zeroSpare
 
       fault : ℕ → Bool
-      fault e = not (sameChunk (getD (getD (segmentOf p v gone g .zonesBy) e noZone .blocks) 0 noChunk) (headerBlock p e (segmentOf p v gone g .seg) (segmentOf p v gone g .serial) (segmentOf p v gone g .copied)) zeroSpare)
+      fault e = not (sameChunk (getD (getD (segmentOf p v gone g .zonesBy) e noZone .blocks) 0 noChunk)
+          (headerBlock p e (segmentOf p v gone g .seg) (segmentOf p v gone g .serial) (segmentOf p v gone g .copied)) zeroSpare)
 
       as! : headerFault p gone (segmentOf p v gone g) ≡ false → any fault (present p gone) ≡ false
       as! e = unfold headerFault zoneOn in e

@@ -1,7 +1,7 @@
 -- What a read gives, in plain terms: the best of a list is beaten by none of it, and its place leads back to its stripe. Assumes nothing.
 use mathlib.Core.Path.{_≡_, refl, sym, ap, ap₂, _∙_, subst}
 use mathlib.Core.List.{List, [], _∷_}
-use mathlib.Core.Bool.{Bool, true, false, cond}
+use mathlib.Core.Bool.{false, cond}
 use mathlib.Core.Logic.{inl, inr}
 use Prim.Native.Nat.{ℕ}
 use native.Mathlib.Omega.{arith}
@@ -102,16 +102,19 @@ module _ (p : Params) (v : View) (gone a : ℕ) where
   said = candidates p gone (segments p v gone)
 
   recorded-in : (c : Cand) → Recorded p v gone a c → In c (candsOf a said)
-  recorded-in c k = of-at a said c (at-cand p v gone c (record {
-    of = k .segment;
-    stripe = k .stripe;
-    position = dataPosition p (k .stripe) (k .drive);
-    remains = is-member (k .segment) (remaining p v gone) (k .segment-remains);
-    stripe-low = k .stripe-low;
-    it-counts = k .stripe-counts;
-    position-low = position-lt p (k .stripe) (k .drive) (k .drive-data) (k .drive-low);
-    it-is = k .it-is ∙ ap (candOf p gone (segmentOf p v gone (k .segment)) (k .stripe)) (sym (drive-position p (k .stripe) (k .drive) (k .drive-data)));
-  }), k .of-address)
+  recorded-in c k = of-at a said c (
+    at-cand p v gone c (record {
+      of = k .segment;
+      stripe = k .stripe;
+      position = dataPosition p (k .stripe) (k .drive);
+      remains = is-member (k .segment) (remaining p v gone) (k .segment-remains);
+      stripe-low = k .stripe-low;
+      it-counts = k .stripe-counts;
+      position-low = position-lt p (k .stripe) (k .drive) (k .drive-data) (k .drive-low);
+      it-is = k .it-is ∙ ap (candOf p gone (segmentOf p v gone (k .segment)) (k .stripe)) (sym (drive-position p (k .stripe) (k .drive) (k .drive-data)));
+    }),
+    k .of-address,
+  )
 
   in-recorded : (c : Cand) → CandAt p v gone c → c .address ≡ a → Recorded p v gone a c
   in-recorded c k e = record {
@@ -128,7 +131,8 @@ module _ (p : Params) (v : View) (gone a : ℕ) where
   }
 
   -- the block that a read gives is that of the record's stripe and drive
-  block-of : (r : Ranged p) (c : Cand) (k : CandAt p v gone c) → saidBlock p v gone (some c) ≡ got (pieceOf p gone (segmentOf p v gone (k .of)) (k .stripe) (dataDrive p (k .stripe) (k .position)) .block)
+  block-of : (r : Ranged p) (c : Cand) (k : CandAt p v gone c)
+      → saidBlock p v gone (some c) ≡ got (pieceOf p gone (segmentOf p v gone (k .of)) (k .stripe) (dataDrive p (k .stripe) (k .position)) .block)
   block-of r c k =
       let t = spot-of p r v gone c k in
       let d = c .drive in
@@ -143,7 +147,9 @@ module _ (p : Params) (v : View) (gone a : ℕ) where
       drive! : c .drive ≡ dataDrive p (k .stripe) (k .position)
       drive! = unfold candOf in ap (λ (x : Cand). x .drive) (k .it-is)
 
-      as! : saidBlock p v gone (some c) ≡ got (pieceOf p gone (segmentOf p v gone (placeSegment p (c .place))) (cond (isIn gone (c .drive)) (c .offset) (recordAt p v gone (c .drive) (placeSegment p (c .place)) (c .offset) .stripe)) (c .drive) .block)
+      as! : saidBlock p v gone (some c)
+          ≡ got (pieceOf p gone (segmentOf p v gone (placeSegment p (c .place)))
+          (cond (isIn gone (c .drive)) (c .offset) (recordAt p v gone (c .drive) (placeSegment p (c .place)) (c .offset) .stripe)) (c .drive) .block)
       as! = unfold saidBlock in refl
 
       stripe! : Spot p v gone c → Test (isIn gone (c .drive)) → cond (isIn gone (c .drive)) (c .offset) (recordAt p v gone (c .drive) (k .of) (c .offset) .stripe) ≡ k .stripe

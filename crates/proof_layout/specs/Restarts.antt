@@ -1,22 +1,20 @@
 -- What a finished restart says and leaves: its answer, the drive that it names, and the layout on any image that it accepts. Assumes nothing.
-use mathlib.Core.Path.{_≡_, refl, sym, ap, ap₂, _∙_, subst}
+use mathlib.Core.Path.{_≡_, refl, sym, ap, _∙_, subst}
 use mathlib.Core.List.{List, [], _∷_, _++_, map, append-nil}
 use mathlib.Core.Bool.{Bool, true, false, cond, not, _&&_}
 use mathlib.Core.Logic.{inl, ⊎-elim}
-use Prim.Native.Nat.{ℕ, suc, _+_, _-_, _^_, _≤_, _<_}
+use Prim.Native.Nat.{ℕ, suc, _+_, _-_, _^_, _<_}
 use native.Mathlib.Decide.{ℕ-discrete}
-use borrow.Author.Tests.{eq-eqb, ne-eqb, eqb-false, not-true}
+use borrow.Author.Tests.{eq-eqb, eqb-false, not-true}
 use native.Mathlib.Omega.{arith}
 use lib.Dec.{eqb}
 use lib.ListN.{length, getD}
 use Rattle.defs.specs.declared.Params.{Params}
-use Rattle.defs.specs.declared.Answer.{Answer}
 use Rattle.defs.specs.declared.Answer.the-variants.{Restarted}
-use Rattle.defs.specs.declared.Report.{Report}
 use Rattle.defs.specs.Answers.{kind, isCut, finished}
 use Rattle.defs.specs.Calls.{After}
 use Rattle.defs.specs.Counts.{lastCount}
-use Rattle.defs.specs.Drives.{Chunk, mkChunk, noChunk, Zone, View, zoneAt, pointerAt, chunkAt, Store, storeView, Disk, storeDisk, storeAll, zoneOn, sealedIn, dataStored, recordIn, zeroSpare}
+use Rattle.defs.specs.Drives.{Chunk, noChunk, Zone, View, zoneAt, pointerAt, chunkAt, Store, storeView, Disk, storeDisk, storeAll, zoneOn, sealedIn}
 use Rattle.defs.specs.Engine.{callDisk}
 use Rattle.defs.specs.Engine.Call.{restart}
 use Rattle.defs.specs.Faults.{footersStored}
@@ -24,8 +22,8 @@ use Rattle.defs.specs.History.{mkWorld}
 use Rattle.defs.specs.Layout.{headerBlock, headerSerial, headerCopied}
 use Rattle.defs.specs.Lists.{below, all, any, keep, tally, isNil, flat, total, firstOr}
 use Rattle.defs.specs.Memory.{Memory}
-use Rattle.defs.specs.Params.{footers, capacity, named, present}
-use Rattle.defs.specs.Restart.{freeZones, isWhole, isRagged, missingFooters, rewriteStores, dropStores, mendStores, restartStores, restartMemory, uncountedIn, reportOf, rewrites, restartPlan}
+use Rattle.defs.specs.Params.{capacity, named, present}
+use Rattle.defs.specs.Restart.{freeZones, isWhole, isRagged, missingFooters, rewriteStores, dropStores, mendStores, restartStores, uncountedIn, reportOf, rewrites, restartPlan}
 use Rattle.defs.specs.Segments.{lowDrive, headerAt, remaining, Segment, segmentOf, segments, counts, counted, uncounted, greatestSerial, unsealed}
 use Rattle.laws.specs.Geometry.{Ranged, ranged}
 use Rattle.laws.specs.Mask.{isIn-empty}
@@ -50,7 +48,7 @@ use Rattle.tablesay.specs.Restarting.{mended, serials-small, names-none}
 use Rattle.tablesay.specs.Rewriting.{old-pointer, same-else, new-pointer, new-stripe, new-header, open-now}
 use Rattle.tablesay.specs.Run.{usedAt, Run}
 use Rattle.tablesay.specs.Segs.{present-in, data-low, serial-is, copied-is}
-use Rattle.tablesay.specs.Settled.{low-first, SameZones, zones-used}
+use Rattle.tablesay.specs.Settled.{low-first, zones-used}
 use Rattle.tablesay.specs.Starting.{memory-missing, startChecks, startPlan, Begins, begins}
 use Rattle.tablesay.specs.Tables.{remains, in-remaining}
 use Rattle.tablesay.specs.Tests.{clash, cond-true, cond-false}
@@ -74,13 +72,11 @@ uncounted-is p v gone = ap total (map-map (λ (g : Segment). length (uncounted p
     same! : map (λ g. length (uncounted p gone (segmentOf p v gone g))) (remaining p v gone) ≡ map (halfStored p v gone) (remaining p v gone)
     same! = unfold halfStored uncounted counts tally in refl
 
-pub restarts-say : (p : Params) (k : Disk) (m : Memory) (d n : ℕ) → finished (callDisk p k m (restart d n) .answer) ≡ true → Restarts onValues p (mkWorld k m) d (callWorld p (mkWorld k m) (restart d n))
+pub restarts-say : (p : Params) (k : Disk) (m : Memory) (d n : ℕ) → finished (callDisk p k m (restart d n) .answer) ≡ true
+    → Restarts onValues p (mkWorld k m) d (callWorld p (mkWorld k m) (restart d n))
 unfolding callWorld viewIn
 restarts-say p k m d n q = go (restart-ends p k m d n)
   where
-    a : After Disk
-    a = callDisk p k m (restart d n)
-
     answer! : startPlan p k m d .answer ≡ Restarted (record { uncounted = uncountedNumber p (seen p k) (named d) })
     answer! = unfold restartPlan reportOf in ap (λ (x : ℕ). Restarted (record { uncounted = x })) (uncounted-is p (seen p k) (named d))
 
@@ -113,7 +109,8 @@ module _ (p : Params) (r : Ranged p) (v : View) (sh : Shaped p v) (acc : Accepte
   kept-seg y hy q d hd =
       subst (λ (x : ℕ). ZoneLaid p gs (sealedIn p v 0 y) (headerSerial (headerAt v x y)) (headerCopied (headerAt v x y)) d y (zoneAt v d y)) (low-first p r)
       (subst (λ (x : ℕ). ZoneLaid p gs (sealedIn p v 0 y) (headerSerial (headerAt v (lowDrive p 0) y)) x d y (zoneAt v d y)) (copied-is p v 0 y)
-      (subst (λ (x : ℕ). ZoneLaid p gs (sealedIn p v 0 y) x (segmentOf p v 0 y .copied) d y (zoneAt v d y)) (serial-is p v 0 y) (accepted-zoned p v 0 acc y d (in-remaining p v 0 y hy q) hd (isIn-empty d))))
+      (subst (λ (x : ℕ). ZoneLaid p gs (sealedIn p v 0 y) x (segmentOf p v 0 y .copied) d y (zoneAt v d y)) (serial-is p v 0 y)
+      (accepted-zoned p v 0 acc y d (in-remaining p v 0 y hy q) hd (isIn-empty d))))
 
   -- what doesn't remain is reset
   drop-laid : WellLaid p va gs
@@ -142,7 +139,8 @@ module _ (p : Params) (r : Ranged p) (v : View) (sh : Shaped p v) (acc : Accepte
             as! e = unfold headerAt chunkAt zoneOn in e
 
         sealed-now : sealedIn p vb 0 g ≡ true
-        sealed-now = as! (in-all (λ e. eqb (pointerAt vb e g) (capacity p)) (present p 0) (λ e i. eq-eqb (pointerAt vb e g) (capacity p) (b-pointer p r v sh acc g hg kg ng oth wh e (present-in p 0 e i .0))))
+        sealed-now = as! (in-all (λ e. eqb (pointerAt vb e g) (capacity p)) (present p 0)
+            (λ e i. eq-eqb (pointerAt vb e g) (capacity p) (b-pointer p r v sh acc g hg kg ng oth wh e (present-in p 0 e i .0))))
           where
             as! : all (λ e. eqb (pointerAt vb e g) (capacity p)) (present p 0) ≡ true → sealedIn p vb 0 g ≡ true
             as! q = unfold sealedIn zoneOn in q
@@ -172,7 +170,8 @@ module _ (p : Params) (r : Ranged p) (v : View) (sh : Shaped p v) (acc : Accepte
         vc = storeAll storeView (rewriteStores p x z0 (suc (greatestSerial gs))) va
 
         serial-low : x .serial < 256 ^ 8
-        serial-low = let a = kept-known p r v sh acc g hg kg in let e : x .serial ≡ headerSerial (headerAt v 0 g) = serial-is p v 0 g ∙ ap (λ (y : ℕ). headerSerial (headerAt v y g)) (low-first p r) in omega arith
+        serial-low = let a = kept-known p r v sh acc g hg kg in
+            let e : x .serial ≡ headerSerial (headerAt v 0 g) = serial-is p v 0 g ∙ ap (λ (y : ℕ). headerSerial (headerAt v y g)) (low-first p r) in omega arith
 
         head : headerAt vc 0 z0 ≡ headerBlock p 0 z0 sn (x .serial)
         head = as! (ap (λ (c : Chunk). c .block) (new-header p r v sh acc g hg kg ng oth z0 hz0 fz fit 0 h0))
@@ -288,7 +287,8 @@ module _ (p : Params) (k : Disk) (m : Memory) (d n : ℕ) (shk : Whole p k → S
       let sh = shk w in
       let gs = segments p v 0 in
       let acc : Accepted p v 0 = subst (λ (x : ℕ). Accepted p v x) nd (b .accepted!) in
-      let c6 : rewrites p 0 gs && eqb (greatestSerial gs) lastCount ≡ false = subst (λ (x : ℕ). rewrites p x (segments p v x) && eqb (greatestSerial (segments p v x)) lastCount ≡ false) nd (b .sixth!) in
+      let c6 : rewrites p 0 gs && eqb (greatestSerial gs) lastCount ≡ false =
+      subst (λ (x : ℕ). rewrites p x (segments p v x) && eqb (greatestSerial (segments p v x)) lastCount ≡ false) nd (b .sixth!) in
       let c8 : rewrites p 0 gs && isNil (freeZones p gs) ≡ false = subst (λ (x : ℕ). rewrites p x (segments p v x) && isNil (freeZones p (segments p v x)) ≡ false) nd (b .eighth!) in
       let bd = serials-small p r v sh in
       let md = mended p r v sh acc c6 c8 bd in
@@ -297,11 +297,13 @@ module _ (p : Params) (k : Disk) (m : Memory) (d n : ℕ) (shk : Whole p k → S
       let es : startPlan p k m d .stores ≡ ds ++ ts = stores-are ∙ ap (λ (x : ℕ). restartStores p x (segments p v x)) nd ∙ zero! in
       let ev : seen p (a .drives) ≡ storeAll storeView ts (storeAll storeView ds v) =
       ap (seen p) (g ∙ ap (λ (x : List Store). storeAll (storeDisk p) x k) es)
-      ∙ stored-view p k (ds ++ ts) (b .in-range!) w sh (roomy-append p v ds ts (sh .sized) (drop-roomy p r v sh acc) (md .mend-roomy)) (within-append p ds ts (drop-within p r v sh acc) (md .mend-within))
+      ∙ stored-view p k (ds ++ ts) (b .in-range!) w sh (roomy-append p v ds ts (sh .sized) (drop-roomy p r v sh acc) (md .mend-roomy))
+      (within-append p ds ts (drop-within p r v sh acc) (md .mend-within))
       ∙ storeAll-append storeView ds ts v in
       let u = restart-finished p k m d n shk fin in
       let wl : WellLaid p (seen p (a .drives)) gs = subst (λ (x : View). WellLaid p x gs) (sym ev) (mended-laid p r v sh acc c6 c8 bd) in
-      subst (λ (x : ℕ). Laid p (seen p (a .drives)) x (segments p v x)) (sym nd) (laid-tidy p r (seen p (a .drives)) (a .memory .state .serial .0) (run-tidy p (a .drives) (a .memory) u (mm ∙ nd)) gs wl)
+      subst (λ (x : ℕ). Laid p (seen p (a .drives)) x (segments p v x)) (sym nd)
+      (laid-tidy p r (seen p (a .drives)) (a .memory .state .serial .0) (run-tidy p (a .drives) (a .memory) u (mm ∙ nd)) gs wl)
     where
       zero! : restartStores p 0 (segments p v 0) ≡ dropStores p (segments p v 0) ++ flat (mendStores p (segments p v 0)) (unsealed (segments p v 0))
       zero! = unfold restartStores in refl
@@ -335,8 +337,10 @@ laid-again p k m u old l d n nc = go (test (finished (callDisk p k m (restart d 
 
     go : Test (finished (callDisk p k m (restart d n) .answer)) → Ended p k m (startChecks p k m d) (startPlan p k m d) (callDisk p k m (restart d n))
         → Keeps p (cond (finished (callDisk p k m (restart d n) .answer)) (segments p (seen p k) (named d)) old) (callDisk p k m (restart d n))
-    go (yes! q) x = subst (λ (y : List Segment). Keeps p y (callDisk p k m (restart d n))) (sym (cond-true (finished (a .answer)) (segments p (seen p k) (named d)) old q)) (laid-first p k m d n (λ w. u .base .shaped) q)
-    go (no! q) (ended-refused x e f g h) = subst (λ (y : List Segment). Keeps p y (callDisk p k m (restart d n))) (sym (cond-false (finished (a .answer)) (segments p (seen p k) (named d)) old q)) (same-keeps p k m old (callDisk p k m (restart d n)) l g h)
+    go (yes! q) x = subst (λ (y : List Segment). Keeps p y (callDisk p k m (restart d n))) (sym (cond-true (finished (a .answer)) (segments p (seen p k) (named d)) old q))
+        (laid-first p k m d n (λ w. u .base .shaped) q)
+    go (no! q) (ended-refused x e f g h) = subst (λ (y : List Segment). Keeps p y (callDisk p k m (restart d n)))
+        (sym (cond-false (finished (a .answer)) (segments p (seen p k) (named d)) old q)) (same-keeps p k m old (callDisk p k m (restart d n)) l g h)
     go (no! q) (ended-done c f g h) = clash (ap finished f ∙ done!) q
       where
         done! : finished (startPlan p k m d .answer) ≡ true

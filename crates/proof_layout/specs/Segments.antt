@@ -1,9 +1,9 @@
 -- What the stores of a call do to the used segments, with none missing: one is opened, a chunk lands, one is sealed, one is reset. Assumes nothing.
-use mathlib.Core.Path.{_≡_, refl, sym, ap, ap₂, _∙_, subst}
-use mathlib.Core.List.{List, [], _∷_}
+use mathlib.Core.Path.{_≡_, refl, sym, _∙_, subst}
+use mathlib.Core.List.{List}
 use mathlib.Core.Bool.{Bool, true, false}
 use mathlib.Core.Logic.{inl, inr}
-use Prim.Native.Nat.{ℕ, suc, _+_, _-_, _^_, _≤_, _<_}
+use Prim.Native.Nat.{ℕ, suc, _+_, _-_, _^_, _<_}
 use native.Mathlib.Nat.{sub-zero}
 use native.Mathlib.Decide.{ℕ-discrete}
 use borrow.Author.Tests.{eq-eqb, lt-ltb}
@@ -12,7 +12,7 @@ use lib.Dec.{ltb, eqb, lit<}
 use lib.ListN.{length}
 use Rattle.defs.specs.declared.Params.{Params}
 use Rattle.defs.specs.declared.State.{State}
-use Rattle.defs.specs.Drives.{Chunk, Zone, View, zoneAt, pointerAt, Store, putZone, storeView, storeAll, sealedIn, zeroSpare, headerStores, recordIn, resetStores}
+use Rattle.defs.specs.Drives.{Zone, View, zoneAt, pointerAt, putZone, storeView, storeAll, sealedIn, headerStores, resetStores}
 use Rattle.defs.specs.Drives.Store.{put}
 use Rattle.defs.specs.Landing.{ready, flightRec, sealStores}
 use Rattle.defs.specs.Layout.{group, inGroupOf, headerBlock, headerSerial, headerCopied, recordBytes}
@@ -22,7 +22,6 @@ use Rattle.defs.specs.Segments.{headerAt, Segment}
 use Rattle.laws.specs.Geometry.{Ranged}
 use Rattle.laws.specs.Ranges.{and-both}
 use Rattle.tablesay.specs.Chunks.{not-landed, pointer-some, pointer-data, offset-group, stripe-of, chunk-zone, chunk-other, chunk-grows, open-before, open-after}
-use Rattle.tablesay.specs.Growing.{Grows}
 use Rattle.tablesay.specs.Heading.{header-zone, header-other, header-block}
 use Rattle.tablesay.specs.Idle.{StateOk}
 use Rattle.tablesay.specs.Laid.{header-serial, header-copied}
@@ -92,7 +91,8 @@ module _ (p : Params) (r : Ranged p) (v : View) (sh : Shaped p v) (st : State) (
   chunk-seg f e he =
       subst (λ (c : List ℕ). ZoneLaid p old (sealedIn p v1 0 z) (headerSerial c) (headerCopied c) e z (zoneAt v1 e z)) (chunk-grows p r v sh st h so z oz d i hd hi fi rd b lb .same-head)
       (subst (λ (w : Bool). ZoneLaid p old w (headerSerial (headerAt v 0 z)) (headerCopied (headerAt v 0 z)) e z (zoneAt v1 e z)) (sym (open-after p r v sh st h so z oz d i hd hi fi rd b lb))
-      (go (ℕ-discrete d e) (subst (λ (w : Bool). ZoneLaid p old w (headerSerial (headerAt v 0 z)) (headerCopied (headerAt v 0 z)) e z (zoneAt v e z)) (open-before p r v sh st h so z oz d i hd hi fi rd b lb) (f e he))))
+      (go (ℕ-discrete d e) (subst (λ (w : Bool). ZoneLaid p old w (headerSerial (headerAt v 0 z)) (headerCopied (headerAt v 0 z)) e z (zoneAt v e z))
+      (open-before p r v sh st h so z oz d i hd hi fi rd b lb) (f e he))))
     where
       sn : ℕ
       sn = headerSerial (headerAt v 0 z)
@@ -112,7 +112,8 @@ module _ (p : Params) (r : Ranged p) (v : View) (sh : Shaped p v) (st : State) (
 
       go : Dec (d ≡ e) → ZoneLaid p old false sn cn e z (zoneAt v e z) → ZoneLaid p old false sn cn e z (zoneAt v1 e z)
       go (yes q) x = subst (λ (n : ℕ). ZoneLaid p old false sn cn n z (zoneAt v1 n z)) q
-          (subst (λ (y : Zone). ZoneLaid p old false sn cn d z y) (sym (chunk-zone p r v sh st h so z oz d i hd hi fi rd b lb)) (here (subst (λ (n : ℕ). ZoneLaid p old false sn cn n z (zoneAt v n z)) (sym q) x)))
+          (subst (λ (y : Zone). ZoneLaid p old false sn cn d z y) (sym (chunk-zone p r v sh st h so z oz d i hd hi fi rd b lb))
+          (here (subst (λ (n : ℕ). ZoneLaid p old false sn cn n z (zoneAt v n z)) (sym q) x)))
       go (no n) x = subst (λ (y : Zone). ZoneLaid p old false sn cn e z y) (sym (chunk-other p r v sh st h so z oz d i hd hi fi rd b lb e z he hz (inl n))) x
 
   pub chunk-laid : usedAt v z ≡ true → WellLaid p v old → WellLaid p v1 old
@@ -132,8 +133,10 @@ seal-laid p r v sh old z hz behind us ns l = all-but p r v u old z (seal-other p
         let sn = headerSerial (headerAt v 0 z) in
         let cn = headerCopied (headerAt v 0 z) in
         let m : ZoneLaid p old true sn cn e z (putAll e z (footerChunks p q 0 (footers p - 0)) q) =
-        mend-laid p r e z q (sh .zone-ok e z he hz) 0 (omega arith) (zone-pointer v e z (1 + p .S) (behind e he) ∙ (let y : 1 + p .S ≡ 1 + p .S + 0 = omega arith in y)) (λ j k. absurd (let bad : ⊥ = omega arith in bad)) old sn cn
+        mend-laid p r e z q (sh .zone-ok e z he hz) 0 (omega arith) (zone-pointer v e z (1 + p .S) (behind e he) ∙ (let y : 1 + p .S ≡ 1 + p .S + 0 = omega arith in y))
+        (λ j k. absurd (let bad : ⊥ = omega arith in bad)) old sn cn
         (subst (λ (w : Bool). ZoneLaid p old w sn cn e z q) ns (f e he)) in
         subst (λ (c : List ℕ). ZoneLaid p old (sealedIn p u 0 z) (headerSerial c) (headerCopied c) e z (zoneAt u e z)) (seal-grows p r v sh z hz behind .same-head)
         (subst (λ (w : Bool). ZoneLaid p old w sn cn e z (zoneAt u e z)) (sym (seal-sealed p r v sh z hz behind))
-        (subst (λ (y : Zone). ZoneLaid p old true sn cn e z y) (sym (seal-zone p r v sh z hz behind e he)) (subst (λ (n : ℕ). ZoneLaid p old true sn cn e z (putAll e z (footerChunks p q 0 n) q)) (sub-zero (footers p)) m)))
+        (subst (λ (y : Zone). ZoneLaid p old true sn cn e z y) (sym (seal-zone p r v sh z hz behind e he))
+        (subst (λ (n : ℕ). ZoneLaid p old true sn cn e z (putAll e z (footerChunks p q 0 n) q)) (sub-zero (footers p)) m)))

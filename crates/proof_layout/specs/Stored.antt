@@ -2,13 +2,13 @@
 use mathlib.Core.Path.{_≡_, refl, sym, ap, _∙_, subst}
 use mathlib.Core.List.{List, []}
 use mathlib.Core.Bool.{Bool, true, false}
-use Prim.Native.Nat.{ℕ, suc, _+_, _-_, _*_, _/_, _%_, _^_, min, _≤_, _<_}
-use native.Mathlib.Nat.{zero-add, div-lt-iff-lt-mul}
+use Prim.Native.Nat.{ℕ, suc, _+_, _-_, _*_, _/_, _%_, min, _≤_, _<_}
+use native.Mathlib.Nat.{div-lt-iff-lt-mul}
 use native.Mathlib.Decide.{decLt, ℕ-discrete}
 use borrow.Author.Tests.{eq-eqb, lt-ltb}
 use native.Mathlib.Omega.{arith}
 use lib.Dec.{ltb, eqb}
-use lib.ListN.{length, getD, set, take, drop}
+use lib.ListN.{length, getD, set, drop}
 use lib.Seq.{ext-getD, getD-set-same, getD-set-other, getD-drop}
 use Rattle.defs.specs.declared.Params.{Params}
 use Rattle.defs.specs.Bytes.{part}
@@ -19,7 +19,6 @@ use Rattle.defs.specs.Params.{spareLen, perFooter, footers, capacity}
 use Rattle.defs.specs.Segments.{Segment}
 use Rattle.laws.specs.Geometry.{Ranged, per-footer-low, footers-cover}
 use Rattle.laws.specs.Ranges.{and-both}
-use Rattle.spec_demands.specs.Layouts.{foundSealed}
 use Rattle.tablesay.specs.Bounds.{blocks-at}
 use Rattle.tablesay.specs.Laid.{record-stripe, getD-footer}
 use Rattle.tablesay.specs.Puts.{putAll, puts-pointer, puts-old, puts-new}
@@ -170,7 +169,8 @@ module _ (p : Params) (r : Ranged p) (d g : ℕ) (q : Zone) (k : ZoneOk p q) (i 
           let e : 1 + p .S + j ≡ q .pointer + x = (let a = at in omega arith) in
           let hx : x < footers p - i = omega arith in
           ap (λ (c : Chunk). c .block) (ap (λ (y : ℕ). getD (q2 .blocks) y noChunk) e
-          ∙ puts-new d g cs q x (let c = count2 in omega arith) (let c = count2 in let a = at in let l = k .blocks-long in let y = capacity-is p r in omega arith) ∙ footer-chunk p r q k i (footers p - i) x hx)
+          ∙ puts-new d g cs q x (let c = count2 in omega arith) (let c = count2 in let a = at in let l = k .blocks-long in let y = capacity-is p r in omega arith)
+          ∙ footer-chunk p r q k i (footers p - i) x hx)
           ∙ ap (footerBlock p (sparesIn p q)) (let z : i + (j - i) ≡ j = omega arith in z)
 
   full-data : (q′ : Zone) → 1 + p .S ≤ q′ .pointer → dataStored p q′ ≡ p .S
@@ -188,7 +188,7 @@ module _ (p : Params) (r : Ranged p) (d g : ℕ) (q : Zone) (k : ZoneOk p q) (i 
             let h : o < p .S = subst (λ (n : ℕ). o < n) n2 l in
             let h2 : j < p .S = subst (λ (n : ℕ). j < n) n2 m in
             z .once-is o j (subst (λ (n : ℕ). o < n) (sym n1) h) (subst (λ (n : ℕ). j < n) (sym n1) h2)
-                (ap (λ (x : Rec). x .stripe) (sym (read-footers p r q q2 k made2 o h)) ∙ e ∙ ap (λ (x : Rec). x .stripe) (read-footers p r q q2 k made2 j h2));
+            (ap (λ (x : Rec). x .stripe) (sym (read-footers p r q q2 k made2 o h)) ∙ e ∙ ap (λ (x : Rec). x .stripe) (read-footers p r q q2 k made2 j h2));
         footer-is = λ n j l. made2 j (low j l) ∙ ap (λ (y : List (List ℕ)). footerBlock p y j) (sym spares2);
       }
     where
