@@ -4,3 +4,4 @@ pub mod Engines
 pub mod Layouts
 pub mod Histories
 pub mod Tables
+pub mod Latest

@@ -82,7 +82,7 @@ module _ (p : Params) (r : Ranged p) (v : View) (sh : Shaped p v) (st : State) (
 
   -- ---- the pointer
 
-  not-landed : isIn (landedIn st i) d ≡ false
+  pub not-landed : isIn (landedIn st i) d ≡ false
   not-landed = go rd
     where
       go : ready p st i d ≡ true → isIn (landedIn st i) d ≡ false
@@ -129,7 +129,7 @@ module _ (p : Params) (r : Ranged p) (v : View) (sh : Shaped p v) (st : State) (
   abbrev rc : Rec
   rc = flightRec p st i d
 
-  stripe-of : rc .stripe ≡ s
+  pub stripe-of : rc .stripe ≡ s
   stripe-of = go (test (isData p s d))
     where
       go : Test (isData p s d) → flightRec p st i d .stripe ≡ s

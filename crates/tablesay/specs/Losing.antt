@@ -169,7 +169,7 @@ module _ (p : Params) (k : Disk) (m : Memory) (u : Run p k m) (lo : Lost p k m) 
         let a : Accepted p v (named e) = subst (λ (x : ℕ). Accepted p v x) (sym q) (lo .accepts) in
         checks-of p v (named e) a
 
-    named-same : not (inRange p) || not (namesMissing p (m .state) e) ≡ false → (e < p .N) × (m .state .missing ≡ named e)
+    pub named-same : not (inRange p) || not (namesMissing p (m .state) e) ≡ false → (e < p .N) × (m .state .missing ≡ named e)
     unfolding namesMissing
     named-same q =
         let t = not-false (ltb e (p .N) && eqb (m .state .missing) (named e)) (or-right (not (inRange p)) (not (ltb e (p .N) && eqb (m .state .missing) (named e))) q) in

@@ -95,7 +95,7 @@ beats-self a (by-serial e x) = omega arith
 beats-self a (by-drive e f x) = omega arith
 beats-self a (by-offset e f g x) = omega arith
 
-tied-of : (a b : Cand) → beats a b ≡ false → beats b a ≡ false → Tied a b
+pub tied-of : (a b : Cand) → beats a b ≡ false → beats b a ≡ false → Tied a b
 tied-of a b p q =
     let n : Beats a b → ⊥ = λ x. clash (yes-beats a b x) p in
     let m : Beats b a → ⊥ = λ x. clash (yes-beats b a x) q in
@@ -170,11 +170,11 @@ At a cs d = In d cs × (d .address ≡ a)
 abbrev pub Apart : List Cand → Type 0
 Apart cs = ApartIn (λ (d : Cand). In d cs)
 
-at-of : (a : ℕ) (cs : List Cand) (d : Cand) → In d (candsOf a cs) → At a cs d
+pub at-of : (a : ℕ) (cs : List Cand) (d : Cand) → In d (candsOf a cs) → At a cs d
 unfolding candsOf
 at-of a cs d m = let (i, q) = keep-in (λ (c : Cand). eqb (c .address) a) cs d m in (i, eqb-true (d .address) a q)
 
-of-at : (a : ℕ) (cs : List Cand) (d : Cand) → At a cs d → In d (candsOf a cs)
+pub of-at : (a : ℕ) (cs : List Cand) (d : Cand) → At a cs d → In d (candsOf a cs)
 unfolding candsOf
 of-at a cs d m = in-keep (λ (c : Cand). eqb (c .address) a) cs d (m .0) (eq-eqb (d .address) a (m .1))
 

@@ -170,7 +170,7 @@ well-start p k m d shk b nd =
 
 -- ---- any restart
 
-names-none : (p : Params) → Ranged p → (d : ℕ) → namesDrive p d ≡ true → (d < p .N) ⊎ (named d ≡ 0)
+pub names-none : (p : Params) → Ranged p → (d : ℕ) → namesDrive p d ≡ true → (d < p .N) ⊎ (named d ≡ 0)
 names-none p r d q = ⊎-elim (λ x. inl (ltb-true d (p .N) x)) (λ x. inr (none! (eqb-true d noDrive x))) (parts q)
   where
     parts : namesDrive p d ≡ true → (ltb d (p .N) ≡ true) ⊎ (eqb d noDrive ≡ true)

@@ -373,6 +373,13 @@ module _ (p : Params) (r : Ranged p) (v : View) (sh : Shaped p v) (acc : Accepte
       as! : (s : ℕ) → getD (zoneAt vc e z0 .blocks) (1 + o) noChunk ≡ pieceChunk (on s o e) → spareAt p vc e z0 o ≡ recordOf (recordBytes (on s o e .rec))
       as! s w = unfold recordIn pieceChunk in ap (λ (y : Chunk). recordOf (y .spare)) w
 
+  -- its header, on each drive
+  pub new-header : (e : ℕ) → e < p .N → getD (zoneAt vc e z0 .blocks) 0 noChunk ≡ mkChunk (headerBlock p e z0 sn (x .serial)) zeroSpare
+  new-header e he = new-block e 0 he (let a = lay-count e in omega arith) ∙ first!
+    where
+      first! : getD (lay e) 0 noChunk ≡ mkChunk (headerBlock p e z0 sn (x .serial)) zeroSpare
+      first! = unfold lay in refl
+
   new-head : headerAt vc 0 z0 ≡ headerBlock p 0 z0 sn (x .serial)
   new-head = as! (ap (λ (y : Chunk). y .block) (new-block 0 0 h0 (let a = lay-count 0 in omega arith)) ∙ first!)
     where

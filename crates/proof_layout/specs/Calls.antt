@@ -1,0 +1,559 @@
+-- The layout is kept by every call that isn't a restart: refused ones leave all, the others store as the views say. Assumes nothing.
+use mathlib.Core.Path.{_≡_, refl, sym, ap, ap₂, _∙_, subst}
+use mathlib.Core.List.{List, [], _∷_, _++_}
+use mathlib.Core.Bool.{Bool, true, false, cond, not, _&&_, _||_}
+use mathlib.Core.Logic.{_⊎_, inl, inr, ⊎-elim}
+use Prim.Native.Nat.{ℕ, zero, suc, _+_, _-_, _^_, _≤_, _<_}
+use borrow.Author.Tests.{ne-eqb, eq-eqb, leb-false, ltb-true, eqb-true, eqb-false, not-false}
+use native.Mathlib.Omega.{arith}
+use lib.Dec.{ltb, eqb}
+use lib.ListN.{length, replicate}
+use Rattle.defs.specs.declared.Params.{Params}
+use Rattle.defs.specs.declared.State.{State}
+use Rattle.defs.specs.declared.Answer.the-variants.{Rebuilt}
+use Rattle.defs.specs.Answers.{isCut}
+use Rattle.defs.specs.Calls.{Check, Plan, mkPlan, After}
+use Rattle.defs.specs.Calls.Check.{rule}
+use Rattle.defs.specs.Closing.{padded, closeChecks, closePlan, closeVerdict}
+use Rattle.defs.specs.Counts.{paddingAddress, lastCount}
+use Rattle.defs.specs.Drives.{Zone, View, zoneAt, pointerAt, chunkAt, Store, storeView, Disk, storeDisk, storeAll}
+use Rattle.defs.specs.Drives.{segmentNumbers, zoneOn, placeSegment, emptyOnAll, emptyZones, sealedIn, recordAt, headerStores, resetStores}
+use Rattle.defs.specs.Drives.Store.{put}
+use Rattle.defs.specs.Engine.{storeCount, lentBlock, verdict, lentOk, callOn, callDisk}
+use Rattle.defs.specs.Engine.Call.{write, land, close, reclaim, read, fill, rebuild}
+use Rattle.defs.specs.Landing.{slotOf, waiting, completes, seals, flightRec, landChecks, sealStores, landStore, landPlan, landVerdict}
+use Rattle.defs.specs.Layout.{Rec, recordBytes}
+use Rattle.defs.specs.Lists.{Opt, below, isNil, firstOr}
+use Rattle.defs.specs.Memory.{Memory, filledIn, openSegment, freeSlot, fillingSlot, hasFilling, inFlight, setStamp, setOpen, setClosed, beginStripe, addEntry, markLanded, freeStripe, slotBlock}
+use Rattle.defs.specs.Params.{dataCount, inRange, placeBlock, placeZone, placeDrive, named, present}
+use Rattle.defs.specs.Rebuild.{namesMissing, rebuildChecks, rebuildStores, rebuildVerdict}
+use Rattle.defs.specs.Reclaim.{Victim, victim, isNone, victimSegment, victimLive, idle, reclaimChecks, resetPlan, copyPlan, reclaimVerdict}
+use Rattle.defs.specs.Segments.{lowDrive, remaining, Segment, segmentOf, segments}
+use Rattle.defs.specs.Write.{opens, noStamp, noSerial, scarce, placed, sending, openedBy, begunBy, writeChecks, writePlan, writeVerdict}
+use Rattle.laws.specs.Geometry.{Ranged, ranged}
+use Rattle.laws.specs.Ranges.{Test, test, and-left, and-right}
+use Rattle.laws.specs.Ranges.Test.{yes!, no! }
+use Rattle.laws.specs.Stores.{storeAll-append}
+use Rattle.tablesay.specs.Checks.{Passes}
+use Rattle.tablesay.specs.Chunks.{chunk-roomy, all-behind, open-after}
+use Rattle.tablesay.specs.Filling.{block-long! }
+use Rattle.tablesay.specs.Frame.{Agree, same-remaining, same-sealed, same-core, core}
+use Rattle.tablesay.specs.Going.{buffer-long}
+use Rattle.tablesay.specs.Heading.{header-roomy, header-within, empty-all}
+use Rattle.tablesay.specs.Idle.{StateOk, state-of, whole-of}
+use Rattle.tablesay.specs.Joins.{roomy-append, within-append, roomy-none, stores-none}
+use Rattle.tablesay.specs.Landings.{Waits, waits}
+use Rattle.tablesay.specs.Losing.{named-in, named-some, low-present, named-same}
+use Rattle.tablesay.specs.Members.{In, keep-in, below-in, first-in}
+use Rattle.tablesay.specs.Outcomes.{Ended, ended, cut-cut}
+use Rattle.tablesay.specs.Outcomes.Ended.{ended-refused, ended-done, ended-cut}
+use Rattle.tablesay.specs.Range.{capacity-word}
+use Rattle.tablesay.specs.Reading.{read-idle, fill-idle}
+use Rattle.tablesay.specs.Rebuilding.{rebuild-roomy, rebuild-within, rebuild-agrees}
+use Rattle.tablesay.specs.Reclaiming.{taken}
+use Rattle.tablesay.specs.Resetting.{reset-roomy, reset-within}
+use Rattle.tablesay.specs.Run.{usedAt, Lost, Tidy, Healthy, Well, Run}
+use Rattle.tablesay.specs.Sealing.{seal-roomy, seal-within}
+use Rattle.tablesay.specs.Segs.{remaining-low}
+use Rattle.tablesay.specs.Tests.{clash, or-left, or-right, cond-true, cond-false}
+use Rattle.tablesay.specs.Theorem.{stepped}
+use Rattle.tablesay.specs.Zones.{Shaped, Within, Roomy, all-fit, shaped-after}
+use Rattle.views.specs.Views.{Whole, seen, view-stores}
+use Rattle.proof_layout.specs.Laid.{Laid, ZoneLaid, Zoned, WellLaid, laid-zoned, laid-accepted, laid-tidy, tidy-laid}
+use Rattle.proof_layout.specs.Segments.{opened-laid, reset-laid, chunk-laid, seal-laid}
+
+-- ---- what a call leaves
+
+-- what is claimed of a call
+abbrev pub Keeps : Params → List Segment → After Disk → Type 0
+Keeps p old r = Laid p (seen p (r .drives)) (r .memory .state .missing) old
+
+-- drives and memory as they were
+pub same-keeps : (p : Params) (k : Disk) (m : Memory) (old : List Segment) (r : After Disk) → Laid p (seen p k) (m .state .missing) old → r .drives ≡ k → r .memory ≡ m → Keeps p old r
+same-keeps p k m old r l e f = subst (λ (x : Disk). Laid p (seen p x) (r .memory .state .missing) old) (sym e) (subst (λ (x : Memory). Laid p (seen p k) (x .state .missing) old) (sym f) l)
+
+-- the view of the bytes after stores that fit
+pub stored-view : (p : Params) (k : Disk) (ss : List Store) → inRange p ≡ true → Whole p k → Shaped p (seen p k) → Roomy p (seen p k) ss → ((s : Store) → In s ss → Within p s)
+    → seen p (storeAll (storeDisk p) ss k) ≡ storeAll storeView ss (seen p k)
+stored-view p k ss ir w sh ro wi = view-stores p k ss (capacity-word p (ranged p ir)) w (all-fit p (seen p k) ss (sh .sized) wi ro)
+
+-- with none missing the segments are tidy
+pub run-tidy : (p : Params) (k : Disk) (m : Memory) → Run p k m → m .state .missing ≡ 0 → Tidy p (seen p k) (m .state .serial .0)
+run-tidy p k m u e = ⊎-elim (λ (x : Lost p k m). clash (eq-eqb (named (x .which)) 0 (sym (x .names-it) ∙ e)) (named-some p (ranged p (u .base .ranged)) (x .which) (x .which-low)))
+    (λ (x : Well p k m). x .healthy .tidy) (u .mode)
+
+-- stores done with none missing, in a run that goes on
+pub done-keeps : (p : Params) (k : Disk) (m : Memory) (old : List Segment) (r : After Disk) (ss : List Store)
+    → Run p k m → Run p (r .drives) (r .memory) → r .drives ≡ storeAll (storeDisk p) ss k → r .memory .state .missing ≡ 0
+    → Roomy p (seen p k) ss → ((s : Store) → In s ss → Within p s) → WellLaid p (storeAll storeView ss (seen p k)) old → Keeps p old r
+done-keeps p k m old r ss u u2 e mz ro wi l =
+    let ev : seen p (r .drives) ≡ storeAll storeView ss (seen p k) = ap (seen p) e ∙ stored-view p k ss (u .base .ranged) (whole-of p k m (u .base .lent)) (u .base .shaped) ro wi in
+    subst (λ (g : ℕ). Laid p (seen p (r .drives)) g old) (sym mz)
+    (laid-tidy p (ranged p (u .base .ranged)) (seen p (r .drives)) (r .memory .state .serial .0) (run-tidy p (r .drives) (r .memory) u2 mz) old (subst (λ (v : View). WellLaid p v old) (sym ev) l))
+
+-- ---- a drive is missing: the third check refuses
+
+-- a list of checks with the third one among the first three leaves all
+stopped : (p : Params) (k : Disk) (m : Memory) (c1 c2 : Bool) (cs : List Check) (q : Plan) (r : After Disk) (old : List Segment) → eqb (m .state .missing) 0 ≡ false
+    → Laid p (seen p k) (m .state .missing) old → Ended p k m (rule 1 c1 ∷ rule 2 c2 ∷ rule 3 (not (eqb (m .state .missing) 0)) ∷ cs) q r → isCut (r .answer) ≡ false → Keeps p old r
+stopped p k m c1 c2 cs q r old ms l (ended-refused a e f g h) nc = same-keeps p k m old r l g h
+stopped p k m c1 c2 cs q r old ms l (ended-done c f g h) nc = clash (ap not ms) (c .1 .1 .0)
+stopped p k m c1 c2 cs q r old ms l (ended-cut c f) nc = clash (ap isCut f ∙ cut-cut) nc
+
+module _ (p : Params) (k : Disk) (m : Memory) (u : Run p k m) (old : List Segment) (l : Laid p (seen p k) (m .state .missing) old) where
+  abbrev v : View
+  v = seen p k
+
+  abbrev st : State
+  st = m .state
+
+  rg : Ranged p
+  rg = ranged p (u .base .ranged)
+
+  some-missing : Lost p k m → eqb (st .missing) 0 ≡ false
+  some-missing lo = ap (λ (x : ℕ). eqb x 0) (lo .names-it) ∙ named-some p rg (lo .which) (lo .which-low)
+
+  well-laid : Well p k m → WellLaid p v old
+  well-laid we = tidy-laid p rg v (st .serial .0) (we .healthy .tidy) old (subst (λ (g : ℕ). Laid p v g old) (we .none-missing) l)
+
+  -- ---- a block sent
+
+  abbrev headers : List Store
+  headers = headerStores p (firstOr 0 (emptyZones p v)) (suc (st .serial .0)) 0
+
+  sending-stores : (fl : List ℕ) (a t w : ℕ) (b : List ℕ) → sending p v st fl a t w b .stores ≡ cond (opens p st) headers []
+  sending-stores fl a t w b = unfold sending in refl
+
+  sending-missing : (fl : List ℕ) (a t w : ℕ) (b : List ℕ) → sending p v st fl a t w b .state .missing ≡ st .missing
+  sending-missing fl a t w b = as! (begun (hasFilling p st) (opens p st))
+    where
+      begun : (x y : Bool) → cond x st (beginStripe (cond y (setOpen st (firstOr 0 (emptyZones p v)) (suc (st .serial .0))) st) (freeSlot st)) .missing ≡ st .missing
+      begun true y = refl
+      begun false true = unfold beginStripe setOpen in refl
+      begun false false = unfold beginStripe in refl
+
+      as! : cond (hasFilling p st) st (beginStripe (cond (opens p st) (setOpen st (firstOr 0 (emptyZones p v)) (suc (st .serial .0))) st) (freeSlot st)) .missing ≡ st .missing
+          → sending p v st fl a t w b .state .missing ≡ st .missing
+      as! e = unfold sending placed addEntry begunBy openedBy in e
+
+  -- the stores fit, and leave the segments laid out
+  abbrev Sent : List Store → Type 0
+  Sent ss = Roomy p v ss × ((s : Store) → In s ss → Within p s) × WellLaid p (storeAll storeView ss v) old
+
+  sent-laid : Well p k m → noSerial p st ≡ false → (opens p st ≡ true → isNil (emptyZones p v) ≡ false) → (ss : List Store) → ss ≡ cond (opens p st) headers [] → Sent ss
+  sent-laid we ns ne ss e = subst (λ (x : List Store). Sent x) (sym e) (go (test (opens p st)))
+    where
+      sh : Shaped p v
+      sh = u .base .shaped
+
+      serial-next : opens p st ≡ true → suc (st .serial .0) < 256 ^ 8
+      serial-next q =
+          let n : st .serial .0 ≡ lastCount → ⊥ = eqb-false (st .serial .0) lastCount (no-serial ns) in
+          let k = we .healthy .serial-fits in
+          omega arith
+        where
+          no-serial : noSerial p st ≡ false → eqb (st .serial .0) lastCount ≡ false
+          no-serial x = unfold noSerial in (sym (ap (λ (c : Bool). c && eqb (st .serial .0) lastCount) q) ∙ x)
+
+      go : Test (opens p st) → Sent (cond (opens p st) headers [])
+      go (no! q) = subst (λ (x : List Store). Sent x) (sym (cond-false (opens p st) headers [] q))
+          (roomy-none p v, λ s i. absurd i, subst (λ (x : View). WellLaid p x old) (sym (stores-none v)) (well-laid we))
+      go (yes! q) = subst (λ (x : List Store). Sent x) (sym (cond-true (opens p st) headers [] q)) (
+          let g = firstOr 0 (emptyZones p v) in
+          let (hg, eg) = parts g (first-in (emptyZones p v) 0 (ne q)) in
+          let em = empty-all p v g eg in
+          let s = suc (st .serial .0) in (
+            header-roomy p rg v sh g s 0 hg em,
+            header-within p rg v sh g s 0 hg em,
+            opened-laid p rg v sh old g s hg em (serial-next q) (well-laid we),
+          ))
+        where
+          parts : (g : ℕ) → In g (emptyZones p v) → (g < p .Z) × (emptyOnAll p v g ≡ true)
+          parts g i = unfold emptyZones segmentNumbers in (let (j, q) = keep-in (emptyOnAll p v) (below (p .Z)) g i in (below-in (p .Z) g j, q))
+
+  zones-left : (n : ℕ) → scarce p v n ≡ false → isNil (emptyZones p v) ≡ false
+  zones-left n q = go (emptyZones p v) (few q)
+    where
+      few : scarce p v n ≡ false → n < length (emptyZones p v)
+      few q = unfold scarce in leb-false (length (emptyZones p v)) n q
+
+      go : (x : List ℕ) → n < length x → isNil x ≡ false
+      go [] h = absurd (let z : ⊥ = omega arith in z)
+      go (y ∷ x) h = unfold isNil in refl
+
+  -- ---- write
+
+  module _ (a : ℕ) (b : List ℕ) (n : ℕ) where
+    abbrev wr : After Disk
+    wr = callDisk p k m (write a b n)
+
+    write-ends : Ended p k m (writeChecks p (lentOk p k m) v m a b) (writePlan p v m a b) wr
+    unfolding callDisk callOn verdict storeCount lentBlock writeVerdict
+    write-ends = ended p k m (writeChecks p (lentOk p k m) v m a b) (writePlan p v m a b) n b
+
+    write-well : Well p k m → isCut (wr .answer) ≡ false → Keeps p old wr
+    write-well we nc = go write-ends
+      where
+        parts : Passes (writeChecks p (lentOk p k m) v m a b) → (noSerial p st ≡ false) × (opens p st ≡ true → isNil (emptyZones p v) ≡ false)
+        parts c = unfold writeChecks in (or-right (noStamp st) (noSerial p st) (c .1 .1 .1 .1 .0), λ q. zones-left (cond (opens p st) 2 1) (c .1 .1 .1 .1 .1 .1 .0))
+
+        missing-is : writePlan p v m a b .memory .state .missing ≡ sending p v st (m .inflight) a (suc (st .stamp .0)) 1 b .state .missing
+        missing-is = unfold writePlan setStamp in refl
+
+        stores-is : writePlan p v m a b .stores ≡ sending p v st (m .inflight) a (suc (st .stamp .0)) 1 b .stores
+        stores-is = unfold writePlan in refl
+
+        go : Ended p k m (writeChecks p (lentOk p k m) v m a b) (writePlan p v m a b) wr → Keeps p old wr
+        go (ended-refused x e f g h) = same-keeps p k m old wr l g h
+        go (ended-done c f g h) =
+            let (ns, ne) = parts c in
+            let (ro, wi, wl) = sent-laid we ns ne (writePlan p v m a b .stores) (stores-is ∙ sending-stores (m .inflight) a (suc (st .stamp .0)) 1 b) in
+            done-keeps p k m old wr (writePlan p v m a b .stores) u (stepped p k m u (write a b n) .1 nc) g
+            (ap (λ (x : Memory). x .state .missing) h ∙ missing-is ∙ sending-missing (m .inflight) a (suc (st .stamp .0)) 1 b ∙ we .none-missing) ro wi wl
+        go (ended-cut c f) = clash (ap isCut f ∙ cut-cut) nc
+
+    write-lost : Lost p k m → isCut (wr .answer) ≡ false → Keeps p old wr
+    unfolding writeChecks
+    write-lost lo nc = stopped p k m _ _ _ _ wr old (some-missing lo) l write-ends nc
+
+    -- 01, Write
+    pub laid-write : isCut (wr .answer) ≡ false → Keeps p old wr
+    laid-write nc = ⊎-elim (λ x. write-lost x nc) (λ x. write-well x nc) (u .mode)
+
+  -- ---- closing
+
+  module _ (n : ℕ) where
+    abbrev cl : After Disk
+    cl = callDisk p k m (close n)
+
+    close-ends : Ended p k m (closeChecks p (lentOk p k m) v m) (closePlan p m) cl
+    unfolding callDisk callOn verdict storeCount lentBlock closeVerdict
+    close-ends = ended p k m (closeChecks p (lentOk p k m) v m) (closePlan p m) n []
+
+    padded-missing : (i x : ℕ) (su : State) (fl : List ℕ) → padded p i x su fl .state .missing ≡ su .missing
+    unfolding padded placed
+    padded-missing i zero su fl = refl
+    padded-missing i (suc x) su fl = padded-missing i x (addEntry su i paddingAddress 0 0) (placed p su fl i paddingAddress 0 0 (replicate (p .B) 0) .inflight) ∙ same su
+      where
+        same : (su : State) → addEntry su i paddingAddress 0 0 .missing ≡ su .missing
+        same su = unfold addEntry in refl
+
+    close-well : Well p k m → isCut (cl .answer) ≡ false → Keeps p old cl
+    close-well we nc = go close-ends
+      where
+        missing-is : closePlan p m .memory .state .missing ≡ padded p (fillingSlot p st) (dataCount p - filledIn st (fillingSlot p st)) st (m .inflight) .state .missing
+        missing-is = unfold closePlan in refl
+
+        stores-is : closePlan p m .stores ≡ []
+        stores-is = unfold closePlan in refl
+
+        go : Ended p k m (closeChecks p (lentOk p k m) v m) (closePlan p m) cl → Keeps p old cl
+        go (ended-refused x e f g h) = same-keeps p k m old cl l g h
+        go (ended-done c f g h) = done-keeps p k m old cl [] u (stepped p k m u (close n) .1 nc) (g ∙ ap (λ (x : List Store). storeAll (storeDisk p) x k) stores-is)
+            (ap (λ (x : Memory). x .state .missing) h ∙ missing-is ∙ padded-missing (fillingSlot p st) (dataCount p - filledIn st (fillingSlot p st)) st (m .inflight) ∙ we .none-missing)
+            (roomy-none p v) (λ s i. absurd i) (subst (λ (x : View). WellLaid p x old) (sym (stores-none v)) (well-laid we))
+        go (ended-cut c f) = clash (ap isCut f ∙ cut-cut) nc
+
+    close-lost : Lost p k m → isCut (cl .answer) ≡ false → Keeps p old cl
+    unfolding closeChecks
+    close-lost lo nc = stopped p k m _ _ _ _ cl old (some-missing lo) l close-ends nc
+
+    -- 01, Closing
+    pub laid-close : isCut (cl .answer) ≡ false → Keeps p old cl
+    laid-close nc = ⊎-elim (λ x. close-lost x nc) (λ x. close-well x nc) (u .mode)
+
+  -- ---- reads
+
+  pub laid-read : (a : ℕ) → Keeps p old (callDisk p k m (read a))
+  laid-read a = let i = read-idle p k m (u .base) a in same-keeps p k m old (callDisk p k m (read a)) l (i .same-drives) (i .same-memory)
+
+  pub laid-fill : (a : ℕ) (b : List ℕ) → Keeps p old (callDisk p k m (fill a b))
+  laid-fill a b = let i = fill-idle p k m (u .base) a b in same-keeps p k m old (callDisk p k m (fill a b)) l (i .same-drives) (i .same-memory)
+
+  -- ---- reclaim
+
+  module _ (n : ℕ) where
+    abbrev rc : After Disk
+    rc = callDisk p k m (reclaim n)
+
+    abbrev w : Opt Victim
+    w = victim p v (m .addresses)
+
+    abbrev live : Bool
+    live = not (isNil (victimLive w))
+
+    abbrev place : ℕ
+    place = firstOr 0 (idle p v st w)
+
+    abbrev rplan : Plan
+    rplan = cond (isNil (victimLive w)) (resetPlan p m (victimSegment w)) (copyPlan p v m place)
+
+    reclaim-ends : Ended p k m (reclaimChecks p (lentOk p k m) v m w) rplan rc
+    unfolding callDisk callOn verdict storeCount lentBlock reclaimVerdict
+    reclaim-ends = ended p k m (reclaimChecks p (lentOk p k m) v m w) rplan n []
+
+    reclaim-well : Well p k m → isCut (rc .answer) ≡ false → Keeps p old rc
+    reclaim-well we nc = go reclaim-ends
+      where
+        parts : Passes (reclaimChecks p (lentOk p k m) v m w) → (isNone w ≡ false) × (live && noSerial p st ≡ false) × (live && opens p st && scarce p v 1 ≡ false)
+        parts c = unfold reclaimChecks in (or-left (isNone w) (live && isNil (idle p v st w)) (c .1 .1 .1 .0), c .1 .1 .1 .1 .0, c .1 .1 .1 .1 .1 .1 .0)
+
+        reset-missing : (g : ℕ) → resetPlan p m g .memory .state .missing ≡ st .missing
+        reset-missing g = unfold resetPlan in refl
+
+        reset-stores : (g : ℕ) → resetPlan p m g .stores ≡ resetStores p g
+        reset-stores g = unfold resetPlan in refl
+
+        copy-rec : ℕ → Rec
+        copy-rec q = recordAt p v 0 (placeDrive p q) (placeSegment p q) (placeBlock p q - 1)
+
+        copy-block : ℕ → List ℕ
+        copy-block q = chunkAt v (placeDrive p q) (placeZone p q) (placeBlock p q) .block
+
+        copy-missing : (q : ℕ) → copyPlan p v m q .memory .state .missing ≡ sending p v st (m .inflight) (copy-rec q .address) (copy-rec q .stamp) 0 (copy-block q) .state .missing
+        copy-missing q = unfold copyPlan in refl
+
+        copy-stores : (q : ℕ) → copyPlan p v m q .stores ≡ sending p v st (m .inflight) (copy-rec q .address) (copy-rec q .stamp) 0 (copy-block q) .stores
+        copy-stores q = unfold copyPlan in refl
+
+        done : Test (isNil (victimLive w)) → Passes (reclaimChecks p (lentOk p k m) v m w) → rc .drives ≡ storeAll (storeDisk p) (rplan .stores) k → rc .memory ≡ rplan .memory → Keeps p old rc
+        done (yes! q) c g h =
+            let e : rplan ≡ resetPlan p m (victimSegment w) = cond-true (isNil (victimLive w)) (resetPlan p m (victimSegment w)) (copyPlan p v m place) q in
+            let hg = taken p v (m .addresses) (parts c .0) .taken-low in
+            let s = victimSegment w in
+            done-keeps p k m old rc (resetStores p s) u (stepped p k m u (reclaim n) .1 nc)
+            (g ∙ ap (λ (x : Plan). storeAll (storeDisk p) (x .stores) k) e ∙ ap (λ (x : List Store). storeAll (storeDisk p) x k) (reset-stores s))
+            (ap (λ (x : Memory). x .state .missing) h ∙ ap (λ (x : Plan). x .memory .state .missing) e ∙ reset-missing s ∙ we .none-missing)
+            (reset-roomy p rg v (u .base .shaped) s hg) (reset-within p rg v (u .base .shaped) s hg) (reset-laid p rg v (u .base .shaped) old s hg (well-laid we))
+        done (no! q) c g h =
+            let e : rplan ≡ copyPlan p v m place = cond-false (isNil (victimLive w)) (resetPlan p m (victimSegment w)) (copyPlan p v m place) q in
+            let lv : live ≡ true = ap not q in
+            let (nn, c6, c8) = parts c in
+            let ns : noSerial p st ≡ false = sym (ap (λ (x : Bool). x && noSerial p st) lv) ∙ c6 in
+            let ne : opens p st ≡ true → isNil (emptyZones p v) ≡ false = λ z. zones-left 1 (sym (ap₂ (λ (x y : Bool). x && y && scarce p v 1) lv z) ∙ c8) in
+            let (ro, wi, wl) = sent-laid we ns ne (copyPlan p v m place .stores)
+            (copy-stores place ∙ sending-stores (m .inflight) (copy-rec place .address) (copy-rec place .stamp) 0 (copy-block place)) in
+            done-keeps p k m old rc (copyPlan p v m place .stores) u (stepped p k m u (reclaim n) .1 nc) (g ∙ ap (λ (x : Plan). storeAll (storeDisk p) (x .stores) k) e)
+            (ap (λ (x : Memory). x .state .missing) h ∙ ap (λ (x : Plan). x .memory .state .missing) e
+            ∙ copy-missing place ∙ sending-missing (m .inflight) (copy-rec place .address) (copy-rec place .stamp) 0 (copy-block place) ∙ we .none-missing)
+            ro wi wl
+
+        go : Ended p k m (reclaimChecks p (lentOk p k m) v m w) rplan rc → Keeps p old rc
+        go (ended-refused x e f g h) = same-keeps p k m old rc l g h
+        go (ended-done c f g h) = done (test (isNil (victimLive w))) c g h
+        go (ended-cut c f) = clash (ap isCut f ∙ cut-cut) nc
+
+    reclaim-lost : Lost p k m → isCut (rc .answer) ≡ false → Keeps p old rc
+    unfolding reclaimChecks
+    reclaim-lost lo nc = stopped p k m _ _ _ _ rc old (some-missing lo) l reclaim-ends nc
+
+    -- 01, Reclaim
+    pub laid-reclaim : isCut (rc .answer) ≡ false → Keeps p old rc
+    laid-reclaim nc = ⊎-elim (λ x. reclaim-lost x nc) (λ x. reclaim-well x nc) (u .mode)
+
+  -- ---- landing
+
+  module _ (d s n : ℕ) where
+    abbrev ld : After Disk
+    ld = callDisk p k m (land d s n)
+
+    land-ends : Ended p k m (landChecks p (lentOk p k m) v m d s) (landPlan p v m d s) ld
+    unfolding callDisk callOn verdict storeCount lentBlock landVerdict
+    land-ends = ended p k m (landChecks p (lentOk p k m) v m d s) (landPlan p v m d s) n []
+
+    land-missing : landPlan p v m d s .memory .state .missing ≡ st .missing
+    land-missing = unfold landPlan zoneOn in go (seals p st (slotOf st s) d) (completes p st (slotOf st s) d) (slotOf st s) (pointerAt v d (openSegment st) - 1)
+      where
+        go : (x y : Bool) (i o : ℕ) → cond x (setClosed (cond y (freeStripe (markLanded st i d o) i) (markLanded st i d o)))
+            (cond y (freeStripe (markLanded st i d o) i) (markLanded st i d o)) .missing ≡ st .missing
+        go true true i o = unfold setClosed freeStripe markLanded in refl
+        go true false i o = unfold setClosed markLanded in refl
+        go false true i o = unfold freeStripe markLanded in refl
+        go false false i o = unfold markLanded in refl
+
+    land-well : Well p k m → isCut (ld .answer) ≡ false → Keeps p old ld
+    land-well we nc = go land-ends
+      where
+        i : ℕ
+        i = slotOf st s
+
+        z : ℕ
+        z = openSegment st
+
+        sh : Shaped p v
+        sh = u .base .shaped
+
+        so : StateOk p st
+        so = state-of p rg st (u .base .state-ok)
+
+        he : Healthy p v st
+        he = we .healthy
+
+        b : List ℕ
+        b = slotBlock p (m .inflight) i d
+
+        store : Store
+        store = put d z b (recordBytes (flightRec p st i d))
+
+        parts : Passes (landChecks p (lentOk p k m) v m d s) → waiting p st d s ≡ true
+        parts c = unfold landChecks in not-false (waiting p st d s) (c .1 .1 .1 .0)
+
+        plain-stores : seals p st (slotOf st s) d ≡ false → landPlan p v m d s .stores ≡ store ∷ []
+        plain-stores q = unfold landPlan landStore zoneOn in rw q
+
+        seal-stores : seals p st (slotOf st s) d ≡ true → landPlan p v m d s .stores ≡ (store ∷ []) ++ sealStores p (storeView store v) z
+        seal-stores q = unfold landPlan landStore zoneOn in rw q
+
+        seal-parts : seals p st (slotOf st s) d ≡ true → (completes p st (slotOf st s) d ≡ true) × (st .next ≡ p .S) × (length (inFlight st) ≡ 1)
+        seal-parts q = unfold seals in
+            let x = completes p st (slotOf st s) d in
+            let y = eqb (st .next) (p .S) in
+            let t = eqb (length (inFlight st)) 1 in
+            let q1 : x && y ≡ true = and-left (x && y) t q in
+            (and-left x y q1, eqb-true (st .next) (p .S) (and-right x y q1), eqb-true (length (inFlight st)) 1 (and-right (x && y) t q))
+
+        one-store : storeAll storeView (store ∷ []) v ≡ storeView store v
+        one-store = unfold storeAll in refl
+
+        done : Test (seals p st (slotOf st s) d) → Waits p v st d s → ld .drives ≡ storeAll (storeDisk p) (landPlan p v m d s .stores) k → ld .memory ≡ landPlan p v m d s .memory → Keeps p old ld
+        done t x g h = two t
+          where
+            hd : d < p .N
+            hd = x .drive-ok
+
+            lb : length b ≡ p .B
+            lb = block-long! p rg (m .inflight) (buffer-long p k m u we) i (x .slot-ok) d hd
+
+            v1 : View
+            v1 = storeView store v
+
+            hz : z < p .Z
+            hz = he .opens-at z (x .slot-opened) .opened-zone
+
+            ro : Roomy p v (store ∷ [])
+            ro = chunk-roomy p rg v sh st he so z (x .slot-opened) d i hd (x .slot-ok) (x .slot-flies) (x .slot-ready) b lb
+
+            wi : (y : Store) → In y (store ∷ []) → Within p y
+            wi y (inl e) = subst (λ (a : Store). Within p a) (sym e) (hd, hz)
+            wi y (inr e) = absurd e
+
+            used! : (y : View) → ((e : ℕ) → e < p .N → 1 ≤ pointerAt y e z) → usedAt y z ≡ true
+            used! y f = ap not (ne-eqb (pointerAt y 0 z) 0 (λ e. let a = f 0 (omega (arith, rg .drives-low)) in let bad : ⊥ = omega arith in bad))
+
+            wl : WellLaid p v1 old
+            wl = chunk-laid p rg v sh st he so z (x .slot-opened) d i hd (x .slot-ok) (x .slot-flies) (x .slot-ready) b lb old (used! v (he .opens-at z (x .slot-opened) .has-header)) (well-laid we)
+
+            mz : ld .memory .state .missing ≡ 0
+            mz = ap (λ (y : Memory). y .state .missing) h ∙ land-missing ∙ we .none-missing
+
+            two : Test (seals p st (slotOf st s) d) → Keeps p old ld
+            two (no! q) = done-keeps p k m old ld (store ∷ []) u (stepped p k m u (land d s n) .1 nc) (g ∙ ap (λ (y : List Store). storeAll (storeDisk p) y k) (plain-stores q)) mz ro wi
+                (subst (λ (y : View). WellLaid p y old) (sym one-store) wl)
+            two (yes! q) =
+                let (cm, nx, fl) = seal-parts q in
+                let ss = sealStores p v1 z in
+                let sh1 : Shaped p v1 = subst (λ (y : View). Shaped p y) one-store (shaped-after p v (store ∷ []) sh ro) in
+                let behind = all-behind p rg v sh st he so z (x .slot-opened) d i hd (x .slot-ok) (x .slot-flies) (x .slot-ready) b lb cm nx fl in
+                done-keeps p k m old ld ((store ∷ []) ++ ss) u (stepped p k m u (land d s n) .1 nc) (g ∙ ap (λ (y : List Store). storeAll (storeDisk p) y k) (seal-stores q)) mz
+                (roomy-append p v (store ∷ []) ss (sh .sized) ro (subst (λ (y : View). Roomy p y ss) (sym one-store) (seal-roomy p rg v1 sh1 z hz behind)))
+                (within-append p (store ∷ []) ss wi (seal-within p rg v1 sh1 z hz behind))
+                (subst (λ (y : View). WellLaid p y old) (sym (storeAll-append storeView (store ∷ []) ss v ∙ ap (storeAll storeView ss) one-store))
+                (seal-laid p rg v1 sh1 old z hz behind (used! v1 (λ e l. let a = behind e l in omega arith))
+                (open-after p rg v sh st he so z (x .slot-opened) d i hd (x .slot-ok) (x .slot-flies) (x .slot-ready) b lb) wl))
+
+        go : Ended p k m (landChecks p (lentOk p k m) v m d s) (landPlan p v m d s) ld → Keeps p old ld
+        go (ended-refused x e f g h) = same-keeps p k m old ld l g h
+        go (ended-done c f g h) = done (test (seals p st (slotOf st s) d)) (waits p v st d s he (parts c)) g h
+        go (ended-cut c f) = clash (ap isCut f ∙ cut-cut) nc
+
+    land-lost : Lost p k m → isCut (ld .answer) ≡ false → Keeps p old ld
+    unfolding landChecks
+    land-lost lo nc = stopped p k m _ _ _ _ ld old (some-missing lo) l land-ends nc
+
+    -- 01, Landing
+    pub laid-land : isCut (ld .answer) ≡ false → Keeps p old ld
+    laid-land nc = ⊎-elim (λ x. land-lost x nc) (λ x. land-well x nc) (u .mode)
+
+  -- ---- rebuild
+
+  module _ (e n : ℕ) where
+    abbrev rb : After Disk
+    rb = callDisk p k m (rebuild e n)
+
+    abbrev bplan : Plan
+    bplan = mkPlan (rebuildStores p e (segments p v (named e))) Rebuilt m []
+
+    rebuild-ends : Ended p k m (rebuildChecks p (lentOk p k m) v m e (segments p v (named e))) bplan rb
+    unfolding callDisk callOn verdict storeCount lentBlock rebuildVerdict
+    rebuild-ends = ended p k m (rebuildChecks p (lentOk p k m) v m e (segments p v (named e))) bplan n []
+
+    names : Passes (rebuildChecks p (lentOk p k m) v m e (segments p v (named e))) → not (inRange p) || not (namesMissing p st e) ≡ false
+    names c = unfold rebuildChecks in c .0
+
+    rebuild-well : Well p k m → isCut (rb .answer) ≡ false → Keeps p old rb
+    rebuild-well we nc = go rebuild-ends
+      where
+        parts : namesMissing p st e ≡ true → (e < p .N) × (st .missing ≡ named e)
+        parts t = unfold namesMissing in (
+          ltb-true e (p .N) (and-left (ltb e (p .N)) (eqb (st .missing) (named e)) t),
+          eqb-true (st .missing) (named e) (and-right (ltb e (p .N)) (eqb (st .missing) (named e)) t),
+        )
+
+        never! : not (inRange p) || not (namesMissing p st e) ≡ false → Keeps p old rb
+        never! q =
+            let (he, x) = parts (not-false (namesMissing p st e) (or-right (not (inRange p)) (not (namesMissing p st e)) q)) in
+            clash (eq-eqb (named e) 0 (sym x ∙ we .none-missing)) (named-some p rg e he)
+
+        go : Ended p k m (rebuildChecks p (lentOk p k m) v m e (segments p v (named e))) bplan rb → Keeps p old rb
+        go (ended-refused x q f g h) = same-keeps p k m old rb l g h
+        go (ended-done c f g h) = never! (names c)
+        go (ended-cut c f) = clash (ap isCut f ∙ cut-cut) nc
+
+    -- only the missing drive changes
+    agree-zoned : (v2 : View) → In (lowDrive p (st .missing)) (present p (st .missing)) → Agree p (st .missing) v v2 → Zoned p v2 (st .missing) old
+    agree-zoned v2 low ag g d i hd hq =
+        let gone = st .missing in
+        let j : In g (remaining p v gone) = subst (λ (x : List ℕ). In g x) (sym (same-remaining p gone v v2 low ag)) i in
+        let hg = remaining-low p v gone g j in
+        let c = same-core p gone v v2 low ag g hg in
+        subst (λ (x : Zone). ZoneLaid p old (sealedIn p v2 gone g) (segmentOf p v2 gone g .serial) (segmentOf p v2 gone g .copied) d g x) (ag d g hd hg hq)
+        (subst (λ (x : ℕ). ZoneLaid p old (sealedIn p v2 gone g) (segmentOf p v2 gone g .serial) x d g (zoneAt v d g)) (copied! g c)
+        (subst (λ (x : ℕ). ZoneLaid p old (sealedIn p v2 gone g) x (segmentOf p v gone g .copied) d g (zoneAt v d g)) (serial! g c)
+        (subst (λ (x : Bool). ZoneLaid p old x (segmentOf p v gone g .serial) (segmentOf p v gone g .copied) d g (zoneAt v d g)) (same-sealed p gone v v2 low ag g hg)
+        (laid-zoned p v gone old l g d j hd hq))))
+      where
+        serial! : (g : ℕ) → core (segmentOf p v (st .missing) g) ≡ core (segmentOf p v2 (st .missing) g) → segmentOf p v (st .missing) g .serial ≡ segmentOf p v2 (st .missing) g .serial
+        serial! g c = unfold core in ap (λ (x : Segment). x .serial) c
+
+        copied! : (g : ℕ) → core (segmentOf p v (st .missing) g) ≡ core (segmentOf p v2 (st .missing) g) → segmentOf p v (st .missing) g .copied ≡ segmentOf p v2 (st .missing) g .copied
+        copied! g c = unfold core in ap (λ (x : Segment). x .copied) c
+
+    rebuild-lost : Lost p k m → isCut (rb .answer) ≡ false → Keeps p old rb
+    rebuild-lost lo nc = go rebuild-ends
+      where
+        done : not (inRange p) || not (namesMissing p st e) ≡ false → rb .drives ≡ storeAll (storeDisk p) (bplan .stores) k → rb .memory ≡ m → Keeps p old rb
+        done c g h =
+            let (he, q) = named-same p k m u lo e n c in
+            let gone = st .missing in
+            let lost = named-in p rg e he in
+            let sh = u .base .shaped in
+            let ss = rebuildStores p e (segments p v (named e)) in
+            let v2 = storeAll storeView ss v in
+            let ev : seen p (rb .drives) ≡ v2 = ap (seen p) g ∙ stored-view p k ss (u .base .ranged) (whole-of p k m (u .base .lent)) sh
+            (rebuild-roomy p rg v sh e he lost) (rebuild-within p rg v sh e he lost) in
+            let low : In (lowDrive p gone) (present p gone) = subst (λ (y : ℕ). In (lowDrive p y) (present p y)) (sym q) (low-present p rg e he) in
+            let ag : Agree p gone v v2 = subst (λ (y : ℕ). Agree p y v v2) (sym q) (rebuild-agrees p rg v sh e he lost) in
+            let zn : Zoned p (seen p (rb .drives)) gone old = subst (λ (y : View). Zoned p y gone old) (sym ev) (agree-zoned v2 low ag) in
+            let mm : rb .memory .state .missing ≡ gone = ap (λ (x : Memory). x .state .missing) h in
+            ⊎-elim (λ (x : Lost p (rb .drives) (rb .memory)).
+            laid-accepted p (seen p (rb .drives)) (rb .memory .state .missing) (x .accepts) old (subst (λ (y : ℕ). Zoned p (seen p (rb .drives)) y old) (sym mm) zn))
+            (λ (x : Well p (rb .drives) (rb .memory)). clash (eq-eqb gone 0 (sym mm ∙ x .none-missing)) (some-missing lo)) (stepped p k m u (rebuild e n) .1 nc .mode)
+
+        go : Ended p k m (rebuildChecks p (lentOk p k m) v m e (segments p v (named e))) bplan rb → Keeps p old rb
+        go (ended-refused x q f g h) = same-keeps p k m old rb l g h
+        go (ended-done c f g h) = done (names c) g h
+        go (ended-cut c f) = clash (ap isCut f ∙ cut-cut) nc
+
+    -- 01, Rebuild
+    pub laid-rebuild : isCut (rb .answer) ≡ false → Keeps p old rb
+    laid-rebuild nc = ⊎-elim (λ x. rebuild-lost x nc) (λ x. rebuild-well x nc) (u .mode)

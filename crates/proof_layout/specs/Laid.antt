@@ -1,0 +1,313 @@
+-- The layout without parity, zone by zone: what one zone must hold, and how it follows from the checks of a restart or from tidy segments. Assumes nothing.
+use mathlib.Core.Path.{_≡_, refl, sym, ap, ap₂, _∙_, subst}
+use mathlib.Core.List.{List, [], _∷_, map}
+use mathlib.Core.Bool.{Bool, true, false, not, _&&_}
+use Prim.Native.Nat.{ℕ, zero, suc, _+_, _≤_, _<_}
+use native.Mathlib.Nat.{zero-add}
+use native.Mathlib.Decide.{ℕ-discrete}
+use borrow.Author.Tests.{eqb-false, not-false}
+use native.Mathlib.Omega.{arith}
+use lib.Dec.{eqb}
+use lib.ListN.{length, getD, take, drop}
+use lib.Seq.{getD-take, getD-drop}
+use Rattle.defs.specs.declared.Params.{Params}
+use Rattle.defs.specs.Drives.{Chunk, mkChunk, noChunk, Zone, noZone, View, zoneAt, pointerAt, chunkAt, zoneOn, sealedIn, dataStored, blocksOf, sparesOf, recordIn, recordAt, footersOf, zeroSpare}
+use Rattle.defs.specs.Faults.{sameChunk, headerFault, twice, footersStored, sameBlocks, footerFaultIn, footerFault}
+use Rattle.defs.specs.Layout.{inGroupOf, headerBlock, headerSerial, headerCopied, Rec, mkRec, footerBlock}
+use Rattle.defs.specs.Lists.{upFrom, any, sameList, isIn}
+use Rattle.defs.specs.Params.{capacity, present}
+use Rattle.defs.specs.Segments.{headerAt, remaining, Segment, recordsIn, segmentOf, segments}
+use Rattle.laws.specs.Geometry.{Ranged}
+use Rattle.laws.specs.Mask.{isIn-empty}
+use Rattle.laws.specs.Ranges.{Test, test, and-left, and-right, and-both, length-upFrom, getD-upFrom, getD-map, sameList-true}
+use Rattle.laws.specs.Ranges.Test.{yes!, no! }
+use Rattle.spec_demands.specs.Layouts.{Here, Remains, foundSealed, ParityMade, Layout}
+use Rattle.tablesay.specs.Accept.{Accepted, pointer-ok, faults-apart, zone-stripes, in-groups, copied-low, serials-differ}
+use Rattle.tablesay.specs.Bounds.{blocks-at}
+use Rattle.tablesay.specs.Members.{In, in-map, in-any, none-in, in-getD, is-member, member-is}
+use Rattle.tablesay.specs.Run.{usedAt, Tidy}
+use Rattle.tablesay.specs.Sealing.{sparesIn}
+use Rattle.tablesay.specs.Segs.{in-present, length-records, record-at, zone-by, seg-is, copied-is, full-is}
+use Rattle.tablesay.specs.Settled.{low-first, used-remains, remains-is-used, serial-of, SameZones, zones-sealed, zones-header}
+use Rattle.tablesay.specs.Tests.{clash, true-false, or-left, or-right, eqb-self}
+
+-- 01, What a zone holds: all of the layout but the parity
+pub record Laid (p : Params) (v : View) (gone : ℕ) (old : List Segment) : Type 0 where
+  pub pointer-low : (d z : ℕ) → Here p gone d → z < p .Z → pointerAt v d z ≤ capacity p
+  pub header-stands : (g d : ℕ) → Remains p v gone g → Here p gone d
+      → chunkAt v d (zoneOn g d) 0 ≡ mkChunk (headerBlock p d (zoneOn g d) (segmentOf p v gone g .serial) (segmentOf p v gone g .copied)) zeroSpare
+  pub serial-above : (g : ℕ) → Remains p v gone g → segmentOf p v gone g .copied < segmentOf p v gone g .serial
+  pub serial-once : (g h : ℕ) → Remains p v gone g → Remains p v gone h → segmentOf p v gone g .serial ≡ segmentOf p v gone h .serial → g ≡ h
+  pub in-group : (g d o : ℕ) → Remains p v gone g → Here p gone d → o < dataStored p (zoneAt v d (zoneOn g d))
+      → inGroupOf p o (recordAt p v gone d g o .stripe) ≡ true
+  pub number-once : (g d o i : ℕ) → Remains p v gone g → Here p gone d → o < dataStored p (zoneAt v d (zoneOn g d)) → i < dataStored p (zoneAt v d (zoneOn g d))
+      → recordAt p v gone d g o .stripe ≡ recordAt p v gone d g i .stripe → o ≡ i
+  pub footer-made : (g d i : ℕ) → Remains p v gone g → Here p gone d → foundSealed old (segmentOf p v gone g .serial) ≡ false
+      → i < footersStored p (zoneAt v d (zoneOn g d))
+      → chunkAt v d (zoneOn g d) (1 + p .S + i) .block ≡ footerBlock p (sparesOf (take (p .S) (drop 1 (zoneAt v d (zoneOn g d) .blocks)))) i
+
+pub layout-of : (p : Params) (v : View) (gone : ℕ) (old : List Segment) → Laid p v gone old → ParityMade p v gone old → Layout p v gone old
+layout-of p v gone old l m = record {
+  pointer-low = l .pointer-low;
+  header-stands = l .header-stands;
+  serial-above = l .serial-above;
+  serial-once = l .serial-once;
+  in-group = l .in-group;
+  number-once = l .number-once;
+  footer-made = l .footer-made;
+  parity-made = m;
+}
+
+-- ---- one zone
+
+-- 01, What a zone holds: zone q of drive d and segment g, whose records are read by footer where w holds
+pub record ZoneLaid (p : Params) (old : List Segment) (w : Bool) (serial copied d g : ℕ) (q : Zone) : Type 0 where
+  pub header-is : getD (q .blocks) 0 noChunk ≡ mkChunk (headerBlock p d g serial copied) zeroSpare
+  pub group-is : (o : ℕ) → o < dataStored p q → inGroupOf p o (recordIn p w q o .stripe) ≡ true
+  pub once-is : (o i : ℕ) → o < dataStored p q → i < dataStored p q → recordIn p w q o .stripe ≡ recordIn p w q i .stripe → o ≡ i
+  pub footer-is : foundSealed old serial ≡ false → (i : ℕ) → i < footersStored p q → getD (q .blocks) (1 + p .S + i) noChunk .block ≡ footerBlock p (sparesIn p q) i
+
+-- every zone of what remains
+abbrev pub Zoned : Params → View → ℕ → List Segment → Type 0
+Zoned p v gone old = (g d : ℕ) → In g (remaining p v gone) → d < p .N → isIn gone d ≡ false
+    → ZoneLaid p old (sealedIn p v gone g) (segmentOf p v gone g .serial) (segmentOf p v gone g .copied) d g (zoneAt v d g)
+
+-- a segment with none missing, by its header on drive 0
+abbrev pub SegLaid : Params → View → List Segment → ℕ → Type 0
+SegLaid p v old z = (d : ℕ) → d < p .N → ZoneLaid p old (sealedIn p v 0 z) (headerSerial (headerAt v 0 z)) (headerCopied (headerAt v 0 z)) d z (zoneAt v d z)
+
+-- every used segment
+abbrev pub WellLaid : Params → View → List Segment → Type 0
+WellLaid p v old = (z : ℕ) → z < p .Z → usedAt v z ≡ true → SegLaid p v old z
+
+pub laid-zoned : (p : Params) (v : View) (gone : ℕ) (old : List Segment) → Laid p v gone old → Zoned p v gone old
+laid-zoned p v gone old l g d m hd hq =
+    let k = member-is g (remaining p v gone) m in
+    record {
+      header-is = head! (l .header-stands g d k (hd, hq));
+      group-is = λ o h. group! o (l .in-group g d o k (hd, hq)) h;
+      once-is = λ o i h j. once! o i (l .number-once g d o i k (hd, hq)) h j;
+      footer-is = λ n i h. foot! i (l .footer-made g d i k (hd, hq) n) h;
+    }
+  where
+    w : Bool
+    w = sealedIn p v gone g
+
+    q : Zone
+    q = zoneAt v d g
+
+    head! : chunkAt v d (zoneOn g d) 0 ≡ mkChunk (headerBlock p d (zoneOn g d) (segmentOf p v gone g .serial) (segmentOf p v gone g .copied)) zeroSpare
+        → getD (q .blocks) 0 noChunk ≡ mkChunk (headerBlock p d g (segmentOf p v gone g .serial) (segmentOf p v gone g .copied)) zeroSpare
+    head! e = unfold chunkAt zoneOn in e
+
+    group! : (o : ℕ) → (o < dataStored p (zoneAt v d (zoneOn g d)) → inGroupOf p o (recordAt p v gone d g o .stripe) ≡ true) → o < dataStored p q → inGroupOf p o (recordIn p w q o .stripe) ≡ true
+    group! o f = unfold recordAt zoneOn in f
+
+    once! : (o i : ℕ) → (o < dataStored p (zoneAt v d (zoneOn g d)) → i < dataStored p (zoneAt v d (zoneOn g d)) → recordAt p v gone d g o .stripe ≡ recordAt p v gone d g i .stripe → o ≡ i)
+        → o < dataStored p q → i < dataStored p q → recordIn p w q o .stripe ≡ recordIn p w q i .stripe → o ≡ i
+    once! o i f = unfold recordAt zoneOn in f
+
+    foot! : (i : ℕ) → (i < footersStored p (zoneAt v d (zoneOn g d))
+        → chunkAt v d (zoneOn g d) (1 + p .S + i) .block ≡ footerBlock p (sparesOf (take (p .S) (drop 1 (zoneAt v d (zoneOn g d) .blocks)))) i)
+        → i < footersStored p q → getD (q .blocks) (1 + p .S + i) noChunk .block ≡ footerBlock p (sparesIn p q) i
+    foot! i f = unfold chunkAt zoneOn sparesIn in f
+
+-- and back, where pointers and serials are in order
+pub zoned-laid : (p : Params) (v : View) (gone : ℕ) (old : List Segment) → ((d z : ℕ) → d < p .N → z < p .Z → isIn gone d ≡ false → pointerAt v d z ≤ capacity p)
+    → ((g : ℕ) → In g (remaining p v gone) → segmentOf p v gone g .copied < segmentOf p v gone g .serial)
+    → ((g h : ℕ) → In g (remaining p v gone) → In h (remaining p v gone) → segmentOf p v gone g .serial ≡ segmentOf p v gone h .serial → g ≡ h)
+    → Zoned p v gone old → Laid p v gone old
+zoned-laid p v gone old low above once z = record {
+  pointer-low = λ d y k hy. low d y (k .0) hy (k .1);
+  header-stands = λ g d m k. head! g d (at g d m k .header-is);
+  serial-above = λ g m. above g (is-member g (remaining p v gone) m);
+  serial-once = λ g h m n. once g h (is-member g (remaining p v gone) m) (is-member h (remaining p v gone) n);
+  in-group = λ g d o m k. group! g d o (at g d m k .group-is o);
+  number-once = λ g d o i m k. once! g d o i (at g d m k .once-is o i);
+  footer-made = λ g d i m k n. foot! g d i (at g d m k .footer-is n i);
+}
+  where
+    w : ℕ → Bool
+    w g = sealedIn p v gone g
+
+    q : ℕ → ℕ → Zone
+    q g d = zoneAt v d g
+
+    at : (g d : ℕ) → Remains p v gone g → Here p gone d → ZoneLaid p old (sealedIn p v gone g) (segmentOf p v gone g .serial) (segmentOf p v gone g .copied) d g (zoneAt v d g)
+    at g d m k = z g d (is-member g (remaining p v gone) m) (k .0) (k .1)
+
+    head! : (g d : ℕ) → getD (q g d .blocks) 0 noChunk ≡ mkChunk (headerBlock p d g (segmentOf p v gone g .serial) (segmentOf p v gone g .copied)) zeroSpare
+        → chunkAt v d (zoneOn g d) 0 ≡ mkChunk (headerBlock p d (zoneOn g d) (segmentOf p v gone g .serial) (segmentOf p v gone g .copied)) zeroSpare
+    head! g d e = unfold chunkAt zoneOn in e
+
+    group! : (g d o : ℕ) → (o < dataStored p (q g d) → inGroupOf p o (recordIn p (w g) (q g d) o .stripe) ≡ true)
+        → o < dataStored p (zoneAt v d (zoneOn g d)) → inGroupOf p o (recordAt p v gone d g o .stripe) ≡ true
+    group! g d o f = unfold recordAt zoneOn in f
+
+    once! : (g d o i : ℕ) → (o < dataStored p (q g d) → i < dataStored p (q g d) → recordIn p (w g) (q g d) o .stripe ≡ recordIn p (w g) (q g d) i .stripe → o ≡ i)
+        → o < dataStored p (zoneAt v d (zoneOn g d)) → i < dataStored p (zoneAt v d (zoneOn g d)) → recordAt p v gone d g o .stripe ≡ recordAt p v gone d g i .stripe → o ≡ i
+    once! g d o i f = unfold recordAt zoneOn in f
+
+    foot! : (g d i : ℕ) → (i < footersStored p (q g d) → getD (q g d .blocks) (1 + p .S + i) noChunk .block ≡ footerBlock p (sparesIn p (q g d)) i)
+        → i < footersStored p (zoneAt v d (zoneOn g d))
+        → chunkAt v d (zoneOn g d) (1 + p .S + i) .block ≡ footerBlock p (sparesOf (take (p .S) (drop 1 (zoneAt v d (zoneOn g d) .blocks)))) i
+    foot! g d i f = unfold chunkAt zoneOn sparesIn in f
+
+-- ---- what a restart's checks give
+
+-- no number twice
+head-apart : (r : Rec) (rs : List Rec) → any (λ (q : Rec). eqb (q .stripe) (r .stripe)) rs ≡ false → (i : ℕ) → i < length rs → getD rs i (mkRec 0 0 0) .stripe ≡ r .stripe → ⊥
+head-apart r rs n i h e =
+    let a = getD rs i (mkRec 0 0 0) in
+    eqb-false (a .stripe) (r .stripe) (none-in (λ (q : Rec). eqb (q .stripe) (r .stripe)) rs n a (in-getD rs i (mkRec 0 0 0) h)) e
+
+pub twice-once : (rs : List Rec) → twice rs ≡ false → (o i : ℕ) → o < length rs → i < length rs → getD rs o (mkRec 0 0 0) .stripe ≡ getD rs i (mkRec 0 0 0) .stripe → o ≡ i
+unfolding twice
+twice-once [] n o i h k e = absurd (let z : ⊥ = omega arith in z)
+twice-once (r ∷ rs) n zero zero h k e = refl
+twice-once (r ∷ rs) n zero (suc i) h k e = absurd (head-apart r rs (or-left (any (λ (q : Rec). eqb (q .stripe) (r .stripe)) rs) (twice rs) n) i (omega arith) (sym e))
+twice-once (r ∷ rs) n (suc o) zero h k e = absurd (head-apart r rs (or-left (any (λ (q : Rec). eqb (q .stripe) (r .stripe)) rs) (twice rs) n) o (omega arith) e)
+twice-once (r ∷ rs) n (suc o) (suc i) h k e = ap suc (twice-once rs (or-right (any (λ (q : Rec). eqb (q .stripe) (r .stripe)) rs) (twice rs) n) o i (omega arith) (omega arith) e)
+
+same-blocks : (s t : List (List ℕ)) → sameBlocks s t ≡ true → s ≡ t
+unfolding sameBlocks
+same-blocks [] [] q = refl
+same-blocks [] (b ∷ t) q = true-false (sym q)
+same-blocks (a ∷ s) [] q = true-false (sym q)
+same-blocks (a ∷ s) (b ∷ t) q = ap₂ _∷_ (sameList-true a b (and-left (sameList a b) (sameBlocks s t) q)) (same-blocks s t (and-right (sameList a b) (sameBlocks s t) q))
+
+-- an unsealed zone's footers are made from its spares
+pub checked-footers : (p : Params) (q : Zone) → footerFaultIn p q ≡ false → (i : ℕ) → i < footersStored p q → getD (q .blocks) (1 + p .S + i) noChunk .block ≡ footerBlock p (sparesIn p q) i
+checked-footers p q f i h =
+    let n = footersStored p q in
+    let e : blocksOf (take n (drop (1 + p .S) (q .blocks))) ≡ map (footerBlock p (sparesIn p q)) (upFrom 0 n) =
+    same! (same-blocks (blocksOf (take n (drop (1 + p .S) (q .blocks)))) (footersOf p q 0 n) (fault! f)) in
+    ap (λ (c : Chunk). c .block) (sym (getD-take n (drop (1 + p .S) (q .blocks)) i noChunk h ∙ getD-drop (1 + p .S) (q .blocks) i noChunk))
+    ∙ sym (blocks-at (take n (drop (1 + p .S) (q .blocks))) i) ∙ ap (λ (l : List (List ℕ)). getD l i []) e
+    ∙ getD-map (footerBlock p (sparesIn p q)) (upFrom 0 n) i [] 0 (subst (λ (x : ℕ). i < x) (sym (length-upFrom 0 n)) h) ∙ ap (footerBlock p (sparesIn p q)) (getD-upFrom 0 n i 0 h ∙ zero-add i)
+  where
+    fault! : footerFaultIn p q ≡ false → sameBlocks (blocksOf (take (footersStored p q) (drop (1 + p .S) (q .blocks)))) (footersOf p q 0 (footersStored p q)) ≡ true
+    fault! x = unfold footerFaultIn in not-false (sameBlocks (blocksOf (take (footersStored p q) (drop (1 + p .S) (q .blocks)))) (footersOf p q 0 (footersStored p q))) x
+
+    same! : {l : List (List ℕ)} → l ≡ footersOf p q 0 (footersStored p q) → l ≡ map (footerBlock p (sparesIn p q)) (upFrom 0 (footersStored p q))
+    same! x = unfold footersOf sparesIn in x
+
+module _ (p : Params) (v : View) (gone : ℕ) (acc : Accepted p v gone) where
+  -- 01, Refusals, 9: the header
+  checked-header : (g d : ℕ) → In g (remaining p v gone) → d < p .N → isIn gone d ≡ false
+      → getD (zoneAt v d g .blocks) 0 noChunk ≡ mkChunk (headerBlock p d g (segmentOf p v gone g .serial) (segmentOf p v gone g .copied)) zeroSpare
+  checked-header g d m hd hq = chunk! (zone! (not-false (same (getD (x .zonesBy) d noZone) (x .seg))
+      (none-in fault (present p gone) (as! (faults-apart p v gone acc g m .no-header-fault)) d (in-present p gone d hd hq))))
+    where
+      x : Segment
+      x = segmentOf p v gone g
+
+      same : Zone → ℕ → Bool
+      same q y = sameChunk (getD (q .blocks) 0 noChunk) (headerBlock p d y (segmentOf p v gone g .serial) (segmentOf p v gone g .copied)) zeroSpare
+
+      fault : ℕ → Bool
+      fault e = not (sameChunk (getD (getD (segmentOf p v gone g .zonesBy) e noZone .blocks) 0 noChunk)
+          (headerBlock p e (segmentOf p v gone g .seg) (segmentOf p v gone g .serial) (segmentOf p v gone g .copied)) zeroSpare)
+
+      as! : headerFault p gone (segmentOf p v gone g) ≡ false → any fault (present p gone) ≡ false
+      as! e = unfold headerFault zoneOn in e
+
+      zone! : same (getD (x .zonesBy) d noZone) (x .seg) ≡ true → same (zoneAt v d g) g ≡ true
+      zone! e = subst (λ (q : Zone). same q g ≡ true) (zone-by p v gone g d hd) (subst (λ (y : ℕ). same (getD (segmentOf p v gone g .zonesBy) d noZone) y ≡ true) (seg-is p v gone g) e)
+
+      chunk! : same (zoneAt v d g) g ≡ true → getD (zoneAt v d g .blocks) 0 noChunk ≡ mkChunk (headerBlock p d g (segmentOf p v gone g .serial) (segmentOf p v gone g .copied)) zeroSpare
+      chunk! e = unfold sameChunk in
+          let c = getD (zoneAt v d g .blocks) 0 noChunk in
+          let b = headerBlock p d g (segmentOf p v gone g .serial) (segmentOf p v gone g .copied) in
+          let e1 = sameList-true (c .block) b (and-left (sameList (c .block) b) (sameList (c .spare) zeroSpare) e) in
+          let e2 = sameList-true (c .spare) zeroSpare (and-right (sameList (c .block) b) (sameList (c .spare) zeroSpare) e) in
+          λ i. mkChunk (e1 i) (e2 i)
+
+  checked-once : (g d o i : ℕ) → In g (remaining p v gone) → d < p .N → isIn gone d ≡ false → o < dataStored p (zoneAt v d g) → i < dataStored p (zoneAt v d g)
+      → recordIn p (sealedIn p v gone g) (zoneAt v d g) o .stripe ≡ recordIn p (sealedIn p v gone g) (zoneAt v d g) i .stripe → o ≡ i
+  checked-once g d o i m hd hq h j e =
+      let w = sealedIn p v gone g in
+      let q = zoneAt v d g in
+      let rs = recordsIn p w q in
+      let l = length-records p w q in
+      twice-once rs (zone-stripes p v gone acc g d m hd hq .1) o i (subst (λ (x : ℕ). o < x) (sym l) h) (subst (λ (x : ℕ). i < x) (sym l) j)
+      (ap (λ (r : Rec). r .stripe) (record-at p w q o (mkRec 0 0 0) h) ∙ e ∙ ap (λ (r : Rec). r .stripe) (sym (record-at p w q i (mkRec 0 0 0) j)))
+
+  pub open-footers : (g d : ℕ) → In g (remaining p v gone) → d < p .N → isIn gone d ≡ false → sealedIn p v gone g ≡ false → footerFaultIn p (zoneAt v d g) ≡ false
+  open-footers g d m hd hq ns =
+      ap (footerFaultIn p) (sym (zone-by p v gone g d hd))
+      ∙ none-in (λ e. footerFaultIn p (getD (segmentOf p v gone g .zonesBy) e noZone)) (present p gone) (as! (faults-apart p v gone acc g m .no-footer-fault)) d (in-present p gone d hd hq)
+    where
+      as! : footerFault p gone (segmentOf p v gone g) ≡ false → any (λ e. footerFaultIn p (getD (segmentOf p v gone g .zonesBy) e noZone)) (present p gone) ≡ false
+      as! e = unfold footerFault in (sym (ap (λ (b : Bool). not b && any (λ e. footerFaultIn p (getD (segmentOf p v gone g .zonesBy) e noZone)) (present p gone)) (full-is p v gone g ∙ ns)) ∙ e)
+
+  -- a sealed segment of an accepted image is found sealed
+  pub sealed-found : (g : ℕ) → In g (remaining p v gone) → sealedIn p v gone g ≡ true → foundSealed (segments p v gone) (segmentOf p v gone g .serial) ≡ true
+  sealed-found g m q = as! (in-any found (segments p v gone) (segmentOf p v gone g) (seg! (in-map (segmentOf p v gone) (remaining p v gone) g m))
+      (and-both (eqb (segmentOf p v gone g .serial) (segmentOf p v gone g .serial)) (segmentOf p v gone g .full) (eqb-self (segmentOf p v gone g .serial)) (full-is p v gone g ∙ q)))
+    where
+      found : Segment → Bool
+      found x = eqb (x .serial) (segmentOf p v gone g .serial) && x .full
+
+      as! : any found (segments p v gone) ≡ true → foundSealed (segments p v gone) (segmentOf p v gone g .serial) ≡ true
+      as! e = unfold foundSealed in e
+
+      seg! : In (segmentOf p v gone g) (map (segmentOf p v gone) (remaining p v gone)) → In (segmentOf p v gone g) (segments p v gone)
+      seg! i = unfold segments in i
+
+  -- every zone of an accepted image
+  pub accepted-zoned : Zoned p v gone (segments p v gone)
+  accepted-zoned g d m hd hq = record {
+    header-is = checked-header g d m hd hq;
+    group-is = λ o h. in-groups p v gone acc g d o m hd hq h;
+    once-is = λ o i h j e. checked-once g d o i m hd hq h j e;
+    footer-is = λ nf i h. go nf i h (test (sealedIn p v gone g));
+  }
+    where
+      go : foundSealed (segments p v gone) (segmentOf p v gone g .serial) ≡ false → (i : ℕ) → i < footersStored p (zoneAt v d g) → Test (sealedIn p v gone g)
+          → getD (zoneAt v d g .blocks) (1 + p .S + i) noChunk .block ≡ footerBlock p (sparesIn p (zoneAt v d g)) i
+      go nf i h (yes! q) = clash (sealed-found g m q) nf
+      go nf i h (no! q) = checked-footers p (zoneAt v d g) (open-footers g d m hd hq q) i h
+
+  pub laid-accepted : (old : List Segment) → Zoned p v gone old → Laid p v gone old
+  laid-accepted old z = zoned-laid p v gone old (λ d y hd hy hq. pointer-ok p v gone acc d y hd hy hq) (copied-low p v gone acc) once z
+    where
+      once : (g h : ℕ) → In g (remaining p v gone) → In h (remaining p v gone) → segmentOf p v gone g .serial ≡ segmentOf p v gone h .serial → g ≡ h
+      once g h m n e = go (ℕ-discrete g h)
+        where
+          go : Dec (g ≡ h) → g ≡ h
+          go (yes x) = x
+          go (no x) = absurd (serials-differ p v gone acc h g n m x e)
+
+-- ---- with none missing
+
+module _ (p : Params) (r : Ranged p) (v : View) (s : ℕ) (t : Tidy p v s) (old : List Segment) where
+  copied-of : (g : ℕ) → segmentOf p v 0 g .copied ≡ headerCopied (headerAt v 0 g)
+  copied-of g = copied-is p v 0 g ∙ ap (λ (x : ℕ). headerCopied (headerAt v x g)) (low-first p r)
+
+  pub laid-tidy : WellLaid p v old → Laid p v 0 old
+  laid-tidy f = zoned-laid p v 0 old (λ d y hd hy hq. t .pointer-low d y hd hy) above once
+      (λ g d m hd hq. let (hg, u) = remains-is-used p r v s t g m in subst (λ (x : ℕ). ZoneLaid p old (sealedIn p v 0 g) x (segmentOf p v 0 g .copied) d g (zoneAt v d g)) (sym (serial-of p r v s t g))
+      (subst (λ (x : ℕ). ZoneLaid p old (sealedIn p v 0 g) (headerSerial (headerAt v 0 g)) x d g (zoneAt v d g)) (sym (copied-of g)) (f g hg u d hd)))
+    where
+      above : (g : ℕ) → In g (remaining p v 0) → segmentOf p v 0 g .copied < segmentOf p v 0 g .serial
+      above g m = let (hg, u) = remains-is-used p r v s t g m in let a = serial-of p r v s t g in let b = copied-of g in let c = t .copied-less g hg u in omega arith
+
+      once : (g h : ℕ) → In g (remaining p v 0) → In h (remaining p v 0) → segmentOf p v 0 g .serial ≡ segmentOf p v 0 h .serial → g ≡ h
+      once g h m n e =
+          let (hg, u) = remains-is-used p r v s t g m in
+          let (hh, w) = remains-is-used p r v s t h n in
+          t .serial-once g h hg hh u w (sym (serial-of p r v s t g) ∙ e ∙ serial-of p r v s t h)
+
+  pub tidy-laid : Laid p v 0 old → WellLaid p v old
+  tidy-laid l z hz u d hd =
+      subst (λ (x : ℕ). ZoneLaid p old (sealedIn p v 0 z) x (headerCopied (headerAt v 0 z)) d z (zoneAt v d z)) (serial-of p r v s t z)
+      (subst (λ (x : ℕ). ZoneLaid p old (sealedIn p v 0 z) (segmentOf p v 0 z .serial) x d z (zoneAt v d z)) (copied-of z)
+      (laid-zoned p v 0 old l z d (used-remains p r v s t z hz u) hd (isIn-empty d)))
+
+-- a segment whose zones are the same
+pub seg-same : (p : Params) (r : Ranged p) (v u : View) (old : List Segment) (z : ℕ) → SameZones p v u z → SegLaid p v old z → SegLaid p u old z
+seg-same p r v u old z sm f d hd =
+    subst (λ (q : Zone). ZoneLaid p old (sealedIn p u 0 z) (headerSerial (headerAt u 0 z)) (headerCopied (headerAt u 0 z)) d z q) (sm d hd)
+    (subst (λ (b : List ℕ). ZoneLaid p old (sealedIn p u 0 z) (headerSerial b) (headerCopied b) d z (zoneAt v d z)) (zones-header p r v u z sm)
+    (subst (λ (w : Bool). ZoneLaid p old w (headerSerial (headerAt v 0 z)) (headerCopied (headerAt v 0 z)) d z (zoneAt v d z)) (zones-sealed p r v u z sm) (f d hd)))

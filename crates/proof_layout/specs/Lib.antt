@@ -1,0 +1,7 @@
+pub mod Laid
+pub mod Stored
+pub mod Segments
+pub mod Calls
+pub mod Restarts
+pub mod Assembly
+pub mod Plain

@@ -1,0 +1,183 @@
+-- What a read gives, in plain terms: the best of a list is beaten by none of it, and its place leads back to its stripe. Assumes nothing.
+use mathlib.Core.Path.{_≡_, refl, sym, ap, ap₂, _∙_, subst}
+use mathlib.Core.List.{List, [], _∷_}
+use mathlib.Core.Bool.{false, cond}
+use mathlib.Core.Logic.{inl, inr}
+use Prim.Native.Nat.{ℕ}
+use native.Mathlib.Omega.{arith}
+use Rattle.defs.specs.declared.Params.{Params}
+use Rattle.defs.specs.Demands.{saidBlock, saidAt}
+use Rattle.defs.specs.Drives.{View, zoneAt, zoneOn, placeSegment, sealedIn, recordIn, recordAt}
+use Rattle.defs.specs.History.Seen.{unwritten, got}
+use Rattle.defs.specs.Layout.{dataDrive, dataPosition}
+use Rattle.defs.specs.Lists.{Opt, isIn}
+use Rattle.defs.specs.Lists.Opt.{none, some}
+use Rattle.defs.specs.Params.{placeZone}
+use Rattle.defs.specs.Rank.{Cand, beats, better, best, candsOf}
+use Rattle.defs.specs.Segments.{remaining, segmentOf, segments, offsetOn, pieceOf, candOf, candidates}
+use Rattle.laws.specs.Geometry.{Ranged, ranged, drive-is-data, data-drive-lt, drive-position, position-lt}
+use Rattle.laws.specs.Ranges.{Test, test}
+use Rattle.laws.specs.Ranges.Test.{yes!, no! }
+use Rattle.spec_demands.specs.Latest.{Recorded, Latest, SaidIsLatest}
+use Rattle.spec_demands.specs.Latest.Latest.{never, latest}
+use Rattle.tablesay.specs.Base.{cand-zone, offset-here, offset-away, its-chunk}
+use Rattle.tablesay.specs.Members.{In, is-member, member-is}
+use Rattle.tablesay.specs.Ranks.{Beats, Tied, beats-yes, yes-beats, beats-trans, beats-self, tied-of, best-in, of-at}
+use Rattle.tablesay.specs.Ranks.Beats.{by-stamp, by-serial, by-drive, by-offset}
+use Rattle.tablesay.specs.Reads.{Spot, spot-of}
+use Rattle.tablesay.specs.Segs.{CandAt, cand-at, at-cand}
+use Rattle.tablesay.specs.Tests.{clash, not-so, cond-true, cond-false}
+
+-- ---- the rule
+
+-- records that are tied beat the same
+tied-beats : (a b c : Cand) → Tied a b → Beats a c → Beats b c
+tied-beats a b c t (by-stamp x) = by-stamp (let e = t .same-stamp in omega arith)
+tied-beats a b c t (by-serial e x) = by-serial (sym (t .same-stamp) ∙ e) (let f = t .same-serial in omega arith)
+tied-beats a b c t (by-drive e f x) = by-drive (sym (t .same-stamp) ∙ e) (sym (t .same-serial) ∙ f) (let g = t .same-drive in omega arith)
+tied-beats a b c t (by-offset e f g x) = by-offset (sym (t .same-stamp) ∙ e) (sym (t .same-serial) ∙ f) (sym (t .same-drive) ∙ g) (let h = t .same-offset in omega arith)
+
+-- what doesn't beat b doesn't beat what b doesn't beat
+not-through : (a b c : Cand) → beats a b ≡ false → beats b c ≡ false → beats a c ≡ false
+not-through a b c n m = not-so (beats a c) (λ q. go (beats-yes a c q) (test (beats b a)))
+  where
+    no : Beats b c → ⊥
+    no x = clash (yes-beats b c x) m
+
+    go : Beats a c → Test (beats b a) → ⊥
+    go x (yes! h) = no (beats-trans b a c (beats-yes b a h) x)
+    go x (no! h) = no (tied-beats a b c (tied-of a b n h) x)
+
+not-itself : (a : Cand) → beats a a ≡ false
+not-itself a = not-so (beats a a) (λ q. beats-self a (beats-yes a a q))
+
+some-is : {b c : Cand} → some b ≡ some c → b ≡ c
+some-is e = cc
+
+-- no record of a list beats its best
+unbeaten : (b : Cand) (cs : List Cand) (c : Cand) → best (some b) cs ≡ some c → (beats b c ≡ false) × ((e : Cand) → In e cs → beats e c ≡ false)
+unfolding best better
+unbeaten b [] c q = (subst (λ (x : Cand). beats b x ≡ false) (some-is q) (not-itself b), λ e m. absurd m)
+unbeaten b (x ∷ cs) c q = go (test (beats x b)) (unbeaten b cs c) (unbeaten x cs c)
+  where
+    go : Test (beats x b) → (best (some b) cs ≡ some c → (beats b c ≡ false) × ((e : Cand) → In e cs → beats e c ≡ false))
+        → (best (some x) cs ≡ some c → (beats x c ≡ false) × ((e : Cand) → In e cs → beats e c ≡ false))
+        → (beats b c ≡ false) × ((e : Cand) → In e (x ∷ cs) → beats e c ≡ false)
+    go (yes! h) fb fx =
+        let (n, f) = fx (sym (ap (λ (y : Cand). best (some y) cs) (cond-true (beats x b) x b h)) ∙ q) in
+        (not-so (beats b c) (λ y. clash (yes-beats x c (beats-trans x b c (beats-yes x b h) (beats-yes b c y))) n), both n f)
+      where
+        both : beats x c ≡ false → ((e : Cand) → In e cs → beats e c ≡ false) → (e : Cand) → In e (x ∷ cs) → beats e c ≡ false
+        both n f e (inl y) = subst (λ (z : Cand). beats z c ≡ false) (sym y) n
+        both n f e (inr y) = f e y
+    go (no! h) fb fx =
+        let (n, f) = fb (sym (ap (λ (y : Cand). best (some y) cs) (cond-false (beats x b) x b h)) ∙ q) in
+        (n, both n f)
+      where
+        both : beats b c ≡ false → ((e : Cand) → In e cs → beats e c ≡ false) → (e : Cand) → In e (x ∷ cs) → beats e c ≡ false
+        both n f e (inl y) = subst (λ (z : Cand). beats z c ≡ false) (sym y) (not-through x b c h n)
+        both n f e (inr y) = f e y
+
+-- of a list that isn't empty there is a best
+always : (b : Cand) (cs : List Cand) → best (some b) cs ≡ none → ⊥
+unfolding best better
+always b [] q = let z : _≡_ {A = ℕ} 0 1 = cc in omega arith
+always b (x ∷ cs) q = always (cond (beats x b) x b) cs q
+
+none-there : (cs : List Cand) → best none cs ≡ none → (e : Cand) → In e cs → ⊥
+unfolding best better
+none-there [] q e m = m
+none-there (x ∷ cs) q e m = always x cs q
+
+none-beats : (cs : List Cand) (c : Cand) → best none cs ≡ some c → (e : Cand) → In e cs → beats e c ≡ false
+unfolding best better
+none-beats [] c q e m = absurd m
+none-beats (x ∷ cs) c q e (inl y) = subst (λ (z : Cand). beats z c ≡ false) (sym y) (unbeaten x cs c q .0)
+none-beats (x ∷ cs) c q e (inr y) = unbeaten x cs c q .1 e y
+
+-- ---- records of counted stripes
+
+module _ (p : Params) (v : View) (gone a : ℕ) where
+  abbrev said : List Cand
+  said = candidates p gone (segments p v gone)
+
+  recorded-in : (c : Cand) → Recorded p v gone a c → In c (candsOf a said)
+  recorded-in c k = of-at a said c (
+    at-cand p v gone c (record {
+      of = k .segment;
+      stripe = k .stripe;
+      position = dataPosition p (k .stripe) (k .drive);
+      remains = is-member (k .segment) (remaining p v gone) (k .segment-remains);
+      stripe-low = k .stripe-low;
+      it-counts = k .stripe-counts;
+      position-low = position-lt p (k .stripe) (k .drive) (k .drive-data) (k .drive-low);
+      it-is = k .it-is ∙ ap (candOf p gone (segmentOf p v gone (k .segment)) (k .stripe)) (sym (drive-position p (k .stripe) (k .drive) (k .drive-data)));
+    }),
+    k .of-address,
+  )
+
+  in-recorded : (c : Cand) → CandAt p v gone c → c .address ≡ a → Recorded p v gone a c
+  in-recorded c k e = record {
+    segment = k .of;
+    stripe = k .stripe;
+    drive = dataDrive p (k .stripe) (k .position);
+    segment-remains = member-is (k .of) (remaining p v gone) (k .remains);
+    stripe-low = k .stripe-low;
+    stripe-counts = k .it-counts;
+    drive-low = data-drive-lt p (k .stripe) (k .position) (k .position-low);
+    drive-data = drive-is-data p (k .stripe) (k .position);
+    it-is = k .it-is;
+    of-address = e;
+  }
+
+  -- the block that a read gives is that of the record's stripe and drive
+  block-of : (r : Ranged p) (c : Cand) (k : CandAt p v gone c)
+      → saidBlock p v gone (some c) ≡ got (pieceOf p gone (segmentOf p v gone (k .of)) (k .stripe) (dataDrive p (k .stripe) (k .position)) .block)
+  block-of r c k =
+      let t = spot-of p r v gone c k in
+      let d = c .drive in
+      let zone! : placeSegment p (c .place) ≡ k .of = segment! ∙ cand-zone p r v gone c k t in
+      as! ∙ ap₂ (λ (g s : ℕ). got (pieceOf p gone (segmentOf p v gone g) s (c .drive) .block)) zone!
+      (ap (λ (g : ℕ). cond (isIn gone d) (c .offset) (recordAt p v gone d g (c .offset) .stripe)) zone! ∙ stripe! t (test (isIn gone d)))
+      ∙ ap (λ (e : ℕ). got (pieceOf p gone (segmentOf p v gone (k .of)) (k .stripe) e .block)) drive!
+    where
+      segment! : placeSegment p (c .place) ≡ placeZone p (c .place)
+      segment! = unfold placeSegment in refl
+
+      drive! : c .drive ≡ dataDrive p (k .stripe) (k .position)
+      drive! = unfold candOf in ap (λ (x : Cand). x .drive) (k .it-is)
+
+      as! : saidBlock p v gone (some c)
+          ≡ got (pieceOf p gone (segmentOf p v gone (placeSegment p (c .place)))
+          (cond (isIn gone (c .drive)) (c .offset) (recordAt p v gone (c .drive) (placeSegment p (c .place)) (c .offset) .stripe)) (c .drive) .block)
+      as! = unfold saidBlock in refl
+
+      stripe! : Spot p v gone c → Test (isIn gone (c .drive)) → cond (isIn gone (c .drive)) (c .offset) (recordAt p v gone (c .drive) (k .of) (c .offset) .stripe) ≡ k .stripe
+      stripe! t (yes! q) = cond-true (isIn gone (c .drive)) (c .offset) (recordAt p v gone (c .drive) (k .of) (c .offset) .stripe) q ∙ offset-away p r v gone c k t q
+      stripe! t (no! q) = cond-false (isIn gone (c .drive)) (c .offset) (recordAt p v gone (c .drive) (k .of) (c .offset) .stripe) q
+          ∙ ap (λ (o : ℕ). recordAt p v gone (c .drive) (k .of) o .stripe) (offset-here p r v gone c k t q) ∙ there (its-chunk p r v gone c k t q .its-stripe)
+        where
+          there : recordIn p (sealedIn p v gone (k .of)) (zoneAt v (c .drive) (k .of)) (offsetOn (segmentOf p v gone (k .of)) (c .drive) (k .stripe)) .stripe ≡ k .stripe
+              → recordAt p v gone (c .drive) (k .of) (offsetOn (segmentOf p v gone (k .of)) (c .drive) (k .stripe)) .stripe ≡ k .stripe
+          there e = unfold recordAt zoneOn in e
+
+  said-latest : Ranged p → Latest p v gone a (best none (candsOf a said)) (saidAt p v gone a)
+  unfolding in-recorded
+  said-latest r = go (best none (candsOf a said)) refl
+    where
+      at! : (o : Opt Cand) → best none (candsOf a said) ≡ o → saidAt p v gone a ≡ saidBlock p v gone o
+      at! o e = unfold saidAt in ap (saidBlock p v gone) e
+
+      nothing : saidBlock p v gone none ≡ unwritten
+      nothing = unfold saidBlock in refl
+
+      go : (o : Opt Cand) → best none (candsOf a said) ≡ o → Latest p v gone a (best none (candsOf a said)) (saidAt p v gone a)
+      go none e = never (λ c k. none-there (candsOf a said) e c (recorded-in c k)) e (at! none e ∙ nothing)
+      go (some c) e =
+          let (m, ea) = best-in a said c e in
+          let k = cand-at p v gone c m in
+          latest c (in-recorded c k ea) (λ x j. none-beats (candsOf a said) c e x (recorded-in x j)) e (at! (some c) e ∙ block-of r c k)
+
+-- demand 2, in plain terms
+pub said-plain : SaidIsLatest
+said-plain p ir v gone a = said-latest p v gone a (ranged p ir)

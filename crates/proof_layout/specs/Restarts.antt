@@ -1,0 +1,348 @@
+-- What a finished restart says and leaves: its answer, the drive that it names, and the layout on any image that it accepts. Assumes nothing.
+use mathlib.Core.Path.{_≡_, refl, sym, ap, _∙_, subst}
+use mathlib.Core.List.{List, [], _∷_, _++_, map, append-nil}
+use mathlib.Core.Bool.{Bool, true, false, cond, not, _&&_}
+use mathlib.Core.Logic.{inl, ⊎-elim}
+use Prim.Native.Nat.{ℕ, suc, _+_, _-_, _^_, _<_}
+use native.Mathlib.Decide.{ℕ-discrete}
+use borrow.Author.Tests.{eq-eqb, eqb-false, not-true}
+use native.Mathlib.Omega.{arith}
+use lib.Dec.{eqb}
+use lib.ListN.{length, getD}
+use Rattle.defs.specs.declared.Params.{Params}
+use Rattle.defs.specs.declared.Answer.the-variants.{Restarted}
+use Rattle.defs.specs.Answers.{kind, isCut, finished}
+use Rattle.defs.specs.Calls.{After}
+use Rattle.defs.specs.Counts.{lastCount}
+use Rattle.defs.specs.Drives.{Chunk, noChunk, Zone, View, zoneAt, pointerAt, chunkAt, Store, storeView, Disk, storeDisk, storeAll, zoneOn, sealedIn}
+use Rattle.defs.specs.Engine.{callDisk}
+use Rattle.defs.specs.Engine.Call.{restart}
+use Rattle.defs.specs.Faults.{footersStored}
+use Rattle.defs.specs.History.{mkWorld}
+use Rattle.defs.specs.Layout.{headerBlock, headerSerial, headerCopied}
+use Rattle.defs.specs.Lists.{below, all, any, keep, tally, isNil, flat, total, firstOr}
+use Rattle.defs.specs.Memory.{Memory}
+use Rattle.defs.specs.Params.{capacity, named, present}
+use Rattle.defs.specs.Restart.{freeZones, isWhole, isRagged, missingFooters, rewriteStores, dropStores, mendStores, restartStores, uncountedIn, reportOf, rewrites, restartPlan}
+use Rattle.defs.specs.Segments.{lowDrive, headerAt, remaining, Segment, segmentOf, segments, counts, counted, uncounted, greatestSerial, unsealed}
+use Rattle.laws.specs.Geometry.{Ranged, ranged}
+use Rattle.laws.specs.Mask.{isIn-empty}
+use Rattle.laws.specs.Ranges.{Test, test, map-map}
+use Rattle.laws.specs.Ranges.Test.{yes!, no! }
+use Rattle.laws.specs.Stores.{storeAll-append}
+use Rattle.spec_demands.specs.Engines.{callWorld, onValues, viewIn}
+use Rattle.spec_demands.specs.Tables.{halfStored, uncountedNumber, foundAfter, Restarts}
+use Rattle.tablesay.specs.Accept.{Accepted}
+use Rattle.tablesay.specs.Dropping.{free-are, drop-same, drop-roomy, drop-within, drop-used, kept-known}
+use Rattle.tablesay.specs.Idle.{whole-of}
+use Rattle.tablesay.specs.Joins.{roomy-append, within-append, stores-none}
+use Rattle.tablesay.specs.Laid.{header-serial, header-copied}
+use Rattle.tablesay.specs.Losing.{named-some}
+use Rattle.tablesay.specs.Members.{In, keep-in, in-all, in-any, below-in, first-in}
+use Rattle.tablesay.specs.Mending.{lack, has-pointer, have-few, b-zone, b-other, b-pointer}
+use Rattle.tablesay.specs.Outcomes.{Ended, refusal-kind, refused-unfinished, cut-unfinished, cut-cut}
+use Rattle.tablesay.specs.Outcomes.Ended.{ended-refused, ended-done, ended-cut}
+use Rattle.tablesay.specs.Puts.{puts-old}
+use Rattle.tablesay.specs.Rebuilding.{counted-low}
+use Rattle.tablesay.specs.Restarting.{mended, serials-small, names-none}
+use Rattle.tablesay.specs.Rewriting.{old-pointer, same-else, new-pointer, new-stripe, new-header, open-now}
+use Rattle.tablesay.specs.Run.{usedAt, Run}
+use Rattle.tablesay.specs.Segs.{present-in, data-low, serial-is, copied-is}
+use Rattle.tablesay.specs.Settled.{low-first, zones-used}
+use Rattle.tablesay.specs.Starting.{memory-missing, startChecks, startPlan, Begins, begins}
+use Rattle.tablesay.specs.Tables.{remains, in-remaining}
+use Rattle.tablesay.specs.Tests.{clash, cond-true, cond-false}
+use Rattle.tablesay.specs.Theorem.{restart-ends, restart-finished}
+use Rattle.tablesay.specs.Unsealed.{Loose, loose}
+use Rattle.tablesay.specs.Unsealed.Loose.{loose-none, loose-one}
+use Rattle.tablesay.specs.Zones.{Shaped}
+use Rattle.views.specs.Views.{Whole, seen}
+use Rattle.proof_layout.specs.Calls.{Keeps, same-keeps, stored-view, run-tidy}
+use Rattle.proof_layout.specs.Laid.{Laid, ZoneLaid, SegLaid, WellLaid, open-footers, checked-footers, accepted-zoned, laid-accepted, laid-tidy, seg-same}
+use Rattle.proof_layout.specs.Segments.{all-but}
+use Rattle.proof_layout.specs.Stored.{plain-laid, mend-laid}
+
+-- ---- the answer
+
+-- 01, Restart: "the number of stripes with some chunk but not counted, in remaining segments"
+uncounted-is : (p : Params) (v : View) (gone : ℕ) → uncountedIn p gone (segments p v gone) ≡ uncountedNumber p v gone
+unfolding uncountedIn uncountedNumber segments
+uncounted-is p v gone = ap total (map-map (λ (g : Segment). length (uncounted p gone g)) (segmentOf p v gone) (remaining p v gone) ∙ same!)
+  where
+    same! : map (λ g. length (uncounted p gone (segmentOf p v gone g))) (remaining p v gone) ≡ map (halfStored p v gone) (remaining p v gone)
+    same! = unfold halfStored uncounted counts tally in refl
+
+pub restarts-say : (p : Params) (k : Disk) (m : Memory) (d n : ℕ) → finished (callDisk p k m (restart d n) .answer) ≡ true
+    → Restarts onValues p (mkWorld k m) d (callWorld p (mkWorld k m) (restart d n))
+unfolding callWorld viewIn
+restarts-say p k m d n q = go (restart-ends p k m d n)
+  where
+    answer! : startPlan p k m d .answer ≡ Restarted (record { uncounted = uncountedNumber p (seen p k) (named d) })
+    answer! = unfold restartPlan reportOf in ap (λ (x : ℕ). Restarted (record { uncounted = x })) (uncounted-is p (seen p k) (named d))
+
+    missing! : startPlan p k m d .memory .state .missing ≡ named d
+    missing! = unfold restartPlan in memory-missing p _ (named d) (m .inflight)
+
+    made : callDisk p k m (restart d n) .answer ≡ Restarted (record { uncounted = uncountedNumber p (seen p k) (named d) }) → callDisk p k m (restart d n) .memory .state .missing ≡ named d
+        → Restarts onValues p (mkWorld k m) d (callWorld p (mkWorld k m) (restart d n))
+    made e f = unfold callWorld viewIn in record { reports = e; under = f }
+
+    go : Ended p k m (startChecks p k m d) (startPlan p k m d) (callDisk p k m (restart d n)) → Restarts onValues p (mkWorld k m) d (callWorld p (mkWorld k m) (restart d n))
+    go (ended-refused x e f g h) = clash q (ap finished f ∙ refused-unfinished x (refusal-kind (startChecks p k m d) x e))
+    go (ended-done c f g h) = made (f ∙ answer!) (ap (λ (x : Memory). x .state .missing) h ∙ missing!)
+    go (ended-cut c f) = clash q (ap finished f ∙ cut-unfinished)
+
+-- ---- with none missing: the view that the stores leave
+
+module _ (p : Params) (r : Ranged p) (v : View) (sh : Shaped p v) (acc : Accepted p v 0) where
+  abbrev gs : List Segment
+  gs = segments p v 0
+
+  abbrev va : View
+  va = storeAll storeView (dropStores p gs) v
+
+  h0 : 0 < p .N
+  h0 = omega (arith, r .drives-low)
+
+  -- a segment that remains, as accepted
+  kept-seg : (y : ℕ) → y < p .Z → remains p v 0 y ≡ true → SegLaid p v gs y
+  kept-seg y hy q d hd =
+      subst (λ (x : ℕ). ZoneLaid p gs (sealedIn p v 0 y) (headerSerial (headerAt v x y)) (headerCopied (headerAt v x y)) d y (zoneAt v d y)) (low-first p r)
+      (subst (λ (x : ℕ). ZoneLaid p gs (sealedIn p v 0 y) (headerSerial (headerAt v (lowDrive p 0) y)) x d y (zoneAt v d y)) (copied-is p v 0 y)
+      (subst (λ (x : ℕ). ZoneLaid p gs (sealedIn p v 0 y) x (segmentOf p v 0 y .copied) d y (zoneAt v d y)) (serial-is p v 0 y)
+      (accepted-zoned p v 0 acc y d (in-remaining p v 0 y hy q) hd (isIn-empty d))))
+
+  -- what doesn't remain is reset
+  drop-laid : WellLaid p va gs
+  drop-laid y hy q = let k = sym (drop-used p r v sh acc y hy) ∙ q in seg-same p r v va gs y (drop-same p r v sh acc y hy k) (kept-seg y hy k)
+
+  nothing-laid : WellLaid p (storeAll storeView [] va) gs
+  nothing-laid = subst (λ (x : View). WellLaid p x gs) (sym (stores-none va)) drop-laid
+
+  module _ (g : ℕ) (hg : g < p .Z) (kg : remains p v 0 g ≡ true) (ng : sealedIn p v 0 g ≡ false)
+      (oth : (y : ℕ) → y < p .Z → remains p v 0 y ≡ true → (y ≡ g → ⊥) → sealedIn p v 0 y ≡ true) where
+    abbrev x : Segment
+    x = segmentOf p v 0 g
+
+    -- missing footers
+    footers-laid : isWhole p x ≡ true → WellLaid p (storeAll storeView (missingFooters p x) va) gs
+    footers-laid wh = all-but p r va vb gs g (b-other p r v sh acc g hg kg ng oth wh) (λ q. seg) drop-laid
+      where
+        vb : View
+        vb = storeAll storeView (missingFooters p x) va
+
+        head : headerAt v 0 g ≡ headerAt vb 0 g
+        head = as! (sym (ap (λ (q : Zone). getD (q .blocks) 0 noChunk .block) (b-zone p r v sh acc g hg kg ng oth wh 0 h0)
+            ∙ ap (λ (c : Chunk). c .block) (puts-old 0 g (lack p r v sh acc g hg kg ng oth 0) (zoneAt v 0 g) 0 (let a = has-pointer p r v sh acc g hg kg ng oth wh 0 h0 in omega arith))))
+          where
+            as! : getD (zoneAt v 0 g .blocks) 0 noChunk .block ≡ getD (zoneAt vb 0 g .blocks) 0 noChunk .block → headerAt v 0 g ≡ headerAt vb 0 g
+            as! e = unfold headerAt chunkAt zoneOn in e
+
+        sealed-now : sealedIn p vb 0 g ≡ true
+        sealed-now = as! (in-all (λ e. eqb (pointerAt vb e g) (capacity p)) (present p 0)
+            (λ e i. eq-eqb (pointerAt vb e g) (capacity p) (b-pointer p r v sh acc g hg kg ng oth wh e (present-in p 0 e i .0))))
+          where
+            as! : all (λ e. eqb (pointerAt vb e g) (capacity p)) (present p 0) ≡ true → sealedIn p vb 0 g ≡ true
+            as! q = unfold sealedIn zoneOn in q
+
+        seg : SegLaid p vb gs g
+        seg d hd =
+            let q = zoneAt v d g in
+            let i = footersStored p q in
+            let sn = headerSerial (headerAt v 0 g) in
+            let cn = headerCopied (headerAt v 0 g) in
+            let z : ZoneLaid p gs false sn cn d g q = subst (λ (w : Bool). ZoneLaid p gs w sn cn d g q) ng (kept-seg g hg kg d hd) in
+            subst (λ (c : List ℕ). ZoneLaid p gs (sealedIn p vb 0 g) (headerSerial c) (headerCopied c) d g (zoneAt vb d g)) head
+            (subst (λ (w : Bool). ZoneLaid p gs w sn cn d g (zoneAt vb d g)) (sym sealed-now)
+            (subst (λ (y : Zone). ZoneLaid p gs true sn cn d g y) (sym (b-zone p r v sh acc g hg kg ng oth wh d hd))
+            (mend-laid p r d g q (sh .zone-ok d g hd hg) i (have-few p r v sh acc g hg kg ng oth wh d) (has-pointer p r v sh acc g hg kg ng oth wh d hd)
+            (λ j l. checked-footers p q (open-footers p v 0 acc g d (in-remaining p v 0 g hg kg) hd (isIn-empty d) ng) j l) gs sn cn z)))
+
+    -- the rewrite
+    rewrite-laid : isWhole p x ≡ false → (z0 : ℕ) → z0 < p .Z → remains p v 0 z0 ≡ false → suc (greatestSerial gs) < 256 ^ 8
+        → WellLaid p (storeAll storeView (rewriteStores p x z0 (suc (greatestSerial gs))) va) gs
+    rewrite-laid nw z0 hz0 fz fit y hy q = go (ℕ-discrete z0 y) (ℕ-discrete g y)
+      where
+        sn : ℕ
+        sn = suc (greatestSerial gs)
+
+        vc : View
+        vc = storeAll storeView (rewriteStores p x z0 (suc (greatestSerial gs))) va
+
+        serial-low : x .serial < 256 ^ 8
+        serial-low = let a = kept-known p r v sh acc g hg kg in
+            let e : x .serial ≡ headerSerial (headerAt v 0 g) = serial-is p v 0 g ∙ ap (λ (y : ℕ). headerSerial (headerAt v y g)) (low-first p r) in omega arith
+
+        head : headerAt vc 0 z0 ≡ headerBlock p 0 z0 sn (x .serial)
+        head = as! (ap (λ (c : Chunk). c .block) (new-header p r v sh acc g hg kg ng oth z0 hz0 fz fit 0 h0))
+          where
+            as! : getD (zoneAt vc 0 z0 .blocks) 0 noChunk .block ≡ headerBlock p 0 z0 sn (x .serial) → headerAt vc 0 z0 ≡ headerBlock p 0 z0 sn (x .serial)
+            as! e = unfold headerAt chunkAt zoneOn in e
+
+        new-ptr : (d : ℕ) → d < p .N → zoneAt vc d z0 .pointer ≡ 1 + length (counted p 0 x)
+        new-ptr d hd = as! (new-pointer p r v sh acc g hg kg ng oth z0 hz0 fz fit d hd)
+          where
+            as! : pointerAt vc d z0 ≡ 1 + length (counted p 0 x) → zoneAt vc d z0 .pointer ≡ 1 + length (counted p 0 x)
+            as! e = unfold pointerAt in e
+
+        seg : SegLaid p vc gs z0
+        seg d hd =
+            let qz = zoneAt vc d z0 in
+            let c = length (counted p 0 x) in
+            let ep = new-ptr d hd in
+            let cl = counted-low p 0 x in
+            subst (λ (b : List ℕ). ZoneLaid p gs (sealedIn p vc 0 z0) (headerSerial b) (headerCopied b) d z0 qz) (sym head)
+            (subst (λ (a : ℕ). ZoneLaid p gs (sealedIn p vc 0 z0) a (headerCopied (headerBlock p 0 z0 sn (x .serial))) d z0 qz) (sym (header-serial p 0 z0 sn (x .serial) fit))
+            (subst (λ (a : ℕ). ZoneLaid p gs (sealedIn p vc 0 z0) sn a d z0 qz) (sym (header-copied p 0 z0 sn (x .serial) serial-low))
+            (subst (λ (w : Bool). ZoneLaid p gs w sn (x .serial) d z0 qz) (sym (open-now p r v sh acc g hg kg ng oth z0 hz0 fz fit nw))
+            (plain-laid p gs sn (x .serial) d z0 qz (new-header p r v sh acc g hg kg ng oth z0 hz0 fz fit d hd) (omega arith)
+            (λ o l. new-stripe p r v sh acc g hg kg ng oth z0 hz0 fz fit d o hd (let a = data-low p qz o l .1 in omega arith))))))
+
+        go : Dec (z0 ≡ y) → Dec (g ≡ y) → SegLaid p vc gs y
+        go (yes e) b = subst (λ (n : ℕ). SegLaid p vc gs n) e seg
+        go (no a) (yes e) = clash q (subst (λ (n : ℕ). usedAt vc n ≡ false) e (ap not (eq-eqb (pointerAt vc 0 g) 0 (old-pointer p r v sh acc g hg kg ng oth z0 hz0 fz fit 0 h0))))
+        go (no a) (no b) =
+            let sm = same-else p r v sh acc g hg kg ng oth z0 hz0 fz fit y hy a b in
+            seg-same p r va vc gs y sm (drop-laid y hy (zones-used p r va vc y sm ∙ q))
+
+    mended-one : unsealed gs ≡ x ∷ [] → rewrites p 0 gs && eqb (greatestSerial gs) lastCount ≡ false → rewrites p 0 gs && isNil (freeZones p gs) ≡ false → greatestSerial gs < 256 ^ 8
+        → WellLaid p (storeAll storeView (mendStores p gs x) va) gs
+    mended-one us c6 c8 bd = go (test (isWhole p x)) (test (isRagged p x))
+      where
+        whole! : isWhole p x ≡ true → mendStores p gs x ≡ missingFooters p x
+        whole! q = unfold mendStores in rw q
+
+        plain! : isWhole p x ≡ false → isRagged p x ≡ false → mendStores p gs x ≡ []
+        plain! q w = unfold mendStores in rw (q, w)
+
+        ragged! : isWhole p x ≡ false → isRagged p x ≡ true → mendStores p gs x ≡ rewriteStores p x (firstOr 0 (freeZones p gs)) (suc (greatestSerial gs))
+        ragged! q w = unfold mendStores in rw (q, w)
+
+        rewrites! : isRagged p x ≡ true → rewrites p 0 gs ≡ true
+        rewrites! q = unfold rewrites in (ap (any (isRagged p)) us ∙ in-any (isRagged p) (x ∷ []) x (inl refl) q)
+
+        go : Test (isWhole p x) → Test (isRagged p x) → WellLaid p (storeAll storeView (mendStores p gs x) va) gs
+        go (yes! q) w = subst (λ (l : List Store). WellLaid p (storeAll storeView l va) gs) (sym (whole! q)) (footers-laid q)
+        go (no! q) (no! w) = subst (λ (l : List Store). WellLaid p (storeAll storeView l va) gs) (sym (plain! q w)) nothing-laid
+        go (no! q) (yes! w) =
+            let rw! = rewrites! w in
+            let n6 : eqb (greatestSerial gs) lastCount ≡ false = sym (ap (λ (b : Bool). b && eqb (greatestSerial gs) lastCount) rw!) ∙ c6 in
+            let n8 : isNil (freeZones p gs) ≡ false = sym (ap (λ (b : Bool). b && isNil (freeZones p gs)) rw!) ∙ c8 in
+            let z0 = firstOr 0 (freeZones p gs) in
+            let i : In z0 (keep (λ z. not (remains p v 0 z)) (below (p .Z))) = subst (λ (l : List ℕ). In z0 l) (free-are p r v sh acc) (first-in (freeZones p gs) 0 n8) in
+            let (j, f) = keep-in (λ z. not (remains p v 0 z)) (below (p .Z)) z0 i in
+            let ne : ¬ (greatestSerial gs ≡ lastCount) = eqb-false (greatestSerial gs) lastCount n6 in
+            subst (λ (l : List Store). WellLaid p (storeAll storeView l va) gs) (sym (ragged! q w))
+            (rewrite-laid q z0 (below-in (p .Z) z0 j) (not-true (remains p v 0 z0) f) (let b = bd in omega arith))
+
+  mended-laid : rewrites p 0 gs && eqb (greatestSerial gs) lastCount ≡ false → rewrites p 0 gs && isNil (freeZones p gs) ≡ false → greatestSerial gs < 256 ^ 8
+      → WellLaid p (storeAll storeView (flat (mendStores p gs) (unsealed gs)) va) gs
+  mended-laid c6 c8 bd = go (loose p r v sh acc)
+    where
+      go : Loose p v → WellLaid p (storeAll storeView (flat (mendStores p gs) (unsealed gs)) va) gs
+      go (loose-none e f) = subst (λ (l : List Store). WellLaid p (storeAll storeView l va) gs) (sym (ap (flat (mendStores p gs)) e ∙ none!)) nothing-laid
+        where
+          none! : flat (mendStores p gs) [] ≡ []
+          none! = unfold flat in refl
+      go (loose-one g hg kg ng us oth) = subst (λ (l : List Store). WellLaid p (storeAll storeView l va) gs)
+          (sym (ap (flat (mendStores p gs)) us ∙ one! (segmentOf p v 0 g) ∙ append-nil (mendStores p gs (segmentOf p v 0 g)))) (mended-one g hg kg ng oth us c6 c8 bd)
+        where
+          one! : (y : Segment) → flat (mendStores p gs) (y ∷ []) ≡ mendStores p gs y ++ []
+          one! y = unfold flat in refl
+
+-- ---- any finished restart
+
+module _ (p : Params) (k : Disk) (m : Memory) (d n : ℕ) (shk : Whole p k → Shaped p (seen p k)) (fin : finished (callDisk p k m (restart d n) .answer) ≡ true) where
+  abbrev v : View
+  v = seen p k
+
+  abbrev a : After Disk
+  a = callDisk p k m (restart d n)
+
+  abbrev Found : Type 0
+  Found = Laid p (seen p (a .drives)) (named d) (segments p v (named d))
+
+  stores-are : startPlan p k m d .stores ≡ restartStores p (named d) (segments p v (named d))
+  stores-are = unfold restartPlan in refl
+
+  -- a drive is named: nothing is stored
+  lost-first : Begins p k m d → d < p .N → a .drives ≡ storeAll (storeDisk p) (startPlan p k m d .stores) k → Found
+  lost-first b hd g =
+      let gone = named d in
+      let s0 : startPlan p k m d .stores ≡ [] = stores-are ∙ none! (named-some p (ranged p (b .in-range!)) d hd) in
+      let ek : a .drives ≡ k = g ∙ ap (λ (x : List Store). storeAll (storeDisk p) x k) s0 ∙ nothing in
+      subst (λ (x : Disk). Laid p (seen p x) gone (segments p v gone)) (sym ek) (laid-accepted p v gone (b .accepted!) (segments p v gone) (accepted-zoned p v gone (b .accepted!)))
+    where
+      none! : eqb (named d) 0 ≡ false → restartStores p (named d) (segments p v (named d)) ≡ []
+      none! q = unfold restartStores in cond-false (eqb (named d) 0) (dropStores p (segments p v (named d)) ++ flat (mendStores p (segments p v (named d))) (unsealed (segments p v (named d)))) [] q
+
+      nothing : storeAll (storeDisk p) [] k ≡ k
+      nothing = unfold storeAll in refl
+
+  -- none is named
+  well-first : Begins p k m d → named d ≡ 0 → a .memory .state .missing ≡ named d → a .drives ≡ storeAll (storeDisk p) (startPlan p k m d .stores) k → Found
+  well-first b nd mm g =
+      let r = ranged p (b .in-range!) in
+      let w = whole-of p k m (b .lent!) in
+      let sh = shk w in
+      let gs = segments p v 0 in
+      let acc : Accepted p v 0 = subst (λ (x : ℕ). Accepted p v x) nd (b .accepted!) in
+      let c6 : rewrites p 0 gs && eqb (greatestSerial gs) lastCount ≡ false =
+      subst (λ (x : ℕ). rewrites p x (segments p v x) && eqb (greatestSerial (segments p v x)) lastCount ≡ false) nd (b .sixth!) in
+      let c8 : rewrites p 0 gs && isNil (freeZones p gs) ≡ false = subst (λ (x : ℕ). rewrites p x (segments p v x) && isNil (freeZones p (segments p v x)) ≡ false) nd (b .eighth!) in
+      let bd = serials-small p r v sh in
+      let md = mended p r v sh acc c6 c8 bd in
+      let ds = dropStores p gs in
+      let ts = flat (mendStores p gs) (unsealed gs) in
+      let es : startPlan p k m d .stores ≡ ds ++ ts = stores-are ∙ ap (λ (x : ℕ). restartStores p x (segments p v x)) nd ∙ zero! in
+      let ev : seen p (a .drives) ≡ storeAll storeView ts (storeAll storeView ds v) =
+      ap (seen p) (g ∙ ap (λ (x : List Store). storeAll (storeDisk p) x k) es)
+      ∙ stored-view p k (ds ++ ts) (b .in-range!) w sh (roomy-append p v ds ts (sh .sized) (drop-roomy p r v sh acc) (md .mend-roomy))
+      (within-append p ds ts (drop-within p r v sh acc) (md .mend-within))
+      ∙ storeAll-append storeView ds ts v in
+      let u = restart-finished p k m d n shk fin in
+      let wl : WellLaid p (seen p (a .drives)) gs = subst (λ (x : View). WellLaid p x gs) (sym ev) (mended-laid p r v sh acc c6 c8 bd) in
+      subst (λ (x : ℕ). Laid p (seen p (a .drives)) x (segments p v x)) (sym nd)
+      (laid-tidy p r (seen p (a .drives)) (a .memory .state .serial .0) (run-tidy p (a .drives) (a .memory) u (mm ∙ nd)) gs wl)
+    where
+      zero! : restartStores p 0 (segments p v 0) ≡ dropStores p (segments p v 0) ++ flat (mendStores p (segments p v 0)) (unsealed (segments p v 0))
+      zero! = unfold restartStores in refl
+
+  missing-is : a .memory .state .missing ≡ named d
+  missing-is = as! (restarts-say p k m d n fin .under)
+    where
+      as! : callWorld p (mkWorld k m) (restart d n) .world .memory .state .missing ≡ named d → callDisk p k m (restart d n) .memory .state .missing ≡ named d
+      as! e = unfold callWorld in e
+
+  -- 01, Restart: the layout, on what it found
+  pub laid-restart : Found
+  laid-restart = go (restart-ends p k m d n)
+    where
+      go : Ended p k m (startChecks p k m d) (startPlan p k m d) (callDisk p k m (restart d n)) → Found
+      go (ended-refused x e f g h) = clash fin (ap finished f ∙ refused-unfinished x (refusal-kind (startChecks p k m d) x e))
+      go (ended-done c f g h) = let b = begins p k m d c in ⊎-elim (λ x. lost-first b x g) (λ x. well-first b x missing-is g) (names-none p (ranged p (b .in-range!)) d (b .names!))
+      go (ended-cut c f) = clash fin (ap finished f ∙ cut-unfinished)
+
+  pub laid-first : Keeps p (segments p v (named d)) a
+  laid-first = subst (λ (x : ℕ). Laid p (seen p (a .drives)) x (segments p v (named d))) (sym missing-is) laid-restart
+
+-- a restart in a run, finished or refused
+pub laid-again : (p : Params) (k : Disk) (m : Memory) → Run p k m → (old : List Segment) → Laid p (seen p k) (m .state .missing) old → (d n : ℕ) → isCut (callDisk p k m (restart d n) .answer) ≡ false
+    → Keeps p (foundAfter p (seen p k) (restart d n) (callDisk p k m (restart d n) .answer) old) (callDisk p k m (restart d n))
+unfolding foundAfter
+laid-again p k m u old l d n nc = go (test (finished (callDisk p k m (restart d n) .answer))) (restart-ends p k m d n)
+  where
+    a : After Disk
+    a = callDisk p k m (restart d n)
+
+    go : Test (finished (callDisk p k m (restart d n) .answer)) → Ended p k m (startChecks p k m d) (startPlan p k m d) (callDisk p k m (restart d n))
+        → Keeps p (cond (finished (callDisk p k m (restart d n) .answer)) (segments p (seen p k) (named d)) old) (callDisk p k m (restart d n))
+    go (yes! q) x = subst (λ (y : List Segment). Keeps p y (callDisk p k m (restart d n))) (sym (cond-true (finished (a .answer)) (segments p (seen p k) (named d)) old q))
+        (laid-first p k m d n (λ w. u .base .shaped) q)
+    go (no! q) (ended-refused x e f g h) = subst (λ (y : List Segment). Keeps p y (callDisk p k m (restart d n)))
+        (sym (cond-false (finished (a .answer)) (segments p (seen p k) (named d)) old q)) (same-keeps p k m old (callDisk p k m (restart d n)) l g h)
+    go (no! q) (ended-done c f g h) = clash (ap finished f ∙ done!) q
+      where
+        done! : finished (startPlan p k m d .answer) ≡ true
+        done! = unfold restartPlan finished kind in refl
+    go (no! q) (ended-cut c f) = clash (ap isCut f ∙ cut-cut) nc

@@ -1,0 +1,142 @@
+-- What the stores of a call do to the used segments, with none missing: one is opened, a chunk lands, one is sealed, one is reset. Assumes nothing.
+use mathlib.Core.Path.{_≡_, refl, sym, _∙_, subst}
+use mathlib.Core.List.{List}
+use mathlib.Core.Bool.{Bool, true, false}
+use mathlib.Core.Logic.{inl, inr}
+use Prim.Native.Nat.{ℕ, suc, _+_, _-_, _^_, _<_}
+use native.Mathlib.Nat.{sub-zero}
+use native.Mathlib.Decide.{ℕ-discrete}
+use borrow.Author.Tests.{eq-eqb, lt-ltb}
+use native.Mathlib.Omega.{arith}
+use lib.Dec.{ltb, eqb, lit<}
+use lib.ListN.{length}
+use Rattle.defs.specs.declared.Params.{Params}
+use Rattle.defs.specs.declared.State.{State}
+use Rattle.defs.specs.Drives.{Zone, View, zoneAt, pointerAt, putZone, storeView, storeAll, sealedIn, headerStores, resetStores}
+use Rattle.defs.specs.Drives.Store.{put}
+use Rattle.defs.specs.Landing.{ready, flightRec, sealStores}
+use Rattle.defs.specs.Layout.{group, inGroupOf, headerBlock, headerSerial, headerCopied, recordBytes}
+use Rattle.defs.specs.Memory.{stripeIn}
+use Rattle.defs.specs.Params.{footers}
+use Rattle.defs.specs.Segments.{headerAt, Segment}
+use Rattle.laws.specs.Geometry.{Ranged}
+use Rattle.laws.specs.Ranges.{and-both}
+use Rattle.tablesay.specs.Chunks.{not-landed, pointer-some, pointer-data, offset-group, stripe-of, chunk-zone, chunk-other, chunk-grows, open-before, open-after}
+use Rattle.tablesay.specs.Heading.{header-zone, header-other, header-block}
+use Rattle.tablesay.specs.Idle.{StateOk}
+use Rattle.tablesay.specs.Laid.{header-serial, header-copied}
+use Rattle.tablesay.specs.Puts.{putAll}
+use Rattle.tablesay.specs.Resetting.{reset-same, reset-was}
+use Rattle.tablesay.specs.Run.{usedAt, flies, Healthy}
+use Rattle.tablesay.specs.Sealing.{footerChunks, seal-zone, seal-other, seal-grows, seal-sealed}
+use Rattle.tablesay.specs.Settled.{SameZones, zones-used}
+use Rattle.tablesay.specs.Zones.{Shaped}
+use Rattle.proof_layout.specs.Laid.{ZoneLaid, SegLaid, WellLaid, seg-same}
+use Rattle.proof_layout.specs.Stored.{head-laid, put-laid, mend-laid}
+
+-- the zone by itself
+zone-pointer : (v : View) (d z n : ℕ) → pointerAt v d z ≡ n → zoneAt v d z .pointer ≡ n
+zone-pointer v d z n e = unfold pointerAt in e
+
+-- one segment changes, and is laid out as it is then
+pub all-but : (p : Params) (r : Ranged p) (v u : View) (old : List Segment) (z : ℕ) → ((y : ℕ) → y < p .Z → (z ≡ y → ⊥) → SameZones p v u y)
+    → (usedAt u z ≡ true → SegLaid p u old z) → WellLaid p v old → WellLaid p u old
+all-but p r v u old z same f l y hy q = go (ℕ-discrete z y)
+  where
+    go : Dec (z ≡ y) → SegLaid p u old y
+    go (yes e) = subst (λ (x : ℕ). SegLaid p u old x) e (f (subst (λ (x : ℕ). usedAt u x ≡ true) (sym e) q))
+    go (no n) = seg-same p r v u old y (same y hy n) (l y hy (zones-used p r v u y (same y hy n) ∙ q))
+
+-- 01, Write: a segment is opened under a serial of 8 bytes, with nothing copied
+pub opened-laid : (p : Params) (r : Ranged p) (v : View) (sh : Shaped p v) (old : List Segment) (g s : ℕ) (hg : g < p .Z) (em : (d : ℕ) → d < p .N → pointerAt v d g ≡ 0) → s < 256 ^ 8
+    → WellLaid p v old → WellLaid p (storeAll storeView (headerStores p g s 0) v) old
+opened-laid p r v sh old g s hg em fit l =
+    all-but p r v u old g (λ y hy n d hd. sym (header-other p r v sh g s 0 hg em d y hd hy n)) (λ q d hd.
+    subst (λ (b : List ℕ). ZoneLaid p old (sealedIn p u 0 g) (headerSerial b) (headerCopied b) d g (zoneAt u d g)) (sym (header-block p r v sh g s 0 hg em))
+    (subst (λ (x : ℕ). ZoneLaid p old (sealedIn p u 0 g) x (headerCopied (headerBlock p 0 g s 0)) d g (zoneAt u d g)) (sym (header-serial p 0 g s 0 fit))
+    (subst (λ (x : ℕ). ZoneLaid p old (sealedIn p u 0 g) s x d g (zoneAt u d g)) (sym (header-copied p 0 g s 0 (lit< tt)))
+    (subst (λ (x : Zone). ZoneLaid p old (sealedIn p u 0 g) s 0 d g x) (sym (header-zone p r v sh g s 0 hg em d hd))
+    (head-laid p r old (sealedIn p u 0 g) s 0 d g (zoneAt v d g) (sh .zone-ok d g hd hg) (zone-pointer v d g 0 (em d hd))))))) l
+  where
+    u : View
+    u = storeAll storeView (headerStores p g s 0) v
+
+-- 01, Reclaim: a segment is reset
+pub reset-laid : (p : Params) (r : Ranged p) (v : View) (sh : Shaped p v) (old : List Segment) (g : ℕ) (hg : g < p .Z) → WellLaid p v old → WellLaid p (storeAll storeView (resetStores p g) v) old
+reset-laid p r v sh old g hg l = all-but p r v (storeAll storeView (resetStores p g) v) old g (reset-same p r v sh g hg) (λ q. absurd (reset-was p r v sh g hg g hg q .0 refl)) l
+
+-- 01, Landing: a chunk
+module _ (p : Params) (r : Ranged p) (v : View) (sh : Shaped p v) (st : State) (h : Healthy p v st) (so : StateOk p st) (z : ℕ) (oz : st .opened ≡ suc z)
+    (d i : ℕ) (hd : d < p .N) (hi : i < 8) (fi : flies st i ≡ true) (rd : ready p st i d ≡ true) (b : List ℕ) (lb : length b ≡ p .B) (old : List Segment) where
+  abbrev s : ℕ
+  s = stripeIn st i
+
+  abbrev v1 : View
+  v1 = storeView (put d z b (recordBytes (flightRec p st i d))) v
+
+  hz : z < p .Z
+  hz = h .opens-at z oz .opened-zone
+
+  ptr : zoneAt v d z .pointer ≡ pointerAt v d z
+  ptr = zone-pointer v d z (pointerAt v d z) refl
+
+  stripe! : flightRec p st i d .stripe ≡ s
+  stripe! = stripe-of p r v sh st h so z oz d i hd hi fi rd b lb
+
+  in-its-group : inGroupOf p (pointerAt v d z - 1) s ≡ true
+  in-its-group = unfold inGroupOf in and-both (ltb s (p .S)) (eqb (group p s) (group p (pointerAt v d z - 1))) (lt-ltb s (p .S) (so .slots-ok i hi .stripe-ok))
+      (eq-eqb (group p s) (group p (pointerAt v d z - 1)) (sym (offset-group p r v sh st h so z oz d i hd hi fi rd b lb)))
+
+  chunk-seg : SegLaid p v old z → SegLaid p v1 old z
+  chunk-seg f e he =
+      subst (λ (c : List ℕ). ZoneLaid p old (sealedIn p v1 0 z) (headerSerial c) (headerCopied c) e z (zoneAt v1 e z)) (chunk-grows p r v sh st h so z oz d i hd hi fi rd b lb .same-head)
+      (subst (λ (w : Bool). ZoneLaid p old w (headerSerial (headerAt v 0 z)) (headerCopied (headerAt v 0 z)) e z (zoneAt v1 e z)) (sym (open-after p r v sh st h so z oz d i hd hi fi rd b lb))
+      (go (ℕ-discrete d e) (subst (λ (w : Bool). ZoneLaid p old w (headerSerial (headerAt v 0 z)) (headerCopied (headerAt v 0 z)) e z (zoneAt v e z))
+      (open-before p r v sh st h so z oz d i hd hi fi rd b lb) (f e he))))
+    where
+      sn : ℕ
+      sn = headerSerial (headerAt v 0 z)
+
+      cn : ℕ
+      cn = headerCopied (headerAt v 0 z)
+
+      here : ZoneLaid p old false sn cn d z (zoneAt v d z) → ZoneLaid p old false sn cn d z (putZone b (recordBytes (flightRec p st i d)) (zoneAt v d z))
+      here x =
+          let a = pointer-some p r v sh st h so z oz d i hd hi fi rd b lb in
+          let c = pointer-data p r v sh st h so z oz d i hd hi fi rd b lb in
+          let y = ptr in
+          put-laid p r old sn cn d z (zoneAt v d z) b (flightRec p st i d) (sh .zone-ok d z hd hz) (omega arith) (omega arith)
+          (subst (λ (n : ℕ). n < p .S) (sym stripe!) (so .slots-ok i hi .stripe-ok))
+          (subst (λ (n : ℕ). inGroupOf p (n - 1) (flightRec p st i d .stripe) ≡ true) (sym ptr) (subst (λ (n : ℕ). inGroupOf p (pointerAt v d z - 1) n ≡ true) (sym stripe!) in-its-group))
+          (λ o l q. h .opens-at z oz .flight i hi fi .not-there d o hd (not-landed p r v sh st h so z oz d i hd hi fi rd b lb) (subst (λ (n : ℕ). 1 + o < n) ptr l) (q ∙ stripe!)) x
+
+      go : Dec (d ≡ e) → ZoneLaid p old false sn cn e z (zoneAt v e z) → ZoneLaid p old false sn cn e z (zoneAt v1 e z)
+      go (yes q) x = subst (λ (n : ℕ). ZoneLaid p old false sn cn n z (zoneAt v1 n z)) q
+          (subst (λ (y : Zone). ZoneLaid p old false sn cn d z y) (sym (chunk-zone p r v sh st h so z oz d i hd hi fi rd b lb))
+          (here (subst (λ (n : ℕ). ZoneLaid p old false sn cn n z (zoneAt v n z)) (sym q) x)))
+      go (no n) x = subst (λ (y : Zone). ZoneLaid p old false sn cn e z y) (sym (chunk-other p r v sh st h so z oz d i hd hi fi rd b lb e z he hz (inl n))) x
+
+  pub chunk-laid : usedAt v z ≡ true → WellLaid p v old → WellLaid p v1 old
+  chunk-laid us l = all-but p r v v1 old z (λ y hy n e he. sym (chunk-other p r v sh st h so z oz d i hd hi fi rd b lb e y he hy (inr n))) (λ q. chunk-seg (l z hz us)) l
+
+-- 01, Landing: a segment is sealed
+pub seal-laid : (p : Params) (r : Ranged p) (v : View) (sh : Shaped p v) (old : List Segment) (z : ℕ) (hz : z < p .Z) (behind : (e : ℕ) → e < p .N → pointerAt v e z ≡ 1 + p .S)
+    → usedAt v z ≡ true → sealedIn p v 0 z ≡ false → WellLaid p v old → WellLaid p (storeAll storeView (sealStores p v z) v) old
+seal-laid p r v sh old z hz behind us ns l = all-but p r v u old z (seal-other p r v sh z hz behind) (λ q. seg (l z hz us)) l
+  where
+    u : View
+    u = storeAll storeView (sealStores p v z) v
+
+    seg : SegLaid p v old z → SegLaid p (storeAll storeView (sealStores p v z) v) old z
+    seg f e he =
+        let q = zoneAt v e z in
+        let sn = headerSerial (headerAt v 0 z) in
+        let cn = headerCopied (headerAt v 0 z) in
+        let m : ZoneLaid p old true sn cn e z (putAll e z (footerChunks p q 0 (footers p - 0)) q) =
+        mend-laid p r e z q (sh .zone-ok e z he hz) 0 (omega arith) (zone-pointer v e z (1 + p .S) (behind e he) ∙ (let y : 1 + p .S ≡ 1 + p .S + 0 = omega arith in y))
+        (λ j k. absurd (let bad : ⊥ = omega arith in bad)) old sn cn
+        (subst (λ (w : Bool). ZoneLaid p old w sn cn e z q) ns (f e he)) in
+        subst (λ (c : List ℕ). ZoneLaid p old (sealedIn p u 0 z) (headerSerial c) (headerCopied c) e z (zoneAt u e z)) (seal-grows p r v sh z hz behind .same-head)
+        (subst (λ (w : Bool). ZoneLaid p old w sn cn e z (zoneAt u e z)) (sym (seal-sealed p r v sh z hz behind))
+        (subst (λ (y : Zone). ZoneLaid p old true sn cn e z y) (sym (seal-zone p r v sh z hz behind e he))
+        (subst (λ (n : ℕ). ZoneLaid p old true sn cn e z (putAll e z (footerChunks p q 0 n) q)) (sub-zero (footers p)) m)))
