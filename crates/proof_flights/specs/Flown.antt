@@ -13,8 +13,8 @@ use Rattle.defs.specs.Landing.{flightRec}
 use Rattle.defs.specs.Layout.{parityDrive, dataDrive, dataDrives, recordBytes}
 use Rattle.defs.specs.Lists.{below, keep, isIn}
 use Rattle.defs.specs.Memory.{Memory, stripeIn, filledIn, landedIn, isWrite, entryIn, offsetIn, openSegment, isFull, slotBlock}
-use Rattle.defs.specs.Segments.{Segment}
-use Rattle.spec_demands.specs.Layouts.{ParityMade}
+use Rattle.defs.specs.Segments.{Segment, segmentOf, counts}
+use Rattle.spec_demands.specs.Layouts.{Remains, foundCounted, ParityMade}
 use Rattle.spec_demands.specs.Tables.{Pending, noPending}
 use Rattle.tablesay.specs.Run.{flies}
 use Rattle.views.specs.Views.{seen}
@@ -43,3 +43,7 @@ pub record Flights (p : Params) (v : View) (st : State) (fl : List ℕ) (ws : Li
 pub record Flown (p : Params) (k : Disk) (m : Memory) (ws : List Pending) (old : List Segment) : Type 0 where
   pub flights : m .state .missing ≡ 0 → Flights p (seen p k) (m .state) (m .inflight) ws
   pub parities : ParityMade p (seen p k) (m .state .missing) old
+  -- with a drive missing nothing was written in this run: the restart found every counted stripe
+  pub all-found : (m .state .missing ≡ 0 → ⊥) → (g s : ℕ) → Remains p (seen p k) (m .state .missing) g → s < p .S
+      → counts p (m .state .missing) (segmentOf p (seen p k) (m .state .missing) g) s ≡ true
+      → foundCounted p (m .state .missing) old (segmentOf p (seen p k) (m .state .missing) g .serial) s ≡ true

@@ -1,1 +1,5 @@
 pub mod Flown
+pub mod LandedPieces
+pub mod LandedChunk
+pub mod LandedFree
+pub mod LandedCall

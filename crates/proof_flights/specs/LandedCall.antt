@@ -1,0 +1,364 @@
+-- The landing call: the flights after it, and what its answer says. Both by the chunk, the freed eighth and the footers one after the other. Assumes nothing.
+use mathlib.Core.Path.{_≡_, refl, sym, ap, _∙_, subst}
+use mathlib.Core.List.{List, [], _∷_, _++_, map, append-nil}
+use mathlib.Core.Bool.{true, false, cond, not, _&&_}
+use mathlib.Core.Logic.{inl, inr, ⊎-elim}
+use Prim.Native.Nat.{ℕ, zero, suc, _+_, _-_, _≤_, _<_}
+use native.Mathlib.Omega.{arith}
+use borrow.Author.Tests.{lt-ltb, eq-eqb, ne-eqb, eqb-true, leb-true, not-false}
+use lib.Dec.{leb, ltb, eqb}
+use lib.ListN.{length, length-map}
+use Rattle.defs.specs.declared.Params.{Params}
+use Rattle.defs.specs.declared.State.{State}
+use Rattle.defs.specs.declared.Answer.{Answer}
+use Rattle.defs.specs.declared.Answer.the-variants.{Landed}
+use Rattle.defs.specs.Answers.{kind, values, isRefused, isCut, finished}
+use Rattle.defs.specs.Calls.{Plan, After}
+use Rattle.defs.specs.Drives.{View, pointerAt, Store, storeView, Disk, storeDisk, storeAll, zoneOn}
+use Rattle.defs.specs.Drives.Store.{put}
+use Rattle.defs.specs.Engine.Call.{land}
+use Rattle.defs.specs.Engine.{storeCount, lentBlock, verdict, lentOk, callOn, callDisk}
+use Rattle.defs.specs.History.{endsRun}
+use Rattle.defs.specs.Landing.{slotOf, waiting, completes, seals, flightRec, landChecks, sealStores, writesIn, landStore, landPlan, landVerdict}
+use Rattle.defs.specs.Layout.{recordBytes}
+use Rattle.defs.specs.Lists.{below, keep, tally}
+use Rattle.defs.specs.Memory.{Memory, filledIn, isWrite, openSegment, isFree, inFlight, setClosed, markLanded, freeStripe, slotBlock}
+use Rattle.defs.specs.Params.{named}
+use Rattle.defs.specs.Segments.{Segment}
+use Rattle.laws.specs.Geometry.{Ranged, ranged}
+use Rattle.laws.specs.Ranges.{Test, test, and-left, and-right}
+use Rattle.laws.specs.Ranges.Test.{yes!, no! }
+use Rattle.laws.specs.Stores.{storeAll-append}
+use Rattle.views.specs.Views.{seen, view-stores}
+use Rattle.spec_demands.specs.Layouts.{ParityMade}
+use Rattle.spec_demands.specs.Tables.{Pending, pendingBy, stillPending, pendingAfter}
+use Rattle.tablesay.specs.Checks.{Passes}
+use Rattle.tablesay.specs.Chunks.{chunk-roomy, chunk-tidy, chunk-open, chunk-healthy, all-behind, none-left}
+use Rattle.tablesay.specs.Filling.{block-long! }
+use Rattle.tablesay.specs.Going.{buffer-long}
+use Rattle.tablesay.specs.Idle.{StateOk, state-of, whole-of}
+use Rattle.tablesay.specs.Joins.{roomy-append, within-append}
+use Rattle.tablesay.specs.Landings.{Waits, waits}
+use Rattle.tablesay.specs.Losing.{named-some}
+use Rattle.tablesay.specs.Members.{In}
+use Rattle.tablesay.specs.Outcomes.{Ended, ended, refusal-kind, cut-cut}
+use Rattle.tablesay.specs.Outcomes.Ended.{ended-refused, ended-done, ended-cut}
+use Rattle.tablesay.specs.Range.{capacity-word}
+use Rattle.tablesay.specs.Run.{flies, Healthy, Well, Run}
+use Rattle.tablesay.specs.Sealing.{seal-roomy, seal-within}
+use Rattle.tablesay.specs.Tests.{clash, not-so, cond-true, cond-false}
+use Rattle.tablesay.specs.Zones.{Shaped, Within, Roomy, all-fit, shaped-after}
+use Rattle.proof_flights.specs.Flown.{sentOf, Flights, Flown}
+use Rattle.proof_flights.specs.LandedChunk.{flies1, stripe1, chunk-flights, chunk-parities}
+use Rattle.proof_flights.specs.LandedFree.{elsewhere, elsewhere-all, free-flights, seal-parities}
+
+-- ---- with none missing
+
+-- what Flown asks of a view and a state
+pub flown-well : (p : Params) (k : Disk) (m : Memory) (u : View) (ws : List Pending) (old : List Segment) → seen p k ≡ u → m .state .missing ≡ 0
+    → Flights p u (m .state) (m .inflight) ws → ParityMade p u 0 old → Flown p k m ws old
+flown-well p k m u ws old e g f pm = record {
+  flights = λ x. subst (λ (y : View). Flights p y (m .state) (m .inflight) ws) (sym e) f;
+  parities = λ gs. subst (λ (y : View). ParityMade p y (m .state .missing) old) (sym e) (subst (λ (n : ℕ). ParityMade p u n old) (sym g) pm) gs;
+  all-found = λ n. absurd (n g);
+}
+
+-- a run with none missing
+pub well-of : (p : Params) (k : Disk) (m : Memory) → Run p k m → m .state .missing ≡ 0 → Well p k m
+well-of p k m u e = ⊎-elim (λ l. clash (eq-eqb (named (l .which)) 0 (sym (l .names-it) ∙ e)) (named-some p (ranged p (u .base .ranged)) (l .which) (l .which-low))) (λ w. w) (u .mode)
+
+-- ---- the writes that wait after an answer
+
+pub after-landed : (d s n x : ℕ) (ws : List Pending) → pendingAfter (land d s n) (Landed x) ws ≡ cond (ltb 0 x) (elsewhere s ws) ws
+unfolding pendingAfter endsRun isCut finished kind stillPending pendingBy values elsewhere
+after-landed d s n x ws = append-nil (cond (ltb 0 x) (keep (λ (w : Pending). not (eqb (w .stripe) s)) ws) ws)
+
+-- a refused landing leaves them
+pub after-refused : (d s n : ℕ) (a : Answer) (ws : List Pending) → isRefused a ≡ true → pendingAfter (land d s n) a ws ≡ ws
+after-refused d s n a ws q = go (leb-true (kind a) 1 (as! q))
+  where
+    as! : isRefused a ≡ true → leb (kind a) 1 ≡ true
+    as! x = unfold isRefused in x
+
+    kind-not : (x : ℕ) → kind a ≤ 1 → 1 < x → eqb (kind a) x ≡ false
+    kind-not x l h = ne-eqb (kind a) x (λ e. let bad : ⊥ = omega arith in bad)
+
+    go : kind a ≤ 1 → pendingAfter (land d s n) a ws ≡ ws
+    go l = unfold pendingAfter endsRun isCut finished stillPending pendingBy in rw (kind-not 2 l (omega arith), kind-not 12 l (omega arith), kind-not 4 l (omega arith)) (append-nil ws)
+
+module _ (p : Params) (k : Disk) (m : Memory) (u : Run p k m) (d s : ℕ) where
+  abbrev v : View
+  v = seen p k
+
+  abbrev st : State
+  st = m .state
+
+  abbrev fl : List ℕ
+  fl = m .inflight
+
+  abbrev i : ℕ
+  i = slotOf st s
+
+  abbrev z : ℕ
+  z = openSegment st
+
+  abbrev plan : Plan
+  plan = landPlan p v m d s
+
+  -- how the call ends
+  land-ends : (n : ℕ) → Ended p k m (landChecks p (lentOk p k m) v m d s) plan (callDisk p k m (land d s n))
+  unfolding callDisk callOn verdict storeCount lentBlock landVerdict
+  land-ends n = ended p k m (landChecks p (lentOk p k m) v m d s) plan n []
+
+  passed-none : Passes (landChecks p (lentOk p k m) v m d s) → st .missing ≡ 0
+  unfolding landChecks
+  passed-none c = eqb-true (st .missing) 0 (not-false (eqb (st .missing) 0) (c .1 .1 .0))
+
+  passed-waits : Passes (landChecks p (lentOk p k m) v m d s) → waiting p st d s ≡ true
+  unfolding landChecks
+  passed-waits c = not-false (waiting p st d s) (c .1 .1 .1 .0)
+
+  module _ (none : st .missing ≡ 0) (wt : waiting p st d s ≡ true) where
+    we : Well p k m
+    we = well-of p k m u none
+
+    rg : Ranged p
+    rg = ranged p (u .base .ranged)
+
+    so : StateOk p st
+    so = state-of p rg st (u .base .state-ok)
+
+    sh : Shaped p v
+    sh = u .base .shaped
+
+    he : Healthy p v st
+    he = we .healthy
+
+    w : Waits p v st d s
+    w = waits p v st d s he wt
+
+    abbrev b : List ℕ
+    b = slotBlock p fl i d
+
+    lb : length b ≡ p .B
+    lb = block-long! p rg fl (buffer-long p k m u we) i (w .slot-ok) d (w .drive-ok)
+
+    abbrev hd : d < p .N
+    hd = w .drive-ok
+
+    abbrev hi : i < 8
+    hi = w .slot-ok
+
+    abbrev fi : flies st i ≡ true
+    fi = w .slot-flies
+
+    abbrev oz : st .opened ≡ suc z
+    oz = w .slot-opened
+
+    abbrev store : Store
+    store = put d z b (recordBytes (flightRec p st i d))
+
+    abbrev v1 : View
+    v1 = storeView store v
+
+    abbrev st1 : State
+    st1 = markLanded st i d (pointerAt v d z - 1)
+
+    abbrev st2 : State
+    st2 = freeStripe st1 i
+
+    abbrev v2 : View
+    v2 = storeAll storeView (sealStores p v1 z) v1
+
+    hz : z < p .Z
+    hz = he .opens-at z oz .opened-zone
+
+    -- ---- the view after it
+
+    roomy1 : Roomy p v (store ∷ [])
+    roomy1 = chunk-roomy p rg v sh st he so z oz d i hd hi fi (w .slot-ready) b lb
+
+    within1 : (x : Store) → In x (store ∷ []) → Within p x
+    within1 x (inl e) = subst (λ (y : Store). Within p y) (sym e) (hd, hz)
+    within1 x (inr n) = absurd n
+
+    one-store : storeAll storeView (store ∷ []) v ≡ v1
+    one-store = unfold storeAll in refl
+
+    view-is : (ss : List Store) → Roomy p v ss → ((x : Store) → In x ss → Within p x) → seen p (storeAll (storeDisk p) ss k) ≡ storeAll storeView ss v
+    view-is ss ro wi = view-stores p k ss (capacity-word p rg) (whole-of p k m (u .base .lent)) (all-fit p v ss (sh .sized) wi ro)
+
+    stores-open : seals p st i d ≡ false → plan .stores ≡ store ∷ []
+    stores-open q = unfold landPlan landStore zoneOn in rw q
+
+    stores-sealed : seals p st i d ≡ true → plan .stores ≡ (store ∷ []) ++ sealStores p v1 z
+    stores-sealed q = unfold landPlan landStore zoneOn in rw q
+
+    pub view-open : seals p st i d ≡ false → seen p (storeAll (storeDisk p) (plan .stores) k) ≡ v1
+    view-open q = ap (λ (ss : List Store). seen p (storeAll (storeDisk p) ss k)) (stores-open q) ∙ view-is (store ∷ []) roomy1 within1 ∙ one-store
+
+    sh1 : Shaped p v1
+    sh1 = subst (λ (x : View). Shaped p x) one-store (shaped-after p v (store ∷ []) sh roomy1)
+
+    seal-parts : seals p st i d ≡ true → (completes p st i d ≡ true) × ((st .next ≡ p .S) × (length (inFlight st) ≡ 1))
+    seal-parts sl = unfold seals in
+        let x = completes p st i d in
+        let y = eqb (st .next) (p .S) in
+        let t = eqb (length (inFlight st)) 1 in
+        let q1 : x && y ≡ true = and-left (x && y) t sl in
+        (and-left x y q1, (eqb-true (st .next) (p .S) (and-right x y q1), eqb-true (length (inFlight st)) 1 (and-right (x && y) t sl)))
+
+    behind : seals p st i d ≡ true → (e : ℕ) → e < p .N → pointerAt v1 e z ≡ 1 + p .S
+    behind sl = let (q, (nx, one)) = seal-parts sl in all-behind p rg v sh st he so z oz d i hd hi fi (w .slot-ready) b lb q nx one
+
+    pub view-sealed : seals p st i d ≡ true → seen p (storeAll (storeDisk p) (plan .stores) k) ≡ v2
+    view-sealed q =
+        ap (λ (ss : List Store). seen p (storeAll (storeDisk p) ss k)) (stores-sealed q)
+        ∙ view-is ((store ∷ []) ++ sealStores p v1 z)
+        (roomy-append p v (store ∷ []) (sealStores p v1 z) (sh .sized) roomy1 (subst (λ (x : View). Roomy p x (sealStores p v1 z)) (sym one-store) (seal-roomy p rg v1 sh1 z hz (behind q))))
+        (within-append p (store ∷ []) (sealStores p v1 z) within1 (seal-within p rg v1 sh1 z hz (behind q)))
+        ∙ storeAll-append storeView (store ∷ []) (sealStores p v1 z) v ∙ ap (storeAll storeView (sealStores p v1 z)) one-store
+
+    -- ---- what is left
+
+    inflight-is : plan .memory .inflight ≡ fl
+    inflight-is = unfold landPlan in refl
+
+    state-open : completes p st i d ≡ false → plan .memory .state ≡ st1
+    state-open q = unfold landPlan seals zoneOn in rw q
+
+    state-freed : completes p st i d ≡ true → seals p st i d ≡ false → plan .memory .state ≡ st2
+    state-freed q ns = unfold landPlan zoneOn in rw (ns, q)
+
+    state-closed : completes p st i d ≡ true → seals p st i d ≡ true → plan .memory .state ≡ setClosed st2
+    state-closed q sl = unfold landPlan zoneOn in rw (sl, q)
+
+    answer-is : plan .answer ≡ Landed (cond (completes p st i d) (writesIn st i) 0)
+    answer-is = unfold landPlan in refl
+
+    module _ (ws : List Pending) (old : List Segment) (f : Flown p k m ws old) where
+      F : Flights p v st fl ws
+      F = f .flights none
+
+      pm : ParityMade p v 0 old
+      pm = λ g t. subst (λ (n : ℕ). ParityMade p v n old) none (f .parities) g t
+
+      pm1 : ParityMade p v1 0 old
+      pm1 = λ g t. chunk-parities p rg v sh st he so oz d i hd hi fi (w .slot-ready) fl lb ws F old pm g t
+
+      F1 : Flights p v1 st1 fl ws
+      F1 = chunk-flights p rg v sh st he so oz d i hd hi fi (w .slot-ready) fl lb ws F
+
+      F2 : Flights p v1 st2 fl (elsewhere s ws)
+      F2 =
+          let op = chunk-open p rg v sh st he so z oz d i hd hi fi (w .slot-ready) b lb in
+          let fs = flies1 p rg v sh st he so oz d i hd hi fi (w .slot-ready) fl lb in
+          subst (λ (n : ℕ). Flights p v1 st2 fl (elsewhere n ws)) (stripe1 p rg v sh st he so oz d i hd hi fi (w .slot-ready) fl lb i ∙ w .slot-stripe)
+          (free-flights p v1 st1 (chunk-healthy p rg v sh st he so z oz d i hd hi fi (w .slot-ready) b lb .lists) i hi (fs i ∙ fi)
+          (λ j hj fj e. op .once j i hj hi (sym (fs j) ∙ fj) fi e) fl ws F1)
+
+      -- nothing flies in a segment that is sealed
+      F3 : seals p st i d ≡ true → Flights p v2 (setClosed st2) fl (elsewhere s ws)
+      F3 sl = record {
+        landed-is = λ j e hj fj. clash fj (none! j hj);
+        parity-full = λ j hj fj. clash fj (none! j hj);
+        parity-ready = λ j hj fj. clash fj (none! j hj);
+        pending-is = λ j hj fj. clash fj (none! j hj);
+        pending-flies = λ x hx. let (j, hj, fj, e) = F2 .pending-flies x hx in clash fj (left j hj);
+      }
+        where
+          left : (j : ℕ) → j < 8 → flies st2 j ≡ false
+          left j hj = none-left p rg v sh st he so z oz d i hd hi fi (w .slot-ready) b lb (seal-parts sl .1 .1) j hj
+
+          none! : (j : ℕ) → j < 8 → flies (setClosed st2) j ≡ false
+          none! j hj = unfold setClosed isFree filledIn in left j hj
+
+      missing-is : (su : State) → plan .memory .state ≡ su → su .missing ≡ st .missing → plan .memory .state .missing ≡ 0
+      missing-is su e q = ap (λ (x : State). x .missing) e ∙ q ∙ none
+
+      -- the writes that wait after it
+      abbrev left : List Pending
+      left = cond (completes p st i d) (elsewhere s ws) ws
+
+      flown-plan : Flown p (storeAll (storeDisk p) (plan .stores) k) (plan .memory) (cond (completes p st i d) (elsewhere s ws) ws) old
+      flown-plan = go (test (completes p st i d)) (test (seals p st i d))
+        where
+          kept1 : st1 .missing ≡ st .missing
+          kept1 = unfold markLanded in refl
+
+          kept2 : st2 .missing ≡ st .missing
+          kept2 = unfold freeStripe markLanded in refl
+
+          kept3 : setClosed st2 .missing ≡ st .missing
+          kept3 = unfold setClosed freeStripe markLanded in refl
+
+          not-sealed : completes p st i d ≡ false → seals p st i d ≡ false
+          not-sealed q = not-so (seals p st i d) (λ sl. clash (seal-parts sl .0) q)
+
+          make : (x : View) (su : State) (qs : List Pending) → seen p (storeAll (storeDisk p) (plan .stores) k) ≡ x → plan .memory .state ≡ su → su .missing ≡ st .missing
+              → Flights p x su fl qs → ParityMade p x 0 old → left ≡ qs → Flown p (storeAll (storeDisk p) (plan .stores) k) (plan .memory) left old
+          make x su qs ev es mi fq pq eq =
+              flown-well p (storeAll (storeDisk p) (plan .stores) k) (plan .memory) x left old ev (missing-is su es mi)
+              (subst (λ (y : List Pending). Flights p x (plan .memory .state) (plan .memory .inflight) y) (sym eq)
+              (subst (λ (y : List ℕ). Flights p x (plan .memory .state) y qs) (sym inflight-is) (subst (λ (y : State). Flights p x y fl qs) (sym es) fq))) pq
+
+          go : Test (completes p st i d) → Test (seals p st i d) → Flown p (storeAll (storeDisk p) (plan .stores) k) (plan .memory) left old
+          go (no! q) t = make v1 st1 ws (view-open (not-sealed q)) (state-open q) kept1 F1 pm1 (cond-false (completes p st i d) (elsewhere s ws) ws q)
+          go (yes! q) (no! ns) = make v1 st2 (elsewhere s ws) (view-open ns) (state-freed q ns) kept2 F2 pm1 (cond-true (completes p st i d) (elsewhere s ws) ws q)
+          go (yes! q) (yes! sl) = make v2 (setClosed st2) (elsewhere s ws) (view-sealed sl) (state-closed q sl) kept3 (F3 sl)
+              (seal-parities p rg v1 sh1 z hz (behind sl) (st .serial .0) (chunk-tidy p rg v sh st he so z oz d i hd hi fi (w .slot-ready) b lb) old pm1)
+              (cond-true (completes p st i d) (elsewhere s ws) ws q)
+
+      -- the writes of the stripe
+      mine : keep (λ (x : Pending). eqb (x .stripe) s) ws ≡ map (sentOf p st fl i) (keep (isWrite st i) (below (filledIn st i)))
+      mine = ap (λ (n : ℕ). keep (λ (x : Pending). eqb (x .stripe) n) ws) (sym (w .slot-stripe)) ∙ F .pending-is i hi fi
+
+      mine-count : length (keep (λ (x : Pending). eqb (x .stripe) s) ws) ≡ writesIn st i
+      mine-count = as! (ap length mine ∙ length-map (keep (isWrite st i) (below (filledIn st i))) (sentOf p st fl i))
+        where
+          as! : length (keep (λ (x : Pending). eqb (x .stripe) s) ws) ≡ length (keep (isWrite st i) (below (filledIn st i))) → length (keep (λ (x : Pending). eqb (x .stripe) s) ws) ≡ writesIn st i
+          as! e = unfold writesIn tally in e
+
+      -- and what the answer makes of them
+      pending-plan : (n : ℕ) → pendingAfter (land d s n) (plan .answer) ws ≡ left
+      pending-plan n = ap (λ (a : Answer). pendingAfter (land d s n) a ws) answer-is ∙ after-landed d s n (cond (completes p st i d) (writesIn st i) 0) ws ∙ go (test (completes p st i d))
+        where
+          nil-of : (l : List Pending) → length l ≡ 0 → l ≡ []
+          nil-of [] e = refl
+          nil-of (x ∷ l) e = absurd (let bad : ⊥ = omega arith in bad)
+
+          count : (x : ℕ) → writesIn st i ≡ x → cond (ltb 0 x) (elsewhere s ws) ws ≡ elsewhere s ws
+          count zero e = sym (elsewhere-all s ws (nil-of (keep (λ (x : Pending). eqb (x .stripe) s) ws) (mine-count ∙ e)))
+          count (suc x) e = cond-true (ltb 0 (suc x)) (elsewhere s ws) ws (lt-ltb 0 (suc x) (omega arith))
+
+          go : Test (completes p st i d) → cond (ltb 0 (cond (completes p st i d) (writesIn st i) 0)) (elsewhere s ws) ws ≡ left
+          go (no! q) = rw q
+          go (yes! q) =
+              ap (λ (x : ℕ). cond (ltb 0 x) (elsewhere s ws) ws) (cond-true (completes p st i d) (writesIn st i) 0 q) ∙ count (writesIn st i) refl
+              ∙ sym (cond-true (completes p st i d) (elsewhere s ws) ws q)
+
+-- ---- the flights after the call
+
+pub flown-land : (p : Params) (k : Disk) (m : Memory) (ws : List Pending) (old : List Segment) (d s n : ℕ) → Run p k m → Flown p k m ws old → isCut (callDisk p k m (land d s n) .answer) ≡ false
+    → Flown p (callDisk p k m (land d s n) .drives) (callDisk p k m (land d s n) .memory) (pendingAfter (land d s n) (callDisk p k m (land d s n) .answer) ws) old
+flown-land p k m ws old d s n u f nc = go (land-ends p k m u d s n)
+  where
+    r : After Disk
+    r = callDisk p k m (land d s n)
+
+    move : (a : Answer) (x : Disk) (y : Memory) (qs : List Pending) → r .answer ≡ a → r .drives ≡ x → r .memory ≡ y → pendingAfter (land d s n) a ws ≡ qs → Flown p x y qs old
+        → Flown p (r .drives) (r .memory) (pendingAfter (land d s n) (r .answer) ws) old
+    move a x y qs ea ex ey eq g =
+        subst (λ (b : Answer). Flown p (r .drives) (r .memory) (pendingAfter (land d s n) b ws) old) (sym ea)
+        (subst (λ (l : List Pending). Flown p (r .drives) (r .memory) l old) (sym eq)
+        (subst (λ (h : Disk). Flown p h (r .memory) qs old) (sym ex) (subst (λ (h : Memory). Flown p x h qs old) (sym ey) g)))
+
+    go : Ended p k m (landChecks p (lentOk p k m) (seen p k) m d s) (landPlan p (seen p k) m d s) (callDisk p k m (land d s n))
+        → Flown p (callDisk p k m (land d s n) .drives) (callDisk p k m (land d s n) .memory) (pendingAfter (land d s n) (callDisk p k m (land d s n) .answer) ws) old
+    go (ended-refused a e ea ex ey) = move a k m ws ea ex ey (after-refused d s n a ws (refusal-kind (landChecks p (lentOk p k m) (seen p k) m d s) a e)) f
+    go (ended-done c ea ex ey) =
+        let z0 = passed-none p k m u d s c in
+        let wt = passed-waits p k m u d s c in
+        move (landPlan p (seen p k) m d s .answer) (storeAll (storeDisk p) (landPlan p (seen p k) m d s .stores) k) (landPlan p (seen p k) m d s .memory)
+        (cond (completes p (m .state) (slotOf (m .state) s) d) (elsewhere s ws) ws) ea ex ey (pending-plan p k m u d s z0 wt ws old f n) (flown-plan p k m u d s z0 wt ws old f)
+    go (ended-cut c ea) = clash (ap isCut ea ∙ cut-cut) nc
