@@ -1,56 +1,57 @@
 -- The landing call: the flights after it, and what its answer says. Both by the chunk, the freed eighth and the footers one after the other. Assumes nothing.
-use mathlib.Core.Path.{_≡_, refl, sym, ap, _∙_, subst}
+use mathlib.Core.Path.{_≡_, refl, sym, ap, _∙_, subst, ap₂}
 use mathlib.Core.List.{List, [], _∷_, _++_, map, append-nil}
-use mathlib.Core.Bool.{true, false, cond, not, _&&_}
+use mathlib.Core.Bool.{true, false, cond, not, _&&_, Bool}
 use mathlib.Core.Logic.{inl, inr, ⊎-elim}
 use Prim.Native.Nat.{ℕ, zero, suc, _+_, _-_, _≤_, _<_}
 use native.Mathlib.Omega.{arith}
 use borrow.Author.Tests.{lt-ltb, eq-eqb, ne-eqb, eqb-true, leb-true, not-false}
 use lib.Dec.{leb, ltb, eqb}
-use lib.ListN.{length, length-map}
+use lib.ListN.{length, length-map, getD}
 use Rattle.defs.specs.declared.Params.{Params}
 use Rattle.defs.specs.declared.State.{State}
 use Rattle.defs.specs.declared.Answer.{Answer}
-use Rattle.defs.specs.declared.Answer.the-variants.{Landed}
+use Rattle.defs.specs.declared.Answer.the-variants.{Landed, Cut}
 use Rattle.defs.specs.Answers.{kind, values, isRefused, isCut, finished}
 use Rattle.defs.specs.Calls.{Plan, After}
-use Rattle.defs.specs.Drives.{View, pointerAt, Store, storeView, Disk, storeDisk, storeAll, zoneOn}
+use Rattle.defs.specs.Drives.{View, pointerAt, Store, storeView, Disk, storeDisk, storeAll, zoneOn, sealedIn}
 use Rattle.defs.specs.Drives.Store.{put}
 use Rattle.defs.specs.Engine.Call.{land}
 use Rattle.defs.specs.Engine.{storeCount, lentBlock, verdict, lentOk, callOn, callDisk}
-use Rattle.defs.specs.History.{endsRun}
+use Rattle.defs.specs.History.{endsRun, mkWorld}
 use Rattle.defs.specs.Landing.{slotOf, waiting, completes, seals, flightRec, landChecks, sealStores, writesIn, landStore, landPlan, landVerdict}
-use Rattle.defs.specs.Layout.{recordBytes}
+use Rattle.defs.specs.Layout.{recordBytes, dataDrive, Rec}
 use Rattle.defs.specs.Lists.{below, keep, tally}
-use Rattle.defs.specs.Memory.{Memory, filledIn, isWrite, openSegment, isFree, inFlight, setClosed, markLanded, freeStripe, slotBlock}
+use Rattle.defs.specs.Memory.{Memory, filledIn, isWrite, openSegment, isFree, inFlight, setClosed, markLanded, freeStripe, slotBlock, stripeIn, entryIn}
 use Rattle.defs.specs.Params.{named}
-use Rattle.defs.specs.Segments.{Segment}
-use Rattle.laws.specs.Geometry.{Ranged, ranged}
+use Rattle.defs.specs.Segments.{Segment, segmentOf, counts}
+use Rattle.laws.specs.Geometry.{Ranged, ranged, position-drive, drive-is-data}
 use Rattle.laws.specs.Ranges.{Test, test, and-left, and-right}
 use Rattle.laws.specs.Ranges.Test.{yes!, no! }
 use Rattle.laws.specs.Stores.{storeAll-append}
 use Rattle.views.specs.Views.{seen, view-stores}
 use Rattle.spec_demands.specs.Layouts.{ParityMade}
-use Rattle.spec_demands.specs.Tables.{Pending, pendingBy, stillPending, pendingAfter}
+use Rattle.spec_demands.specs.Tables.{Pending, pendingBy, stillPending, pendingAfter, noPending, pendingIn, openIn, landingStores, Lands}
+use Rattle.spec_demands.specs.Engines.{onValues, callWorld, viewIn}
 use Rattle.tablesay.specs.Checks.{Passes}
-use Rattle.tablesay.specs.Chunks.{chunk-roomy, chunk-tidy, chunk-open, chunk-healthy, all-behind, none-left}
+use Rattle.tablesay.specs.Chunks.{chunk-roomy, chunk-tidy, chunk-open, chunk-healthy, all-behind, none-left, open-after, uncounted-yet, counts-now}
 use Rattle.tablesay.specs.Filling.{block-long! }
 use Rattle.tablesay.specs.Going.{buffer-long}
 use Rattle.tablesay.specs.Idle.{StateOk, state-of, whole-of}
 use Rattle.tablesay.specs.Joins.{roomy-append, within-append}
 use Rattle.tablesay.specs.Landings.{Waits, waits}
 use Rattle.tablesay.specs.Losing.{named-some}
-use Rattle.tablesay.specs.Members.{In}
+use Rattle.tablesay.specs.Members.{In, in-keep, map-in, in-getD}
 use Rattle.tablesay.specs.Outcomes.{Ended, ended, refusal-kind, cut-cut}
 use Rattle.tablesay.specs.Outcomes.Ended.{ended-refused, ended-done, ended-cut}
 use Rattle.tablesay.specs.Range.{capacity-word}
 use Rattle.tablesay.specs.Run.{flies, Healthy, Well, Run}
-use Rattle.tablesay.specs.Sealing.{seal-roomy, seal-within}
+use Rattle.tablesay.specs.Sealing.{seal-roomy, seal-within, seal-sealed}
 use Rattle.tablesay.specs.Tests.{clash, not-so, cond-true, cond-false}
 use Rattle.tablesay.specs.Zones.{Shaped, Within, Roomy, all-fit, shaped-after}
 use Rattle.proof_flights.specs.Flown.{sentOf, Flights, Flown}
-use Rattle.proof_flights.specs.LandedChunk.{flies1, stripe1, chunk-flights, chunk-parities}
-use Rattle.proof_flights.specs.LandedFree.{elsewhere, elsewhere-all, free-flights, seal-parities}
+use Rattle.proof_flights.specs.LandedChunk.{flies1, stripe1, chunk-flights, chunk-parities, flight-data, flight-stripe}
+use Rattle.proof_flights.specs.LandedFree.{elsewhere, elsewhere-all, free-flights, seal-parities, seal-counts}
 
 -- ---- with none missing
 
@@ -337,6 +338,93 @@ module _ (p : Params) (k : Disk) (m : Memory) (u : Run p k m) (d s : ℕ) where
               ap (λ (x : ℕ). cond (ltb 0 x) (elsewhere s ws) ws) (cond-true (completes p st i d) (writesIn st i) 0 q) ∙ count (writesIn st i) refl
               ∙ sym (cond-true (completes p st i d) (elsewhere s ws) ws q)
 
+      -- ---- what the answer says
+
+      abbrev after : View
+      after = seen p (storeAll (storeDisk p) (plan .stores) k)
+
+      -- sealed just where it seals
+      sealed-is : sealedIn p after 0 z ≡ seals p st i d
+      sealed-is = go (test (seals p st i d))
+        where
+          go : Test (seals p st i d) → sealedIn p after 0 z ≡ seals p st i d
+          go (no! q) = ap (λ (x : View). sealedIn p x 0 z) (view-open q) ∙ open-after p rg v sh st he so z oz d i hd hi fi (w .slot-ready) b lb ∙ sym q
+          go (yes! q) = ap (λ (x : View). sealedIn p x 0 z) (view-sealed q) ∙ seal-sealed p rg v1 sh1 z hz (behind q) ∙ sym q
+
+      view-after : after ≡ storeAll storeView (store ∷ cond (sealedIn p after 0 z) (sealStores p v1 z) []) v
+      view-after = go (test (seals p st i d))
+        where
+          one : (q : seals p st i d ≡ false) → v1 ≡ storeAll storeView (store ∷ cond (sealedIn p after 0 z) (sealStores p v1 z) []) v
+          one q = sym one-store ∙ ap (λ (ss : List Store). storeAll storeView (store ∷ ss) v) (sym (cond-false (sealedIn p after 0 z) (sealStores p v1 z) [] (sealed-is ∙ q)))
+
+          all! : v2 ≡ storeAll storeView (store ∷ sealStores p v1 z) v
+          all! = unfold storeAll in refl
+
+          go : Test (seals p st i d) → after ≡ storeAll storeView (store ∷ cond (sealedIn p after 0 z) (sealStores p v1 z) []) v
+          go (no! q) = view-open q ∙ one q
+          go (yes! q) = view-sealed q ∙ all! ∙ ap (λ (ss : List Store). storeAll storeView (store ∷ ss) v) (sym (cond-true (sealedIn p after 0 z) (sealStores p v1 z) [] (sealed-is ∙ q)))
+
+      -- the stripe counts just where it completes
+      counts-is : counts p 0 (segmentOf p after 0 z) s ≡ completes p st i d
+      counts-is = go (test (completes p st i d)) (test (seals p st i d))
+        where
+          at-view : (x : View) → after ≡ x → counts p 0 (segmentOf p after 0 z) s ≡ counts p 0 (segmentOf p x 0 z) (stripeIn st i)
+          at-view x e = (λ j. counts p 0 (segmentOf p (e j) 0 z) (sym (w .slot-stripe) j))
+
+          now : completes p st i d ≡ true → counts p 0 (segmentOf p v1 0 z) (stripeIn st i) ≡ true
+          now q = counts-now p rg v sh st he so z oz d i hd hi fi (w .slot-ready) b lb q
+
+          go : Test (completes p st i d) → Test (seals p st i d) → counts p 0 (segmentOf p after 0 z) s ≡ completes p st i d
+          go (no! q) t = at-view v1 (view-open (not-so (seals p st i d) (λ sl. clash (seal-parts sl .0) q)))
+              ∙ not-so (counts p 0 (segmentOf p v1 0 z) (stripeIn st i)) (uncounted-yet p rg v sh st he so z oz d i hd hi fi (w .slot-ready) b lb q) ∙ sym q
+          go (yes! q) (no! ns) = at-view v1 (view-open ns) ∙ now q ∙ sym q
+          go (yes! q) (yes! sl) = at-view v2 (view-sealed sl) ∙ seal-counts p rg v1 sh1 z hz (behind sl) (stripeIn st i) (now q) ∙ sym q
+
+      -- the number acknowledged
+      acknowledged : (x : ℕ) → plan .answer ≡ Landed x → x ≡ cond (counts p 0 (segmentOf p after 0 z) s) (pendingIn ws s) 0
+      acknowledged x e =
+          number (Landed x) refl ∙ ap (λ (a : Answer). getD (values a) 0 0) (sym e ∙ answer-is) ∙ sym (number (Landed (cond (completes p st i d) (writesIn st i) 0)) refl)
+          ∙ ap₂ (λ (c : Bool) (n : ℕ). cond c n 0) (sym counts-is) (sym (count! mine-count))
+        where
+          number : {y : ℕ} (a : Answer) → a ≡ Landed y → y ≡ getD (values a) 0 0
+          number {y} a q = sym (ap (λ (a : Answer). getD (values a) 0 0) q ∙ val)
+            where
+              val : getD (values (Landed y)) 0 0 ≡ y
+              val = unfold values in refl
+
+          count! : length (keep (λ (y : Pending). eqb (y .stripe) s) ws) ≡ writesIn st i → pendingIn ws s ≡ writesIn st i
+          count! q = unfold pendingIn tally in q
+
+      -- a write that waits for this drive sent this chunk
+      was-sent : (y : Pending) → In y ws → y .stripe ≡ s → y .drive ≡ d
+          → (b ≡ y .block) × (flightRec p st i d .address ≡ y .address) × (flightRec p st i d .stamp ≡ y .stamp)
+      was-sent y n es ed =
+          let (j, jn, e) = map-in (sentOf p st fl i) (keep (isWrite st i) (below (filledIn st i))) y
+          (subst (λ (l : List Pending). In y l) mine (in-keep (λ (x : Pending). eqb (x .stripe) s) ws y n (eq-eqb (y .stripe) s es))) in
+          sent! j e (sym (ap (λ (x : Pending). x .drive) e ∙ drive! j) ∙ ed)
+        where
+          drive! : (j : ℕ) → sentOf p st fl i j .drive ≡ dataDrive p (stripeIn st i) j
+          drive! j = unfold sentOf in refl
+
+          sent! : (j : ℕ) → y ≡ sentOf p st fl i j → dataDrive p (stripeIn st i) j ≡ d
+              → (b ≡ y .block) × (flightRec p st i d .address ≡ y .address) × (flightRec p st i d .stamp ≡ y .stamp)
+          sent! j e q =
+              let c : flightRec p st i d ≡ entryIn st i j =
+              ap (flightRec p st i) (sym q) ∙ flight-data p st i (dataDrive p (stripeIn st i) j) (drive-is-data p (stripeIn st i) j) ∙ ap (entryIn st i) (position-drive p (stripeIn st i) j) in (
+                ap (slotBlock p fl i) (sym q) ∙ block! ∙ ap (λ (x : Pending). x .block) (sym e),
+                ap (λ (x : Rec). x .address) c ∙ address! ∙ ap (λ (x : Pending). x .address) (sym e),
+                ap (λ (x : Rec). x .stamp) c ∙ stamp! ∙ ap (λ (x : Pending). x .stamp) (sym e),
+              )
+            where
+              block! : slotBlock p fl i (dataDrive p (stripeIn st i) j) ≡ sentOf p st fl i j .block
+              block! = unfold sentOf in refl
+
+              address! : entryIn st i j .address ≡ sentOf p st fl i j .address
+              address! = unfold sentOf in refl
+
+              stamp! : entryIn st i j .stamp ≡ sentOf p st fl i j .stamp
+              stamp! = unfold sentOf in refl
+
 -- ---- the flights after the call
 
 pub flown-land : (p : Params) (k : Disk) (m : Memory) (ws : List Pending) (old : List Segment) (d s n : ℕ) → Run p k m → Flown p k m ws old → isCut (callDisk p k m (land d s n) .answer) ≡ false
@@ -362,3 +450,54 @@ flown-land p k m ws old d s n u f nc = go (land-ends p k m u d s n)
         move (landPlan p (seen p k) m d s .answer) (storeAll (storeDisk p) (landPlan p (seen p k) m d s .stores) k) (landPlan p (seen p k) m d s .memory)
         (cond (completes p (m .state) (slotOf (m .state) s) d) (elsewhere s ws) ws) ea ex ey (pending-plan p k m u d s z0 wt ws old f n) (flown-plan p k m u d s z0 wt ws old f)
     go (ended-cut c ea) = clash (ap isCut ea ∙ cut-cut) nc
+
+-- ---- what its answer says
+
+pub lands-say : (p : Params) (k : Disk) (m : Memory) (ws : List Pending) (old : List Segment) (d s n : ℕ) → Run p k m → Flown p k m ws old
+    → (x : ℕ) → callDisk p k m (land d s n) .answer ≡ Landed x → Lands onValues p (mkWorld k m) ws d s (callWorld p (mkWorld k m) (land d s n)) x
+lands-say p k m ws old d s n u f x q = go (land-ends p k m u d s n)
+  where
+    kind-four : kind (Landed x) ≡ 4
+    kind-four = unfold kind in refl
+
+    go : Ended p k m (landChecks p (lentOk p k m) (seen p k) m d s) (landPlan p (seen p k) m d s) (callDisk p k m (land d s n))
+        → Lands onValues p (mkWorld k m) ws d s (callWorld p (mkWorld k m) (land d s n)) x
+    go (ended-refused a e ea ex ey) = absurd (refused-not (refusal-kind (landChecks p (lentOk p k m) (seen p k) m d s) a e) (ap kind (sym ea ∙ q) ∙ kind-four))
+      where
+        refused-not : isRefused a ≡ true → kind a ≡ 4 → ⊥
+        refused-not r h = unfold isRefused in (let l = leb-true (kind a) 1 r in let bad : ⊥ = omega arith in bad)
+    go (ended-cut c ea) = absurd (let h : kind Cut ≡ 4 = ap kind (sym ea ∙ q) ∙ kind-four in cut-not h)
+      where
+        cut-not : kind Cut ≡ 4 → ⊥
+        cut-not h = unfold kind in (let h2 : _≡_ {A = ℕ} 2 4 = h in let bad : ⊥ = omega arith in bad)
+    go (ended-done c ea ex ey) =
+        let z0 = passed-none p k m u d s c in
+        let wt = passed-waits p k m u d s c in
+        record {
+          block = slotBlock p (m .inflight) (slotOf (m .state) s) d;
+          rec = flightRec p (m .state) (slotOf (m .state) s) d;
+          stored = stored! ex (view-after p k m u d s z0 wt ws old f);
+          numbered = flight-stripe p (m .state) (slotOf (m .state) s) d ∙ w p k m u d s z0 wt .slot-stripe;
+          sent = λ j hj es ed. was-sent p k m u d s z0 wt ws old f (getD ws j noPending) (in-getD ws j noPending hj) es ed;
+          acknowledges = acknowledges! ex (acknowledged p k m u d s z0 wt ws old f x (sym ea ∙ q));
+        }
+      where
+        v1 : View
+        v1 = storeView (put d (openSegment (m .state)) (slotBlock p (m .inflight) (slotOf (m .state) s) d) (recordBytes (flightRec p (m .state) (slotOf (m .state) s) d))) (seen p k)
+
+        Stored : View → Type 0
+        Stored y = y ≡ storeAll storeView (put d (openSegment (m .state)) (slotBlock p (m .inflight) (slotOf (m .state) s) d) (recordBytes (flightRec p (m .state) (slotOf (m .state) s) d))
+            ∷ cond (sealedIn p y 0 (openSegment (m .state))) (sealStores p v1 (openSegment (m .state))) []) (seen p k)
+
+        stored! : callDisk p k m (land d s n) .drives ≡ storeAll (storeDisk p) (landPlan p (seen p k) m d s .stores) k → Stored (seen p (storeAll (storeDisk p) (landPlan p (seen p k) m d s .stores) k))
+            → viewIn onValues p (callWorld p (mkWorld k m) (land d s n) .world)
+            ≡ storeAll storeView (landingStores onValues p (mkWorld k m) (put d (zoneOn (openIn onValues (mkWorld k m)) d) (slotBlock p (m .inflight) (slotOf (m .state) s) d)
+            (recordBytes (flightRec p (m .state) (slotOf (m .state) s) d)))
+            (sealedIn p (viewIn onValues p (callWorld p (mkWorld k m) (land d s n) .world)) 0 (openIn onValues (mkWorld k m)))) (viewIn onValues p (mkWorld k m))
+        stored! e h = unfold viewIn callWorld landingStores openIn zoneOn in (subst (λ (y : Disk). Stored (seen p y)) (sym e) h)
+
+        acknowledges! : callDisk p k m (land d s n) .drives ≡ storeAll (storeDisk p) (landPlan p (seen p k) m d s .stores) k
+            → x ≡ cond (counts p 0 (segmentOf p (seen p (storeAll (storeDisk p) (landPlan p (seen p k) m d s .stores) k)) 0 (openSegment (m .state))) s) (pendingIn ws s) 0
+            → x ≡ cond (counts p 0 (segmentOf p (viewIn onValues p (callWorld p (mkWorld k m) (land d s n) .world)) 0 (openIn onValues (mkWorld k m))) s) (pendingIn ws s) 0
+        acknowledges! e h = unfold viewIn callWorld openIn in
+            (subst (λ (y : Disk). x ≡ cond (counts p 0 (segmentOf p (seen p y) 0 (openSegment (m .state))) s) (pendingIn ws s) 0) (sym e) h)
