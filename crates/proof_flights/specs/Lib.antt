@@ -3,3 +3,5 @@ pub mod LandedPieces
 pub mod LandedChunk
 pub mod LandedFree
 pub mod LandedCall
+pub mod RestartedMoved
+pub mod RestartedViews
