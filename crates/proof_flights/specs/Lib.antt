@@ -5,3 +5,4 @@ pub mod LandedFree
 pub mod LandedCall
 pub mod RestartedMoved
 pub mod RestartedViews
+pub mod RestartedCall
