@@ -40,10 +40,12 @@ pub record Flights (p : Params) (v : View) (st : State) (fl : List ℕ) (ws : Li
       → keep (λ (w : Pending). eqb (w .stripe) (stripeIn st i)) ws ≡ map (sentOf p st fl i) (keep (isWrite st i) (below (filledIn st i)))
   pub pending-flies : (j : ℕ) → j < length ws → (i : ℕ) × (i < 8) × (flies st i ≡ true) × (stripeIn st i ≡ getD ws j noPending .stripe)
 
+-- the restart of this run found every counted stripe
+abbrev pub Found : Params → View → ℕ → List Segment → Type 0
+Found p v gone old = (g s : ℕ) → Remains p v gone g → s < p .S → counts p gone (segmentOf p v gone g) s ≡ true → foundCounted p gone old (segmentOf p v gone g .serial) s ≡ true
+
 pub record Flown (p : Params) (k : Disk) (m : Memory) (ws : List Pending) (old : List Segment) : Type 0 where
   pub flights : m .state .missing ≡ 0 → Flights p (seen p k) (m .state) (m .inflight) ws
   pub parities : ParityMade p (seen p k) (m .state .missing) old
-  -- with a drive missing nothing was written in this run: the restart found every counted stripe
-  pub all-found : (m .state .missing ≡ 0 → ⊥) → (g s : ℕ) → Remains p (seen p k) (m .state .missing) g → s < p .S
-      → counts p (m .state .missing) (segmentOf p (seen p k) (m .state .missing) g) s ≡ true
-      → foundCounted p (m .state .missing) old (segmentOf p (seen p k) (m .state .missing) g .serial) s ≡ true
+  -- with a drive missing nothing was written in this run
+  pub all-found : (m .state .missing ≡ 0 → ⊥) → Found p (seen p k) (m .state .missing) old

@@ -317,7 +317,8 @@ module _ (p : Params) (k : Disk) (m : Memory) (u : Run p k m) (d s : ℕ) where
       mine-count : length (keep (λ (x : Pending). eqb (x .stripe) s) ws) ≡ writesIn st i
       mine-count = as! (ap length mine ∙ length-map (keep (isWrite st i) (below (filledIn st i))) (sentOf p st fl i))
         where
-          as! : length (keep (λ (x : Pending). eqb (x .stripe) s) ws) ≡ length (keep (isWrite st i) (below (filledIn st i))) → length (keep (λ (x : Pending). eqb (x .stripe) s) ws) ≡ writesIn st i
+          as! : length (keep (λ (x : Pending). eqb (x .stripe) s) ws) ≡ length (keep (isWrite st i) (below (filledIn st i)))
+              → length (keep (λ (x : Pending). eqb (x .stripe) s) ws) ≡ writesIn st i
           as! e = unfold writesIn tally in e
 
       -- and what the answer makes of them
@@ -427,7 +428,9 @@ module _ (p : Params) (k : Disk) (m : Memory) (u : Run p k m) (d s : ℕ) where
 
 -- ---- the flights after the call
 
-pub flown-land : (p : Params) (k : Disk) (m : Memory) (ws : List Pending) (old : List Segment) (d s n : ℕ) → Run p k m → Flown p k m ws old → isCut (callDisk p k m (land d s n) .answer) ≡ false
+-- what holds of the flights holds after an uncut landing
+pub flown-land : (p : Params) (k : Disk) (m : Memory) (ws : List Pending) (old : List Segment) (d s n : ℕ) → Run p k m → Flown p k m ws old
+    → isCut (callDisk p k m (land d s n) .answer) ≡ false
     → Flown p (callDisk p k m (land d s n) .drives) (callDisk p k m (land d s n) .memory) (pendingAfter (land d s n) (callDisk p k m (land d s n) .answer) ws) old
 flown-land p k m ws old d s n u f nc = go (land-ends p k m u d s n)
   where
@@ -453,6 +456,7 @@ flown-land p k m ws old d s n u f nc = go (land-ends p k m u d s n)
 
 -- ---- what its answer says
 
+-- 01, Landing: one chunk more with what was sent, acknowledged just where the stripe now counts
 pub lands-say : (p : Params) (k : Disk) (m : Memory) (ws : List Pending) (old : List Segment) (d s n : ℕ) → Run p k m → Flown p k m ws old
     → (x : ℕ) → callDisk p k m (land d s n) .answer ≡ Landed x → Lands onValues p (mkWorld k m) ws d s (callWorld p (mkWorld k m) (land d s n)) x
 lands-say p k m ws old d s n u f x q = go (land-ends p k m u d s n)
@@ -489,7 +493,8 @@ lands-say p k m ws old d s n u f x q = go (land-ends p k m u d s n)
         Stored y = y ≡ storeAll storeView (put d (openSegment (m .state)) (slotBlock p (m .inflight) (slotOf (m .state) s) d) (recordBytes (flightRec p (m .state) (slotOf (m .state) s) d))
             ∷ cond (sealedIn p y 0 (openSegment (m .state))) (sealStores p v1 (openSegment (m .state))) []) (seen p k)
 
-        stored! : callDisk p k m (land d s n) .drives ≡ storeAll (storeDisk p) (landPlan p (seen p k) m d s .stores) k → Stored (seen p (storeAll (storeDisk p) (landPlan p (seen p k) m d s .stores) k))
+        stored! : callDisk p k m (land d s n) .drives ≡ storeAll (storeDisk p) (landPlan p (seen p k) m d s .stores) k
+            → Stored (seen p (storeAll (storeDisk p) (landPlan p (seen p k) m d s .stores) k))
             → viewIn onValues p (callWorld p (mkWorld k m) (land d s n) .world)
             ≡ storeAll storeView (landingStores onValues p (mkWorld k m) (put d (zoneOn (openIn onValues (mkWorld k m)) d) (slotBlock p (m .inflight) (slotOf (m .state) s) d)
             (recordBytes (flightRec p (m .state) (slotOf (m .state) s) d)))

@@ -30,7 +30,8 @@ use Rattle.laws.specs.Ranges.Test.{yes!, no! }
 use Rattle.laws.specs.Xor.{xorAll-lt}
 use Rattle.spec_demands.specs.Layouts.{ParityMade}
 use Rattle.spec_demands.specs.Tables.{Pending}
-use Rattle.tablesay.specs.Chunks.{cells-differ, pointer-some, pointer-data, chunk-zone, chunk-other, chunk-pointer, pointer-else, chunk-grows, mask-now, chunk-open, open-before, open-after, all-landed, uncounted-yet, landed-chunk, all-filled}
+use Rattle.tablesay.specs.Chunks.{cells-differ, pointer-some, pointer-data, chunk-zone, chunk-other, chunk-pointer, pointer-else, chunk-grows, mask-now}
+use Rattle.tablesay.specs.Chunks.{chunk-open, open-before, open-after, all-landed, uncounted-yet, landed-chunk, all-filled}
 use Rattle.tablesay.specs.Idle.{StateOk}
 use Rattle.tablesay.specs.Laid.{record-back}
 use Rattle.tablesay.specs.Members.{in-all, map-cong}
@@ -97,7 +98,8 @@ module _ (p : Params) (r : Ranged p) (v : View) (st : State) (z i : ℕ) (f : Fl
           → map g (entriesIn st i) ≡ map (λ k. g (entryIn st i k)) (below (filledIn st i))
       as! e = unfold entriesIn in e
 
-  each-low : (g : Rec → ℕ) → ((k : ℕ) → k < filledIn st i → g (entryIn st i k) < 2 ^ 64) → (k : ℕ) → k < length (map g (entriesIn st i)) → getD (map g (entriesIn st i)) k 0 < 2 ^ 64
+  each-low : (g : Rec → ℕ) → ((k : ℕ) → k < filledIn st i → g (entryIn st i k) < 2 ^ 64)
+      → (k : ℕ) → k < length (map g (entriesIn st i)) → getD (map g (entriesIn st i)) k 0 < 2 ^ 64
   each-low g h k l =
       let n : length (map g (entriesIn st i)) ≡ filledIn st i =
       ap length (entries-map g) ∙ length-map (below (filledIn st i)) (λ k. g (entryIn st i k)) ∙ length-below (filledIn st i) in
@@ -222,9 +224,12 @@ module _ (p : Params) (r : Ranged p) (v : View) (sh : Shaped p v) (st : State) (
       go : Dec (j ≡ i) → Dec (e ≡ d) → ((j ≡ i) × (e ≡ d)) ⊎ (((j ≡ i → ⊥) ⊎ (e ≡ d → ⊥)) × (isIn (landedIn st j) e ≡ true))
       go (no n) y = inr (inl n, ap (λ (m : ℕ). isIn m e) (sym (mark-landed-other st (h .lists) i hi d o d8 j n)) ∙ q)
       go (yes x) (yes y) = inl (x, y)
-      go (yes x) (no n) = inr (inr n, ap (λ (m : ℕ). isIn (landedIn st m) e) x
-          ∙ sym (mask-now p r v sh st h so z oz d i hd hi fi rd b lb e he ∙ ap (λ (t : Bool). t || isIn (landedIn st i) e) (ne-eqb e d n))
-          ∙ ap (λ (m : ℕ). isIn (landedIn st1 m) e) (sym x) ∙ q)
+      go (yes x) (no n) = inr (
+        inr n,
+        ap (λ (m : ℕ). isIn (landedIn st m) e) x
+            ∙ sym (mask-now p r v sh st h so z oz d i hd hi fi rd b lb e he ∙ ap (λ (t : Bool). t || isIn (landedIn st i) e) (ne-eqb e d n))
+            ∙ ap (λ (m : ℕ). isIn (landedIn st1 m) e) (sym x) ∙ q,
+      )
 
   module _ (ws : List Pending) (F : Flights p v st fl ws) where
     landed! : (j e : ℕ) → j < 8 → flies st j ≡ true → e < p .N → isIn (landedIn st1 j) e ≡ true
@@ -319,7 +324,8 @@ module _ (p : Params) (r : Ranged p) (v : View) (sh : Shaped p v) (st : State) (
         no-data : isData p s (parityDrive p s) ≡ false
         no-data = unfold isData in ap not (eq-eqb (parityDrive p s) (parityDrive p s) refl)
 
-        as! : mkPiece (parity (p .B) (map (λ (y : Piece). y .block) (map (storedPiece seg1 s) (dataDrives p s)))) (parityRec s (map (λ (y : Piece). y .rec) (map (storedPiece seg1 s) (dataDrives p s))))
+        as! : mkPiece (parity (p .B) (map (λ (y : Piece). y .block) (map (storedPiece seg1 s) (dataDrives p s))))
+            (parityRec s (map (λ (y : Piece). y .rec) (map (storedPiece seg1 s) (dataDrives p s))))
             ≡ mkPiece (parity (p .B) (map (slotBlock p fl i) (dataDrives p s))) (parityRec s (entriesIn st i))
             → parityPiece p s (map (storedPiece seg1 s) (dataDrives p s)) ≡ mkPiece (parity (p .B) (map (slotBlock p fl i) (dataDrives p s))) (parityRec s (entriesIn st i))
         as! e = unfold parityPiece in e
@@ -391,7 +397,8 @@ module _ (p : Params) (r : Ranged p) (v : View) (sh : Shaped p v) (st : State) (
         go : Dec (d ≡ e) → x < dataStored p (zoneAt v e z)
         go (no a) = subst (λ (y : Zone). x < dataStored p y) (chunk-other p r v sh st h so z oz d i hd hi fi rd b lb e z he hz (inl a)) l
         go (yes a) = subst (λ (m : ℕ). x < dataStored p (zoneAt v m z)) a
-            (here! (subst (λ (m : ℕ). x < dataStored p (zoneAt v1 m z)) (sym a) l) (subst (λ (m : ℕ). recordIn p (sealedIn p v1 0 z) (zoneAt v1 m z) x .stripe ≡ t) (sym a) q) (ℕ-discrete x o))
+            (here! (subst (λ (m : ℕ). x < dataStored p (zoneAt v1 m z)) (sym a) l)
+            (subst (λ (m : ℕ). recordIn p (sealedIn p v1 0 z) (zoneAt v1 m z) x .stripe ≡ t) (sym a) q) (ℕ-discrete x o))
 
     pub chunk-parities : (old : List Segment) → ParityMade p v 0 old → ParityMade p v1 0 old
     chunk-parities old pm = parity-grows p r v v1 z (chunk-grows p r v sh st h so z oz d i hd hi fi rd b lb) (st .serial .0) (h .tidy) old pm
@@ -402,9 +409,9 @@ module _ (p : Params) (r : Ranged p) (v : View) (sh : Shaped p v) (st : State) (
         go t c (yes e) (no! q) = absurd (uncounted-yet p r v sh st h so z oz d i hd hi fi rd b lb q (subst (λ (x : ℕ). counts p 0 seg1 x ≡ true) e c))
         go t c (yes e) (yes! q) = inr (subst (λ (x : ℕ). Made p seg1 x) (sym e) (made-now q))
         go t c (no n) y = inl (
-              as! (in-all (hasChunk seg0 t) (present p 0) (λ e m. had e (present-in p 0 e m .0))),
-              λ e he. extends-piece p 0 v v1 z e he (isIn-empty e) (chunk-extends e he) t (had e he),
-            )
+          as! (in-all (hasChunk seg0 t) (present p 0) (λ e m. had e (present-in p 0 e m .0))),
+          λ e he. extends-piece p 0 v v1 z e he (isIn-empty e) (chunk-extends e he) t (had e he),
+        )
           where
             had : (e : ℕ) → e < p .N → hasChunk seg0 t e ≡ true
             had e he = extends-back p 0 v v1 z e he (isIn-empty e) (chunk-extends e he) t (was-there t n e he) (counts-in p 0 seg1 t e c he (isIn-empty e))

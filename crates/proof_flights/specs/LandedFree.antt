@@ -134,7 +134,8 @@ module _ (p : Params) (v : View) (st : State) (ls : Lists st) (i : ℕ) (hi : i 
           → slotBlock p fl j (parityDrive p (stripeIn st2 j)) ≡ parity (p .B) (map (slotBlock p fl j) (dataDrives p (stripeIn st2 j)))
       ready! j x = unfold stripeIn freeStripe in x
 
-      pending! : (j : ℕ) → (j ≡ i → ⊥) → keep (λ (w : Pending). eqb (w .stripe) (stripeIn st j)) (elsewhere (stripeIn st i) ws) ≡ map (sentOf p st fl j) (keep (isWrite st j) (below (filledIn st j)))
+      pending! : (j : ℕ) → (j ≡ i → ⊥)
+          → keep (λ (w : Pending). eqb (w .stripe) (stripeIn st j)) (elsewhere (stripeIn st i) ws) ≡ map (sentOf p st fl j) (keep (isWrite st j) (below (filledIn st j)))
           → keep (λ (w : Pending). eqb (w .stripe) (stripeIn st2 j)) (elsewhere (stripeIn st i) ws) ≡ map (sentOf p st2 fl j) (keep (isWrite st2 j) (below (filledIn st2 j)))
       pending! j n x = left ∙ x ∙ ap (λ (m : ℕ). map (sentOf p st fl j) (keep (isWrite st j) (below m))) (sym (filled2 j n)) ∙ right
         where

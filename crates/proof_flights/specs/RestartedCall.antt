@@ -1,12 +1,11 @@
 -- The calls restart and rebuild: after a restart nothing flies, and the stripes are those found or moved; a rebuild stores on the missing drive alone. Assumes nothing.
-use mathlib.Core.Path.{_≡_, refl, sym, ap, ap₂, _∙_, subst}
-use mathlib.Core.List.{List, [], _∷_, _++_, append-nil}
-use mathlib.Core.Bool.{Bool, true, false, cond, not, _&&_, _||_}
-use Prim.Native.Nat.{ℕ, _≤_, _<_}
+use mathlib.Core.Path.{_≡_, refl, sym, ap, _∙_, subst}
+use mathlib.Core.List.{List, [], _++_, append-nil}
+use mathlib.Core.Bool.{true, false, not, _&&_, _||_}
+use Prim.Native.Nat.{ℕ, _<_}
 use native.Mathlib.Omega.{arith}
-use borrow.Author.Tests.{eq-eqb, ne-eqb, eqb-true, eqb-false, ltb-true, leb-true, not-false}
-use lib.Dec.{leb, ltb, eqb}
-use lib.ListN.{length}
+use borrow.Author.Tests.{eqb-true, eqb-false, ltb-true, not-false}
+use lib.Dec.{ltb, eqb}
 use Rattle.defs.specs.declared.Params.{Params}
 use Rattle.defs.specs.declared.Answer.{Answer}
 use Rattle.defs.specs.declared.Answer.the-variants.{Rebuilt}
@@ -15,7 +14,7 @@ use Rattle.defs.specs.Calls.{Plan, mkPlan, After}
 use Rattle.defs.specs.Counts.{lastCount}
 use Rattle.defs.specs.Drives.{View, Store, storeView, Disk, storeDisk, storeAll}
 use Rattle.defs.specs.Engine.Call.{restart, rebuild}
-use Rattle.defs.specs.Engine.{Call, storeCount, lentBlock, verdict, lentOk, callOn, callDisk}
+use Rattle.defs.specs.Engine.{storeCount, lentBlock, verdict, lentOk, callOn, callDisk}
 use Rattle.defs.specs.History.{endsRun}
 use Rattle.defs.specs.Lists.{isMember, isNil, flat}
 use Rattle.defs.specs.Memory.{Memory, idleState, filledIn}
@@ -28,7 +27,7 @@ use Rattle.laws.specs.Ranges.{Test, test, and-left, and-right}
 use Rattle.laws.specs.Ranges.Test.{yes!, no! }
 use Rattle.laws.specs.Stores.{storeAll-append}
 use Rattle.views.specs.Views.{Whole, seen, view-stores}
-use Rattle.spec_demands.specs.Layouts.{Remains, foundCounted, ParityMade}
+use Rattle.spec_demands.specs.Layouts.{Remains, foundCounted}
 use Rattle.spec_demands.specs.Tables.{Pending, pendingBy, stillPending, pendingAfter, foundAfter}
 use Rattle.tablesay.specs.Accept.{Accepted}
 use Rattle.tablesay.specs.Checks.{Passes}
@@ -50,7 +49,7 @@ use Rattle.tablesay.specs.Starting.{memory-missing, startChecks, startPlan, Beg
 use Rattle.tablesay.specs.Tables.{zero-at}
 use Rattle.tablesay.specs.Tests.{clash, or-right, or-neither, or-true-right, cond-true, cond-false}
 use Rattle.tablesay.specs.Zones.{Shaped, all-fit}
-use Rattle.proof_flights.specs.Flown.{Flights, Flown}
+use Rattle.proof_flights.specs.Flown.{Flights, Found, Flown}
 use Rattle.proof_flights.specs.LandedCall.{flown-well}
 use Rattle.proof_flights.specs.RestartedViews.{found-in, settles-parities, settles-mended}
 
@@ -58,9 +57,7 @@ use Rattle.proof_flights.specs.RestartedViews.{found-in, settles-paritie
 
 -- all is known where every counted stripe was found
 pub flown-found : (p : Params) (k : Disk) (m : Memory) (ws : List Pending) (old : List Segment) → (m .state .missing ≡ 0 → ⊥)
-    → ((g s : ℕ) → Remains p (seen p k) (m .state .missing) g → s < p .S → counts p (m .state .missing) (segmentOf p (seen p k) (m .state .missing) g) s ≡ true
-    → foundCounted p (m .state .missing) old (segmentOf p (seen p k) (m .state .missing) g .serial) s ≡ true)
-    → Flown p k m ws old
+    → Found p (seen p k) (m .state .missing) old → Flown p k m ws old
 flown-found p k m ws old n f = record {
   flights = λ e. absurd (n e);
   parities = λ g s rm hs c q. clash (f g s rm hs c) q;
@@ -74,11 +71,6 @@ flown-same p k m ws qs old os r ek em eq eo f =
     subst (λ (x : Disk). Flown p x (r .memory) qs os) (sym ek)
     (subst (λ (x : Memory). Flown p k x qs os) (sym em)
     (subst (λ (x : List Pending). Flown p k m x os) (sym eq) (subst (λ (x : List Segment). Flown p k m ws x) (sym eo) f)))
-
--- answers that end no run
-kind-not : (a : Answer) (n : ℕ) → isRefused a ≡ true → 1 < n → eqb (kind a) n ≡ false
-unfolding isRefused
-kind-not a n q h = let l = leb-true (kind a) 1 q in ne-eqb (kind a) n (λ e. let bad : ⊥ = omega arith in bad)
 
 -- ---- restart
 
@@ -167,7 +159,8 @@ module _ (p : Params) (k : Disk) (m : Memory) (d : ℕ) (shk : Whole p k → Sha
       ∙ storeAll-append storeView ds ts v in
       subst (λ (x : ℕ). Flown p (storeAll (storeDisk p) (plan .stores) k) (plan .memory) [] (segments p v x)) (sym nd)
       (flown-well p (storeAll (storeDisk p) (plan .stores) k) (plan .memory) u [] gs ev (plan-missing ∙ nd)
-      (subst (λ (x : Memory). Flights p u (x .state) (plan .memory .inflight) []) (sym plan-memory) (idle-flights p (storeAll storeView (plan .stores) v) u (named d) (m .inflight) (plan .memory .inflight)))
+      (subst (λ (x : Memory). Flights p u (x .state) (plan .memory .inflight) []) (sym plan-memory)
+      (idle-flights p (storeAll storeView (plan .stores) v) u (named d) (m .inflight) (plan .memory .inflight)))
       (settles-parities p rg v sh acc u (md .mend-bound) (md .mend-tidy) (settles-mended p rg v sh acc c6 c8 bd)))
     where
       zero! : restartStores p 0 (segments p v 0) ≡ dropStores p (segments p v 0) ++ flat (mendStores p (segments p v 0)) (unsealed (segments p v 0))
@@ -245,8 +238,7 @@ unfolding core
 core-serial g = refl
 
 found-agrees : (p : Params) (gone : ℕ) (v u : View) (old : List Segment) → In (lowDrive p gone) (present p gone) → Agree p gone v u
-    → ((g s : ℕ) → Remains p v gone g → s < p .S → counts p gone (segmentOf p v gone g) s ≡ true → foundCounted p gone old (segmentOf p v gone g .serial) s ≡ true)
-    → (g s : ℕ) → Remains p u gone g → s < p .S → counts p gone (segmentOf p u gone g) s ≡ true → foundCounted p gone old (segmentOf p u gone g .serial) s ≡ true
+    → Found p v gone old → Found p u gone old
 found-agrees p gone v u old low ag f g s rm hs c =
     let er = same-remaining p gone v u low ag in
     let rv : Remains p v gone g = ap (isMember g) er ∙ rm in
@@ -283,14 +275,15 @@ module _ (p : Params) (k : Disk) (m : Memory) (u : Run p k m) (d : ℕ) where
       let sh = u .base .shaped in
       let lost = named-in p rg d hd in
       let ev : seen p (storeAll (storeDisk p) (plan′ .stores) k) ≡ v′ =
-      view-stores p k (plan′ .stores) (capacity-word p rg) (whole-of p k m (u .base .lent)) (all-fit p v (plan′ .stores) (sh .sized) (rebuild-within p rg v sh d hd lost) (rebuild-roomy p rg v sh d hd lost)) in
+      view-stores p k (plan′ .stores) (capacity-word p rg) (whole-of p k m (u .base .lent))
+      (all-fit p v (plan′ .stores) (sh .sized) (rebuild-within p rg v sh d hd lost) (rebuild-roomy p rg v sh d hd lost)) in
       let ag : Agree p gone v v′ = subst (λ (y : ℕ). Agree p y v v′) (sym q) (rebuild-agrees p rg v sh d hd lost) in
       let low : In (lowDrive p gone) (present p gone) = subst (λ (y : ℕ). In (lowDrive p y) (present p y)) (sym q) (low-present p rg d hd) in
       let n : gone ≡ 0 → ⊥ = λ e. eqb-false (named d) 0 (named-some p rg d hd) (sym q ∙ e) in
       flown-found p (storeAll (storeDisk p) (plan′ .stores) k) m qs old n
-      (subst (λ (y : View). (g s : ℕ) → Remains p y gone g → s < p .S → counts p gone (segmentOf p y gone g) s ≡ true → foundCounted p gone old (segmentOf p y gone g .serial) s ≡ true) (sym ev)
-      (found-agrees p gone v v′ old low ag (f .all-found n)))
+      (subst (λ (y : View). Found p y gone old) (sym ev) (found-agrees p gone v v′ old low ag (f .all-found n)))
 
+-- what holds of the flights holds after an uncut rebuild
 pub flown-rebuild : (p : Params) (k : Disk) (m : Memory) (ws : List Pending) (old : List Segment) (d n : ℕ) → Run p k m → Flown p k m ws old
     → isCut (callDisk p k m (rebuild d n) .answer) ≡ false
     → Flown p (callDisk p k m (rebuild d n) .drives) (callDisk p k m (rebuild d n) .memory) (pendingAfter (rebuild d n) (callDisk p k m (rebuild d n) .answer) ws) old
@@ -303,7 +296,8 @@ flown-rebuild p k m ws old d n u f nc = go (rebuild-ends p k m u d n)
     stays! a e q = unfold pendingAfter endsRun stillPending pendingBy in
         (cond-false (isCut (r .answer) || finished (r .answer)) [] (ws ++ []) (or-neither (isCut (r .answer)) (finished (r .answer)) nc (ap finished e ∙ refused-unfinished a q)) ∙ append-nil ws)
 
-    go : Ended p k m (rebuildChecks p (lentOk p k m) (seen p k) m d (segments p (seen p k) (named d))) (mkPlan (rebuildStores p d (segments p (seen p k) (named d))) Rebuilt m []) (callDisk p k m (rebuild d n))
+    go : Ended p k m (rebuildChecks p (lentOk p k m) (seen p k) m d (segments p (seen p k) (named d))) (mkPlan (rebuildStores p d (segments p (seen p k) (named d))) Rebuilt m [])
+        (callDisk p k m (rebuild d n))
         → Flown p (callDisk p k m (rebuild d n) .drives) (callDisk p k m (rebuild d n) .memory) (pendingAfter (rebuild d n) (callDisk p k m (rebuild d n) .answer) ws) old
     go (ended-refused a e ea ek em) = flown-same p k m ws (pendingAfter (rebuild d n) (r .answer) ws) old old r ek em
         (stays! a ea (refusal-kind (rebuildChecks p (lentOk p k m) (seen p k) m d (segments p (seen p k) (named d))) a e)) refl f

@@ -2,8 +2,7 @@
 use mathlib.Core.Path.{_≡_, refl, sym, ap, ap₂, _∙_, subst}
 use mathlib.Core.List.{List, [], _∷_, _++_, map, append-nil}
 use mathlib.Core.Bool.{Bool, true, false, cond, not, _&&_}
-use mathlib.Core.Logic.{_⊎_, inl, inr}
-use Prim.Native.Nat.{ℕ, zero, suc, _+_, _^_, _≤_, _<_}
+use Prim.Native.Nat.{ℕ, zero, suc, _+_, _^_, _<_}
 use native.Mathlib.Nat.{add-zero, zero-add}
 use native.Mathlib.Omega.{arith}
 use borrow.Author.Tests.{eq-eqb, ne-eqb}
@@ -27,13 +26,13 @@ use Rattle.tablesay.specs.Accept.{Accepted}
 use Rattle.tablesay.specs.Bounds.{record-low}
 use Rattle.tablesay.specs.Dropping.{drop-empty}
 use Rattle.tablesay.specs.Laid.{record-back}
-use Rattle.tablesay.specs.Members.{In, map-cong, in-getD, below-in}
+use Rattle.tablesay.specs.Members.{map-cong, in-getD, below-in}
 use Rattle.tablesay.specs.Mending.{shaped-a}
-use Rattle.tablesay.specs.Puts.{hits-append, putAt, hits-drives, hits-resets, hits-headers, putAll, puts-pointer, puts-new}
+use Rattle.tablesay.specs.Puts.{hits-append, putAt, hits-drives, hits-resets, hits-headers, putAll, puts-new}
 use Rattle.tablesay.specs.Range.{capacity-over}
 use Rattle.tablesay.specs.Reads.{counts-in}
 use Rattle.tablesay.specs.Rebuilding.{counted-low, counted-in, pieceChunk}
-use Rattle.tablesay.specs.Rewriting.{new-pointer, new-stripe, open-now, under!}
+use Rattle.tablesay.specs.Rewriting.{new-pointer, new-stripe, open-now, under! }
 use Rattle.tablesay.specs.Segs.{low-data, seg-is, chunk-at, offset-is, has-chunk}
 use Rattle.tablesay.specs.Tables.{remains}
 use Rattle.tablesay.specs.Tests.{clash, cond-true, cond-false, cond-same, eqb-self}
@@ -124,8 +123,10 @@ module _ (p : Params) (x : Segment) (s k : ℕ) where
         stripe-parity = unfold parityPiece parityRec in refl
 
         go : Test (isData p k e) → Low (on e .rec) × (on e .rec .stripe ≡ k)
-        go (yes! q) = (subst (λ (y : Piece). Low (y .rec)) (sym (on-data e he q)) (from-low (dataPosition p k e) (position-lt p k e q he)),
-            ap (λ (y : Piece). y .rec .stripe) (on-data e he q) ∙ stripe-data (dataPosition p k e))
+        go (yes! q) = (
+          subst (λ (y : Piece). Low (y .rec)) (sym (on-data e he q)) (from-low (dataPosition p k e) (position-lt p k e q he)),
+          ap (λ (y : Piece). y .rec .stripe) (on-data e he q) ∙ stripe-data (dataPosition p k e),
+        )
         go (no! q) = (subst (λ (y : Piece). Low (y .rec)) (sym (on-parity e q)) parity-low, ap (λ (y : Piece). y .rec .stripe) (on-parity e q) ∙ stripe-parity)
 
     pub moved-back : (e : ℕ) → e < p .N → recordOf (recordBytes (on e .rec)) ≡ on e .rec

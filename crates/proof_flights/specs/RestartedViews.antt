@@ -1,10 +1,10 @@
 -- After a restart with none missing every counted stripe was found so, or its parity is made: what is dropped goes, footers
 -- come to a segment whose stripes all count, and a rewritten segment has its parity worked out anew. Assumes nothing.
-use mathlib.Core.Path.{_≡_, refl, sym, ap, ap₂, _∙_, subst}
+use mathlib.Core.Path.{_≡_, refl, sym, ap, _∙_, subst}
 use mathlib.Core.List.{List, [], _∷_, _++_, map, append-nil}
 use mathlib.Core.Bool.{Bool, true, false, not, _&&_}
 use mathlib.Core.Logic.{_⊎_, inl, inr, ⊎-elim}
-use Prim.Native.Nat.{ℕ, suc, _+_, _^_, _≤_, _<_}
+use Prim.Native.Nat.{ℕ, suc, _^_, _<_}
 use native.Mathlib.Decide.{ℕ-discrete}
 use native.Mathlib.Omega.{arith}
 use borrow.Author.Tests.{eqb-true, eqb-false, not-true}
@@ -25,7 +25,7 @@ use Rattle.tablesay.specs.Accept.{Accepted}
 use Rattle.tablesay.specs.Dropping.{free-are, drop-same, drop-used}
 use Rattle.tablesay.specs.Joins.{stores-none}
 use Rattle.tablesay.specs.Members.{In, in-map, in-any, keep-in, in-below, below-in, first-in, is-member, member-is}
-use Rattle.tablesay.specs.Mending.{have, lack, has-pointer, b-zone, b-other}
+use Rattle.tablesay.specs.Mending.{lack, has-pointer, b-zone, b-other}
 use Rattle.tablesay.specs.Puts.{puts-old}
 use Rattle.tablesay.specs.Rewriting.{same-else, was! }
 use Rattle.tablesay.specs.Run.{usedAt, Tidy}
