@@ -1,8 +1,8 @@
 -- What holds between uncut calls of the stripes in flight: landed chunks, parity, and the writes that wait. Assumes nothing.
 use mathlib.Core.Path.{_≡_}
 use mathlib.Core.List.{List, map}
-use mathlib.Core.Bool.{true}
-use Prim.Native.Nat.{ℕ, _+_, _<_}
+use mathlib.Core.Bool.{true, false}
+use Prim.Native.Nat.{ℕ, _+_, _≤_, _<_}
 use lib.Dec.{eqb}
 use lib.ListN.{length, getD}
 use Rattle.defs.specs.declared.Params.{Params}
@@ -38,6 +38,8 @@ pub record Flights (p : Params) (v : View) (st : State) (fl : List ℕ) (ws : Li
   -- the writes that wait are those of the stripes in flight, by data position
   pub pending-is : (i : ℕ) → i < 8 → flies st i ≡ true
       → keep (λ (w : Pending). eqb (w .stripe) (stripeIn st i)) ws ≡ map (sentOf p st fl i) (keep (isWrite st i) (below (filledIn st i)))
+  -- no position that is yet to fill is marked as a write
+  pub writes-low : (i k : ℕ) → i < 8 → flies st i ≡ true → filledIn st i ≤ k → k < 8 → isWrite st i k ≡ false
   pub pending-flies : (j : ℕ) → j < length ws → (i : ℕ) × (i < 8) × (flies st i ≡ true) × (stripeIn st i ≡ getD ws j noPending .stripe)
 
 -- the restart of this run found every counted stripe

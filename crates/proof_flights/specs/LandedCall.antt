@@ -265,6 +265,7 @@ module _ (p : Params) (k : Disk) (m : Memory) (u : Run p k m) (d s : ℕ) where
         parity-full = λ j hj fj. clash fj (none! j hj);
         parity-ready = λ j hj fj. clash fj (none! j hj);
         pending-is = λ j hj fj. clash fj (none! j hj);
+        writes-low = λ j x hj fj. clash fj (none! j hj);
         pending-flies = λ x hx. let (j, hj, fj, e) = F2 .pending-flies x hx in clash fj (left j hj);
       }
         where

@@ -263,6 +263,7 @@ module _ (p : Params) (r : Ranged p) (v : View) (sh : Shaped p v) (st : State) (
       parity-full = λ j hj fj q. full1 j ∙ full! j hj (sym (flies1 j) ∙ fj) (ap (λ (x : ℕ). isIn (landedIn st1 j) (parityDrive p x)) (sym (stripe1 j)) ∙ q);
       parity-ready = λ j hj fj q. ready! j (F .parity-ready j hj (sym (flies1 j) ∙ fj) (sym (full1 j) ∙ q));
       pending-is = λ j hj fj. pending! j (F .pending-is j hj (sym (flies1 j) ∙ fj));
+      writes-low = λ j k hj fj l hk. writes! j k (F .writes-low j k hj (sym (flies1 j) ∙ fj) (low! j k l) hk);
       pending-flies = λ n hn. let (j, hj, fj, e) = F .pending-flies n hn in (j, hj, flies1 j ∙ fj, stripe1 j ∙ e);
     }
       where
@@ -278,6 +279,12 @@ module _ (p : Params) (r : Ranged p) (v : View) (sh : Shaped p v) (st : State) (
         pending! : (j : ℕ) → keep (λ (w : Pending). eqb (w .stripe) (stripeIn st j)) ws ≡ map (sentOf p st fl j) (keep (isWrite st j) (below (filledIn st j)))
             → keep (λ (w : Pending). eqb (w .stripe) (stripeIn st1 j)) ws ≡ map (sentOf p st1 fl j) (keep (isWrite st1 j) (below (filledIn st1 j)))
         pending! j x = unfold sentOf stripeIn isWrite filledIn entryIn markLanded in x
+
+        low! : (j k : ℕ) → filledIn st1 j ≤ k → filledIn st j ≤ k
+        low! j k l = unfold filledIn markLanded in l
+
+        writes! : (j k : ℕ) → isWrite st j k ≡ false → isWrite st1 j k ≡ false
+        writes! j k x = unfold isWrite markLanded in x
 
         -- parity lands when the stripe is full
         by-ready : isData p s d ≡ false → ready p st i d ≡ true → isFull p st i ≡ true

@@ -1,7 +1,7 @@
 -- After a landing: the eighth of a complete stripe is freed, and its writes wait no longer; a full segment is sealed, and its pieces stay. Assumes nothing.
 use mathlib.Core.Path.{_≡_, refl, sym, ap, _∙_, subst}
 use mathlib.Core.List.{List, [], map}
-use mathlib.Core.Bool.{Bool, true, cond, not, _&&_}
+use mathlib.Core.Bool.{Bool, true, false, cond, not, _&&_}
 use mathlib.Core.Logic.{inl}
 use Prim.Native.Nat.{ℕ, _+_, _-_, min, _≤_, _<_}
 use native.Mathlib.Nat.{le-of-eq}
@@ -117,6 +117,7 @@ module _ (p : Params) (v : View) (st : State) (ls : Lists st) (i : ℕ) (hi : i 
     parity-ready = λ j hj fj q. let n = not-here j fj in ready! j (F .parity-ready j hj (sym (flies2 j n) ∙ fj) (sym (full2 j n) ∙ q));
     pending-is = λ j hj fj. let n = not-here j fj in pending! j n
         (elsewhere-of (stripeIn st i) (stripeIn st j) ws (λ e. n (once j hj (sym (flies2 j n) ∙ fj) e)) ∙ F .pending-is j hj (sym (flies2 j n) ∙ fj));
+    writes-low = λ j k hj fj l hk. let n = not-here j fj in writes! j k (F .writes-low j k hj (sym (flies2 j n) ∙ fj) (subst (λ (x : ℕ). x ≤ k) (filled2 j n) l) hk);
     pending-flies = λ k hk. waits k hk;
   }
     where
@@ -144,6 +145,9 @@ module _ (p : Params) (v : View) (st : State) (ls : Lists st) (i : ℕ) (hi : i 
 
           right : map (sentOf p st fl j) (keep (isWrite st j) (below (filledIn st2 j))) ≡ map (sentOf p st2 fl j) (keep (isWrite st2 j) (below (filledIn st2 j)))
           right = unfold sentOf isWrite entryIn stripeIn freeStripe in refl
+
+      writes! : (j k : ℕ) → isWrite st j k ≡ false → isWrite st2 j k ≡ false
+      writes! j k x = unfold isWrite freeStripe in x
 
       waits : (k : ℕ) → k < length (elsewhere (stripeIn st i) ws)
           → (j : ℕ) × (j < 8) × (flies st2 j ≡ true) × (stripeIn st2 j ≡ getD (elsewhere (stripeIn st i) ws) k noPending .stripe)

@@ -1,4 +1,12 @@
 pub mod Flown
+pub mod Pieces
+pub mod Eighths
+pub mod Flocks
+pub mod Idled
+pub mod Sent
+pub mod Written
+pub mod Shut
+pub mod Reclaimed
 pub mod LandedPieces
 pub mod LandedChunk
 pub mod LandedFree

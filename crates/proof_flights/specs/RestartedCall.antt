@@ -87,6 +87,7 @@ idle-flights p v u gone fl fm = record {
   parity-full = λ i hi f. clash f (idle-flies p v gone fl i);
   parity-ready = λ i hi f. clash f (idle-flies p v gone fl i);
   pending-is = λ i hi f. clash f (idle-flies p v gone fl i);
+  writes-low = λ i k hi f. clash f (idle-flies p v gone fl i);
   pending-flies = λ j hj. absurd (let bad : ⊥ = omega arith in bad);
 }
 

@@ -1,0 +1,172 @@
+-- Calls that change nothing: the reads, and every call that is refused. Assumes nothing.
+use mathlib.Core.Path.{_≡_, refl, sym, ap, ap₂, _∙_, subst}
+use mathlib.Core.List.{List, [], _∷_, _++_, append-nil}
+use mathlib.Core.Bool.{Bool, true, false, not, _&&_}
+use Prim.Native.Nat.{ℕ, _≤_}
+use native.Mathlib.Omega.{arith}
+use borrow.Author.Tests.{ne-eqb, leb-true}
+use lib.Dec.{leb, ltb, eqb}
+use lib.ListN.{length, getD}
+use Rattle.defs.specs.declared.Params.{Params}
+use Rattle.defs.specs.declared.Answer.{Answer}
+use Rattle.defs.specs.declared.Answer.the-variants.{Filled}
+use Rattle.defs.specs.Answers.{kind, values, isRefused, isCut, finished}
+use Rattle.defs.specs.Calls.{Check, Plan, mkPlan, After}
+use Rattle.defs.specs.Calls.Check.{rule, zones}
+use Rattle.defs.specs.Drives.{Disk, storeDisk, storeAll}
+use Rattle.defs.specs.Engine.{Call, storeCount, lentBlock, verdict, lentOk, callOn, callDisk}
+use Rattle.defs.specs.Engine.Call.{write, land, close, reclaim, read, fill, restart, rebuild}
+use Rattle.defs.specs.History.{endsRun}
+use Rattle.defs.specs.Lists.{consIf, keep}
+use Rattle.defs.specs.Memory.{Memory, stateFaults}
+use Rattle.defs.specs.Params.{inRange}
+use Rattle.defs.specs.Read.{Found, lookup, foundFaults, decodeFaults, readPiece, readAnswer, readChecks, readVerdict, fillVerdict}
+use Rattle.defs.specs.Read.Found.{nowhere, here, away}
+use Rattle.defs.specs.Segments.{Segment}
+use Rattle.hosts.specs.Shorts.{write-keeps, land-keeps, close-keeps, reclaim-keeps, read-keeps, fill-keeps, restart-keeps, rebuild-keeps}
+use Rattle.spec_demands.specs.Tables.{Pending, pendingBy, stillPending, pendingAfter}
+use Rattle.tablesay.specs.Checks.{Passes}
+use Rattle.tablesay.specs.Outcomes.{Ended, ended, refusal-kind, cut-cut}
+use Rattle.tablesay.specs.Outcomes.Ended.{ended-refused, ended-done, ended-cut}
+use Rattle.tablesay.specs.Run.{Run}
+use Rattle.tablesay.specs.Tests.{clash, cond-false, and-false-left, or-neither}
+use Rattle.views.specs.Views.{seen}
+use Rattle.proof_flights.specs.Flown.{Flown}
+
+-- ---- the writes that wait, after an answer that sends none and lands none
+
+-- neither cut nor a finished restart, no block sent, none landed
+pub record Quiet (a : Answer) : Type 0 where
+  pub goes-on : endsRun a ≡ false
+  pub sends-none : eqb (kind a) 3 ≡ false
+  pub lands-none : eqb (kind a) 4 ≡ false
+
+still : (c : Call) (a : Answer) (ws : List Pending) → eqb (kind a) 4 ≡ false → stillPending c a ws ≡ ws
+unfolding stillPending
+still (write x b n) a ws q = refl
+still (land d s n) a ws q =
+    cond-false (eqb (kind a) 4 && ltb 0 (getD (values a) 0 0)) (keep (λ (w : Pending). not (eqb (w .stripe) s)) ws) ws (and-false-left (eqb (kind a) 4) (ltb 0 (getD (values a) 0 0)) q)
+still (close n) a ws q = refl
+still (reclaim n) a ws q = refl
+still (read x) a ws q = refl
+still (fill x b) a ws q = refl
+still (restart d n) a ws q = refl
+still (rebuild d n) a ws q = refl
+
+none-sent : (c : Call) (a : Answer) → eqb (kind a) 3 ≡ false → pendingBy c a ≡ []
+unfolding pendingBy
+none-sent (write x b n) a q =
+    ap (λ (t : Bool). consIf t (record { stripe = getD (values a) 1 0; drive = getD (values a) 2 0; address = x; stamp = getD (values a) 0 0; block = b }) []) q ∙ (unfold consIf in refl)
+none-sent (land d s n) a q = refl
+none-sent (close n) a q = refl
+none-sent (reclaim n) a q = refl
+none-sent (read x) a q = refl
+none-sent (fill x b) a q = refl
+none-sent (restart d n) a q = refl
+none-sent (rebuild d n) a q = refl
+
+pub pending-quiet : (c : Call) (a : Answer) (ws : List Pending) → Quiet a → pendingAfter c a ws ≡ ws
+unfolding pendingAfter
+pending-quiet c a ws q =
+    cond-false (endsRun a) [] (stillPending c a ws ++ pendingBy c a) (q .goes-on) ∙ ap₂ _++_ (still c a ws (q .lands-none)) (none-sent c a (q .sends-none)) ∙ append-nil ws
+
+-- a kind that is none of those
+pub quiet-kind : (a : Answer) (n : ℕ) → kind a ≡ n → eqb n 2 ≡ false → eqb n 3 ≡ false → eqb n 4 ≡ false → eqb n 12 ≡ false → Quiet a
+quiet-kind a n e x y z w = record {
+  goes-on = ends;
+  sends-none = ap (λ (m : ℕ). eqb m 3) e ∙ y;
+  lands-none = ap (λ (m : ℕ). eqb m 4) e ∙ z;
+}
+  where
+    ends : endsRun a ≡ false
+    ends = unfold endsRun isCut finished in or-neither (eqb (kind a) 2) (eqb (kind a) 12) (ap (λ (m : ℕ). eqb m 2) e ∙ x) (ap (λ (m : ℕ). eqb m 12) e ∙ w)
+
+pub quiet-refused : (a : Answer) → isRefused a ≡ true → Quiet a
+quiet-refused a q = quiet-kind a (kind a) refl (not-it 2 (omega arith)) (not-it 3 (omega arith)) (not-it 4 (omega arith)) (not-it 12 (omega arith))
+  where
+    low : leb (kind a) 1 ≡ true
+    low = unfold isRefused in q
+
+    not-it : (n : ℕ) → 2 ≤ n → eqb (kind a) n ≡ false
+    not-it n h = let x = leb-true (kind a) 1 low in ne-eqb (kind a) n (λ e. let bad : ⊥ = omega arith in bad)
+
+-- ---- nothing changed
+
+-- the same drives, memory and writes, told otherwise
+pub flown-as : (p : Params) (k : Disk) (m : Memory) (ws ws′ : List Pending) (old : List Segment) (x : Disk) (y : Memory) → x ≡ k → y ≡ m → ws ≡ ws′ → Flown p k m ws′ old → Flown p x y ws old
+flown-as p k m ws ws′ old x y ex ey ew f =
+    subst (λ (a : Disk). Flown p a y ws old) (sym ex) (subst (λ (a : Memory). Flown p k a ws old) (sym ey) (subst (λ (a : List Pending). Flown p k m a old) (sym ew) f))
+
+pub flown-still : (p : Params) (k : Disk) (m : Memory) (ws : List Pending) (old : List Segment) → Flown p k m ws old → (c : Call) (r : After Disk)
+    → r .drives ≡ k → r .memory ≡ m → Quiet (r .answer) → Flown p (r .drives) (r .memory) (pendingAfter c (r .answer) ws) old
+flown-still p k m ws old f c r e g q = flown-as p k m (pendingAfter c (r .answer) ws) ws old (r .drives) (r .memory) e g (pending-quiet c (r .answer) ws q) f
+
+-- a call as it ends: what is left once all is done, else nothing changed
+pub flown-ended : (p : Params) (k : Disk) (m : Memory) (ws : List Pending) (old : List Segment) → Flown p k m ws old → (c : Call) (cs : List Check) (q : Plan) (r : After Disk)
+    → (Passes cs → Flown p (storeAll (storeDisk p) (q .stores) k) (q .memory) (pendingAfter c (q .answer) ws) old)
+    → isCut (r .answer) ≡ false → Ended p k m cs q r → Flown p (r .drives) (r .memory) (pendingAfter c (r .answer) ws) old
+flown-ended p k m ws old f c cs q r done nc (ended-refused a e x y z) =
+    flown-still p k m ws old f c r y z (subst (λ (b : Answer). Quiet b) (sym x) (quiet-refused a (refusal-kind cs a e)))
+flown-ended p k m ws old f c cs q r done nc (ended-done h x y z) =
+    flown-as p _ _ _ _ old (r .drives) (r .memory) y z (ap (λ (b : Answer). pendingAfter c b ws) x) (done h)
+flown-ended p k m ws old f c cs q r done nc (ended-cut h x) = clash (ap isCut x ∙ cut-cut) nc
+
+-- a refusal of any call
+pub flown-refused : (p : Params) (k : Disk) (m : Memory) (ws : List Pending) (old : List Segment) → Flown p k m ws old → (c : Call) → isRefused (callDisk p k m c .answer) ≡ true
+    → Flown p (callDisk p k m c .drives) (callDisk p k m c .memory) (pendingAfter c (callDisk p k m c .answer) ws) old
+flown-refused p k m ws old f c q =
+    flown-still p k m ws old f c (callDisk p k m c) (ap (λ (r : After Disk). r .drives) (kept c q .1)) (ap (λ (r : After Disk). r .memory) (kept c q .1)) (quiet-refused (callDisk p k m c .answer) q)
+  where
+    kept : (c : Call) → isRefused (callDisk p k m c .answer) ≡ true → (b : List ℕ) × (callDisk p k m c ≡ record { answer = callDisk p k m c .answer; drives = k; memory = m; block = b })
+    kept (write a b n) q = (b, write-keeps p k m a b n q)
+    kept (land d s n) q = ([], land-keeps p k m d s n q)
+    kept (close n) q = ([], close-keeps p k m n q)
+    kept (reclaim n) q = ([], reclaim-keeps p k m n q)
+    kept (read a) q = ([], read-keeps p k m a q)
+    kept (fill a b) q = (b, fill-keeps p k m a b q)
+    kept (restart d n) q = ([], restart-keeps p k m d n q)
+    kept (rebuild d n) q = ([], rebuild-keeps p k m d n q)
+
+-- ---- the reads
+
+module _ (p : Params) (k : Disk) (m : Memory) (u : Run p k m) (ws : List Pending) (old : List Segment) (f : Flown p k m ws old) where
+  abbrev found : ℕ → Found
+  found a = lookup p (m .state .missing) (m .addresses) a
+
+  -- no store, and memory as it was
+  same : (c : Call) (a : Answer) → Quiet a → Flown p (storeAll (storeDisk p) [] k) m (pendingAfter c a ws) old
+  unfolding storeAll
+  same c a q = flown-as p k m (pendingAfter c a ws) ws old k m refl refl (pending-quiet c a ws q) f
+
+  quiet-read : (x : Found) → Quiet (readAnswer p x)
+  unfolding readAnswer kind
+  quiet-read nowhere = quiet-kind (readAnswer p nowhere) 9 refl refl refl refl refl
+  quiet-read (here q) = quiet-kind (readAnswer p (here q)) 8 refl refl refl refl refl
+  quiet-read (away q) = quiet-kind (readAnswer p (away q)) 10 refl refl refl refl refl
+
+  quiet-filled : Quiet Filled
+  unfolding kind
+  quiet-filled = quiet-kind Filled 11 refl refl refl refl refl
+
+  pub flown-read : (a : ℕ) → isCut (callDisk p k m (read a) .answer) ≡ false
+      → Flown p (callDisk p k m (read a) .drives) (callDisk p k m (read a) .memory) (pendingAfter (read a) (callDisk p k m (read a) .answer) ws) old
+  unfolding callDisk callOn verdict storeCount lentBlock readVerdict readChecks
+  flown-read a nc = flown-ended p k m ws old f (read a) cs q _ (λ h. same (read a) (readAnswer p (found a)) (quiet-read (found a))) nc (ended p k m cs q 0 [])
+    where
+      cs : List Check
+      cs = rule 1 (not (inRange p)) ∷ rule 2 (not (lentOk p k m)) ∷ rule 4 (leb (p .L) a) ∷ zones (stateFaults p (m .state) ++ foundFaults p (seen p k) (m .state .missing) (found a)) ∷ []
+
+      q : Plan
+      q = mkPlan [] (readAnswer p (found a)) m []
+
+  pub flown-fill : (a : ℕ) (b : List ℕ) → isCut (callDisk p k m (fill a b) .answer) ≡ false
+      → Flown p (callDisk p k m (fill a b) .drives) (callDisk p k m (fill a b) .memory) (pendingAfter (fill a b) (callDisk p k m (fill a b) .answer) ws) old
+  unfolding callDisk callOn verdict storeCount lentBlock fillVerdict readChecks
+  flown-fill a b nc = flown-ended p k m ws old f (fill a b) cs q _ (λ h. same (fill a b) Filled quiet-filled) nc (ended p k m cs q 0 b)
+    where
+      cs : List Check
+      cs = rule 1 (not (inRange p)) ∷ rule 2 (not (lentOk p k m && eqb (length b) (p .B))) ∷ rule 4 (leb (p .L) a)
+          ∷ zones (stateFaults p (m .state) ++ foundFaults p (seen p k) (m .state .missing) (found a)) ∷ zones (decodeFaults p (seen p k) (m .state .missing) (m .compact) (found a)) ∷ []
+
+      q : Plan
+      q = mkPlan [] Filled m (readPiece p (seen p k) (m .state .missing) (m .compact) (found a) .block)

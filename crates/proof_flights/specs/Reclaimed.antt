@@ -1,0 +1,267 @@
+-- Reclaim: a copy is a block sent that nobody waits for, and a reset takes a sealed segment away, which no stripe in flight is in. Assumes nothing.
+use mathlib.Core.Path.{_≡_, refl, sym, ap, ap₂, _∙_, subst}
+use mathlib.Core.List.{List, [], _∷_, _++_, map}
+use mathlib.Core.Bool.{Bool, true, false, cond, not, _&&_, _||_}
+use mathlib.Core.Logic.{_⊎_, inl}
+use Prim.Native.Nat.{ℕ, zero, suc, _+_, _-_, _^_, _<_}
+use native.Mathlib.Omega.{arith}
+use lib.Dec.{eqb}
+use lib.ListN.{length, getD}
+use Rattle.defs.specs.declared.Params.{Params}
+use Rattle.defs.specs.declared.State.{State}
+use Rattle.defs.specs.declared.Answer.{Answer}
+use Rattle.defs.specs.declared.Answer.the-variants.{Copied, Reset}
+use Rattle.defs.specs.Answers.{kind, isCut}
+use Rattle.defs.specs.Calls.{Check, Plan}
+use Rattle.defs.specs.Calls.Check.{rule, zones}
+use Rattle.defs.specs.Counts.{aStamp}
+use Rattle.defs.specs.Drives.{noChunk, Zone, View, zoneAt, pointerAt, chunkAt, Store, storeView, Disk, storeDisk, storeAll, zoneOn, placeSegment, sealedIn, recordIn, recordAt, resetStores}
+use Rattle.defs.specs.Engine.{storeCount, lentBlock, verdict, lentOk, callOn, callDisk}
+use Rattle.defs.specs.Engine.Call.{reclaim}
+use Rattle.defs.specs.Layout.{Rec}
+use Rattle.defs.specs.Lists.{Opt, isMember, keep, isNil, firstOr}
+use Rattle.defs.specs.Memory.{Memory, mkMemory, openSegment, stateFaults}
+use Rattle.defs.specs.Params.{between, inRange, capacity, placeBlock, placeZone, placeDrive, drivesOf}
+use Rattle.defs.specs.Reclaim.{placesIn, tableFaults, segmentPlaces, liveIn, flying, Victim, victim, isNone, victimSegment, victimLive}
+use Rattle.defs.specs.Reclaim.{idle, reclaimChecks, cleared, resetPlan, copyPlan, reclaimVerdict}
+use Rattle.defs.specs.Segments.{Segment, segmentOf, counts}
+use Rattle.defs.specs.Write.{opens, noSerial, mustWait, scarce, Sending, sending}
+use Rattle.laws.specs.Geometry.{Ranged, ranged}
+use Rattle.laws.specs.Ranges.{Test, test}
+use Rattle.laws.specs.Ranges.Test.{yes!, no! }
+use Rattle.runs.specs.Cells.{SameSlot}
+use Rattle.spec_demands.specs.Layouts.{Remains, ParityMade}
+use Rattle.spec_demands.specs.Tables.{Pending, pendingAfter}
+use Rattle.tablesay.specs.Base.{cand-zone}
+use Rattle.tablesay.specs.Bounds.{record-low, open-short}
+use Rattle.tablesay.specs.Checks.{Passes}
+use Rattle.tablesay.specs.Going.{address-table, buffer-long}
+use Rattle.tablesay.specs.Idle.{StateOk, state-of}
+use Rattle.tablesay.specs.Live.{Pointed, places-pointed}
+use Rattle.tablesay.specs.Members.{In, keep-in, first-in, is-member}
+use Rattle.tablesay.specs.Outcomes.{ended}
+use Rattle.tablesay.specs.Range.{capacity-over}
+use Rattle.tablesay.specs.Reads.{spot-block, spot-drive}
+use Rattle.tablesay.specs.Reclaiming.{taken, sealed-full}
+use Rattle.tablesay.specs.Resetting.{reset-same, reset-roomy, reset-within, reset-was, reset-tidy}
+use Rattle.tablesay.specs.Run.{flies, Healthy, Well, Run}
+use Rattle.tablesay.specs.Segs.{remaining-low}
+use Rattle.tablesay.specs.Sending.{sends}
+use Rattle.tablesay.specs.Settled.{SameZones}
+use Rattle.tablesay.specs.Tests.{clash, or-left, or-right, cond-true, cond-false}
+use Rattle.tablesay.specs.Zones.{Shaped}
+use Rattle.views.specs.Views.{seen}
+use Rattle.proof_flights.specs.Flocks.{none-more, flock-of, of-flock, flock-same}
+use Rattle.proof_flights.specs.Flown.{Flights, Flown}
+use Rattle.proof_flights.specs.Idled.{Quiet, pending-quiet, quiet-kind, flown-as, flown-ended}
+use Rattle.proof_flights.specs.Pieces.{parity-zones, remains-of-used, used-of-remains}
+use Rattle.proof_flights.specs.Sent.{some-empty, leaves-sent}
+use Rattle.proof_flights.specs.Written.{well-of, seen-after, parity-none, flown-of}
+
+-- ---- a sealed segment is reset
+
+module _ (p : Params) (r : Ranged p) (v : View) (sh : Shaped p v) (g : ℕ) (hg : g < p .Z) (st : State) (h : Healthy p v st) (so : StateOk p st)
+    (full : (d : ℕ) → d < p .N → pointerAt v d g ≡ capacity p) where
+  abbrev after : View
+  after = storeAll storeView (resetStores p g) v
+
+  -- it isn't the open one
+  not-open : (z : ℕ) → st .opened ≡ suc z → g ≡ z → ⊥
+  not-open z e q =
+      let h0 : 0 < p .N = omega (arith, r .drives-low) in
+      let x = open-short p r v st z so (h .opens-at z e) 0 h0 in
+      let y : pointerAt v 0 z ≡ capacity p = ap (pointerAt v 0) (sym q) ∙ full 0 h0 in
+      let bad : ⊥ = omega arith in bad
+
+  pub flights-reset : (fl : List ℕ) (ws : List Pending) → Flights p v st fl ws → Flights p after st fl ws
+  flights-reset fl ws f = of-flock p after st fl ws (flock-same p r v after st st fl ws same (λ j d b hj fj hd. stays j d b hj fj hd (st .opened) refl) (flock-of p v st fl ws h so f))
+    where
+      same : (j : ℕ) → SameSlot st st j
+      same j = record { number = refl; filled = refl; landed = refl; entry = λ k l. refl; offset = λ d l. refl; write = λ k. refl }
+
+      stays : (j d b : ℕ) → j < 8 → flies st j ≡ true → d < p .N → (n : ℕ) → st .opened ≡ n
+          → chunkAt after d (zoneOn (openSegment st) d) b ≡ chunkAt v d (zoneOn (openSegment st) d) b
+      stays j d b hj fj hd zero e = clash fj (h .shut e j hj)
+      stays j d b hj fj hd (suc z) e =
+          subst (λ (x : ℕ). chunkAt after d (zoneOn x d) b ≡ chunkAt v d (zoneOn x d) b) (sym (open-is e))
+          (chunk-same (sym (reset-same p r v sh g hg z (h .opens-at z e .opened-zone) (not-open z e) d hd)))
+        where
+          open-is : st .opened ≡ suc z → openSegment st ≡ z
+          open-is e = unfold openSegment in omega arith
+
+          chunk-same : zoneAt after d z ≡ zoneAt v d z → chunkAt after d (zoneOn z d) b ≡ chunkAt v d (zoneOn z d) b
+          chunk-same q = unfold chunkAt zoneOn in ap (λ (x : Zone). getD (x .blocks) b noChunk) q
+
+  pub parity-reset : (old : List Segment) → ParityMade p v 0 old → ParityMade p after 0 old
+  parity-reset old pm = parity-zones p r v after old pm (λ y rm. go y rm)
+    where
+      go : (y : ℕ) → Remains p after 0 y → (Remains p v 0 y × SameZones p v after y) ⊎ ((s : ℕ) → counts p 0 (segmentOf p after 0 y) s ≡ true → ⊥)
+      go y rm =
+          let n = st .serial .0 in
+          let (hy, q) = used-of-remains p r after n (reset-tidy p r v sh g hg n (h .tidy)) y rm in
+          let (ne, w) = reset-was p r v sh g hg y hy q in
+          inl (remains-of-used p r v n (h .tidy) y hy w, reset-same p r v sh g hg y hy ne)
+
+-- ---- the call
+
+live-in : (p : Params) (qs : List ℕ) (g q : ℕ) → In q (liveIn p qs g) → In q qs
+live-in p qs g q m = is-member q qs (keep-in (λ q. isMember q qs) (segmentPlaces p g) q (as! m) .1)
+  where
+    as! : In q (liveIn p qs g) → In q (keep (λ q. isMember q qs) (segmentPlaces p g))
+    as! m = unfold liveIn in m
+
+module _ (p : Params) (k : Disk) (m : Memory) (u : Run p k m) (ws : List Pending) (old : List Segment) (f : Flown p k m ws old) (n : ℕ) where
+  abbrev v : View
+  v = seen p k
+
+  abbrev st : State
+  st = m .state
+
+  abbrev w : Opt Victim
+  w = victim p v (m .addresses)
+
+  abbrev live : Bool
+  live = not (isNil (victimLive w))
+
+  abbrev plan : Plan
+  plan = cond (isNil (victimLive w)) (resetPlan p m (victimSegment w)) (copyPlan p v m (firstOr 0 (idle p v st w)))
+
+  abbrev checks : List Check
+  checks = rule 1 (not (inRange p)) ∷ rule 2 (not (lentOk p k m)) ∷ rule 3 (not (eqb (st .missing) 0)) ∷ rule 5 (isNone w || (live && isNil (idle p v st w)))
+      ∷ rule 6 (live && noSerial p st) ∷ rule 7 (live && mustWait p st) ∷ rule 8 (live && opens p st && scarce p v 1)
+      ∷ zones (stateFaults p st ++ tableFaults p (m .addresses) ++ map (λ q. victimSegment w) (keep (λ q. not (between 1 (p .S) (placeBlock p q))) (victimLive w))) ∷ []
+
+  rg : Ranged p
+  rg = ranged p (u .base .ranged)
+
+  so : StateOk p st
+  so = state-of p rg st (u .base .state-ok)
+
+  -- what a plan leaves
+  abbrev Left : Plan → Type 0
+  Left q = Flown p (storeAll (storeDisk p) (q .stores) k) (q .memory) (pendingAfter (reclaim n) (q .answer) ws) old
+
+  reset-left : Well p k m → isNone w ≡ false → Left (resetPlan p m (victimSegment w))
+  reset-left we nn =
+      let g = victimSegment w in
+      let t = taken p v (m .addresses) nn in
+      let hg = t .taken-low in
+      let sh = u .base .shaped in
+      let full = sealed-full p v g (t .taken-sealed) in
+      let cs = cleared p g (drivesOf p) (m .compact) in
+      let k′ = storeAll (storeDisk p) (resetStores p g) k in
+      let m′ = mkMemory st (m .addresses) cs (m .inflight) in
+      flown-as p k′ m′ _ ws old _ _ (ap (λ (l : List Store). storeAll (storeDisk p) l k) (stores-is g)) (memory-is g)
+      (ap (λ (y : Answer). pendingAfter (reclaim n) y ws) (answer-is g) ∙ pending-quiet (reclaim n) (Reset g) ws (quiet-reset g))
+      (flown-of p k′ m′ ws old (storeAll storeView (resetStores p g) v)
+      (seen-after p k m u (resetStores p g) (reset-roomy p rg v sh g hg) (reset-within p rg v sh g hg)) (we .none-missing)
+      (flights-reset p rg v sh g hg st (we .healthy) so full (m .inflight) ws (f .flights (we .none-missing)))
+      (parity-reset p rg v sh g hg st (we .healthy) so full old (parity-none p k m ws old f (we .none-missing))))
+    where
+      stores-is : (g : ℕ) → resetPlan p m g .stores ≡ resetStores p g
+      stores-is g = unfold resetPlan in refl
+
+      memory-is : (g : ℕ) → resetPlan p m g .memory ≡ mkMemory st (m .addresses) (cleared p g (drivesOf p) (m .compact)) (m .inflight)
+      memory-is g = unfold resetPlan in refl
+
+      answer-is : (g : ℕ) → resetPlan p m g .answer ≡ Reset g
+      answer-is g = unfold resetPlan in refl
+
+      quiet-reset : (g : ℕ) → Quiet (Reset g)
+      quiet-reset g = quiet-kind (Reset g) 7 (unfold kind in refl) refl refl refl refl
+
+  -- the block that is copied, as it is sent
+  abbrev rec : ℕ → Rec
+  rec q = recordAt p v 0 (placeDrive p q) (placeSegment p q) (placeBlock p q - 1)
+
+  abbrev copied : ℕ → Sending
+  copied q = sending p v st (m .inflight) (rec q .address) (rec q .stamp) 0 (chunkAt v (placeDrive p q) (placeZone p q) (placeBlock p q) .block)
+
+  copy-left : Well p k m → isNone w ≡ false → isNil (idle p v st w) ≡ false → noSerial p st ≡ false → mustWait p st ≡ false → (opens p st ≡ true → scarce p v 1 ≡ false)
+      → Left (copyPlan p v m (firstOr 0 (idle p v st w)))
+  copy-left we nn ni ns nw sc =
+      let q = firstOr 0 (idle p v st w) in
+      let at! = address-table p k m u we in
+      let i : In q (victimLive w) = idle-live q (first-in (idle p v st w) 0 ni) in
+      let i′ : In q (liveIn p (placesIn p (m .addresses)) (victimSegment w)) = subst (λ (x : List ℕ). In q x) (taken p v (m .addresses) nn .taken-live) i in
+      let t : Pointed p v q = places-pointed p rg v (m .addresses) at! q (live-in p (placesIn p (m .addresses)) (victimSegment w) q i′) in
+      let c = t .cand in
+      let kc = t .at-cand! in
+      let d = placeDrive p q in
+      let g = placeSegment p q in
+      let o = placeBlock p q - 1 in
+      let ed : d ≡ c .drive = ap (placeDrive p) (t .place!) ∙ spot-drive p rg v 0 c (t .spot) in
+      let eg : g ≡ kc .of = segment-is q ∙ ap (placeZone p) (t .place!) ∙ cand-zone p rg v 0 c kc (t .spot) in
+      let eb : placeBlock p q ≡ 1 + c .offset = ap (placeBlock p) (t .place!) ∙ spot-block p rg v 0 c (t .spot) in
+      let hd : d < p .N = subst (λ (y : ℕ). y < p .N) (sym ed) (t .spot .drive-low) in
+      let hg : g < p .Z = subst (λ (y : ℕ). y < p .Z) (sym eg) (remaining-low p v 0 (kc .of) (kc .remains)) in
+      let low = record-low p (zoneAt v d g) (u .base .shaped .zone-ok d g hd hg) (sealedIn p v 0 g) o in
+      let er = record-is d g o in
+      let hb : placeBlock p q < capacity p = (let l = t .spot .offset-low in let y = capacity-over p rg in omega arith) in
+      let lb : length (chunkAt v d (placeZone p q) (placeBlock p q) .block) ≡ p .B =
+      ap (λ (y : ℕ). length (chunkAt v d y (placeBlock p q) .block)) (sym (segment-is q)) ∙ chunk-long d g (placeBlock p q) hd hg hb in
+      let sh = u .base .shaped in
+      let bu = buffer-long p k m u we in
+      let b = chunkAt v d (placeZone p q) (placeBlock p q) .block in
+      let s = sends p rg v sh st (we .healthy) so (m .inflight) bu (rec q .address) (rec q .stamp) 0 b (subst (λ (y : Rec). y .address < 256 ^ 8) (sym er) (low .0))
+      (subst (λ (y : Rec). y .stamp < 256 ^ 8) (sym er) (low .1)) (omega arith) lb nw ns (λ z. some-empty p v 1 (sc z)) in
+      let le = leaves-sent p rg v sh st (we .healthy) so (m .inflight) bu ws old (f .flights (we .none-missing)) (parity-none p k m ws old f (we .none-missing)) (rec q .address) (rec q .stamp) 0 b
+      (inl refl) lb nw ns (λ z. some-empty p v 1 (sc z)) in
+      let e = copied q in
+      let k′ = storeAll (storeDisk p) (e .stores) k in
+      let m′ = mkMemory (e .state) (m .addresses) (m .compact) (e .inflight) in
+      let v′ = storeAll storeView (e .stores) v in
+      flown-as p k′ m′ _ ws old _ _ (ap (λ (l : List Store). storeAll (storeDisk p) l k) (stores-is q)) (memory-is q)
+      (ap (λ (y : Answer). pendingAfter (reclaim n) y ws) (answer-is q) ∙ pending-quiet (reclaim n) _ ws (quiet-copied (rec q .stamp) (e .stripe) (e .drive)))
+      (flown-of p k′ m′ ws old v′ (seen-after p k m u (e .stores) (s .has-room) (s .all-within)) (s .missing-after ∙ we .none-missing)
+      (subst (λ (x : List Pending). Flights p v′ (e .state) (e .inflight) x) (none-more ws _) (le .0)) (le .1))
+    where
+      idle-live : (q : ℕ) → In q (idle p v st w) → In q (victimLive w)
+      idle-live q i = keep-in (λ q. not (flying p v st q)) (victimLive w) q (as! i) .0
+        where
+          as! : In q (idle p v st w) → In q (keep (λ q. not (flying p v st q)) (victimLive w))
+          as! i = unfold idle in i
+
+      segment-is : (q : ℕ) → placeSegment p q ≡ placeZone p q
+      segment-is q = unfold placeSegment in refl
+
+      record-is : (d g o : ℕ) → recordAt p v 0 d g o ≡ recordIn p (sealedIn p v 0 g) (zoneAt v d g) o
+      record-is d g o = unfold recordAt zoneOn in refl
+
+      chunk-long : (d g b : ℕ) → d < p .N → g < p .Z → b < capacity p → length (chunkAt v d g b .block) ≡ p .B
+      chunk-long d g b hd hg hb = unfold chunkAt in u .base .shaped .zone-ok d g hd hg .sound b hb .block-long
+
+      stores-is : (q : ℕ) → copyPlan p v m q .stores ≡ copied q .stores
+      stores-is q = unfold copyPlan in refl
+
+      memory-is : (q : ℕ) → copyPlan p v m q .memory ≡ mkMemory (copied q .state) (m .addresses) (m .compact) (copied q .inflight)
+      memory-is q = unfold copyPlan in refl
+
+      answer-is : (q : ℕ) → copyPlan p v m q .answer ≡ Copied (aStamp (rec q .stamp)) (copied q .stripe) (copied q .drive)
+      answer-is q = unfold copyPlan in refl
+
+      quiet-copied : (t s d : ℕ) → Quiet (Copied (aStamp t) s d)
+      quiet-copied t s d = quiet-kind (Copied (aStamp t) s d) 6 (unfold kind in refl) refl refl refl refl
+
+  done : Passes checks → Left plan
+  done (c1, (c2, (c3, (c5, (c6, (c7, (c8, (c9, c)))))))) = go (test (isNil (victimLive w)))
+    where
+      we : Well p k m
+      we = well-of p k m u c3
+
+      nn : isNone w ≡ false
+      nn = or-left (isNone w) (live && isNil (idle p v st w)) c5
+
+      go : Test (isNil (victimLive w)) → Left plan
+      go (yes! q) = subst (λ (y : Plan). Left y) (sym (cond-true (isNil (victimLive w)) (resetPlan p m (victimSegment w)) (copyPlan p v m (firstOr 0 (idle p v st w))) q)) (reset-left we nn)
+      go (no! q) =
+          let lv : live ≡ true = ap not q in
+          let drop! : (b : Bool) → live && b ≡ false → b ≡ false = λ b y. sym (ap (λ (c : Bool). c && b) lv) ∙ y in
+          subst (λ (y : Plan). Left y) (sym (cond-false (isNil (victimLive w)) (resetPlan p m (victimSegment w)) (copyPlan p v m (firstOr 0 (idle p v st w))) q))
+          (copy-left we nn (drop! (isNil (idle p v st w)) (or-right (isNone w) (live && isNil (idle p v st w)) c5)) (drop! (noSerial p st) c6) (drop! (mustWait p st) c7)
+          (λ z. sym (ap₂ (λ (a b : Bool). a && b && scarce p v 1) lv z) ∙ c8))
+
+  pub flown-reclaim : isCut (callDisk p k m (reclaim n) .answer) ≡ false
+      → Flown p (callDisk p k m (reclaim n) .drives) (callDisk p k m (reclaim n) .memory) (pendingAfter (reclaim n) (callDisk p k m (reclaim n) .answer) ws) old
+  unfolding callDisk callOn verdict storeCount lentBlock reclaimVerdict reclaimChecks
+  flown-reclaim nc = flown-ended p k m ws old f (reclaim n) checks plan _ done nc (ended p k m checks plan n [])

@@ -1,0 +1,134 @@
+-- Closings: each open position of the filling stripe takes padding, as a position that fills. Assumes nothing.
+use mathlib.Core.Path.{_≡_, refl, sym, ap, _∙_, subst}
+use mathlib.Core.List.{List, [], _∷_, _++_}
+use mathlib.Core.Bool.{true, false, cond, not, _&&_, _||_}
+use mathlib.Core.Logic.{inl}
+use Prim.Native.Nat.{ℕ, zero, suc, _+_, _-_, _≤_, _<_}
+use native.Mathlib.Omega.{arith}
+use borrow.Author.Tests.{not-false}
+use lib.Dec.{eqb}
+use lib.ListN.{length, replicate, length-replicate}
+use Rattle.defs.specs.declared.Params.{Params}
+use Rattle.defs.specs.declared.State.{State}
+use Rattle.defs.specs.declared.Answer.{Answer}
+use Rattle.defs.specs.declared.Answer.the-variants.{Closed}
+use Rattle.defs.specs.Answers.{kind, isCut}
+use Rattle.defs.specs.Calls.{Check}
+use Rattle.defs.specs.Calls.Check.{rule, zones}
+use Rattle.defs.specs.Closing.{padded, closeChecks, closePlan, closeVerdict}
+use Rattle.defs.specs.Counts.{paddingAddress}
+use Rattle.defs.specs.Drives.{View, Disk, storeDisk, storeAll}
+use Rattle.defs.specs.Engine.{storeCount, lentBlock, verdict, lentOk, callOn, callDisk}
+use Rattle.defs.specs.Engine.Call.{close}
+use Rattle.defs.specs.Lists.{isNil}
+use Rattle.defs.specs.Memory.{Memory, mkMemory, stripeIn, filledIn, fillingSlot, hasFilling, stateFaults, addEntry}
+use Rattle.defs.specs.Params.{dataCount, inRange, inflightLen}
+use Rattle.defs.specs.Reclaim.{tableFaults, victim, idle}
+use Rattle.defs.specs.Segments.{Segment}
+use Rattle.defs.specs.Write.{scarce, placed}
+use Rattle.laws.specs.Geometry.{Ranged, ranged}
+use Rattle.spec_demands.specs.Tables.{Pending, pendingAfter}
+use Rattle.tablesay.specs.Checks.{Passes}
+use Rattle.tablesay.specs.Filling.{placed-long}
+use Rattle.tablesay.specs.Going.{buffer-long}
+use Rattle.tablesay.specs.Idle.{state-of}
+use Rattle.tablesay.specs.Outcomes.{ended}
+use Rattle.tablesay.specs.Run.{flies, Lists, Run}
+use Rattle.tablesay.specs.Sending.{filling-slot}
+use Rattle.tablesay.specs.Slots.{add-filled, add-number, add-lists}
+use Rattle.tablesay.specs.Tests.{or-left}
+use Rattle.views.specs.Views.{seen}
+use Rattle.proof_flights.specs.Eighths.{freshly}
+use Rattle.proof_flights.specs.Flocks.{Flock, open-of, none-more, flock-of, of-flock, flock-busy, flock-add, flies-stay}
+use Rattle.proof_flights.specs.Flown.{Flown}
+use Rattle.proof_flights.specs.Idled.{Quiet, pending-quiet, quiet-kind, flown-as, flown-ended}
+use Rattle.proof_flights.specs.Written.{well-of, parity-none, flown-of}
+
+-- ---- positions filled with padding
+
+module _ (p : Params) (r : Ranged p) (v : View) (ws : List Pending) (i : ℕ) (hi : i < 8) where
+  -- the eighth's stripe is in no other one
+  abbrev Alone : State → Type 0
+  Alone su = (j : ℕ) → j < 8 → flies su j ≡ true → stripeIn su i ≡ stripeIn su j → j ≡ i
+
+  pad-one : (su : State) (fl : List ℕ) → Lists su → length fl ≡ inflightLen p → flies su i ≡ true → filledIn su i < dataCount p → Alone su → Flock p v su fl ws (flies su)
+      → Flock p v (addEntry su i paddingAddress 0 0) (placed p su fl i paddingAddress 0 0 (replicate (p .B) 0) .inflight) ws (flies (addEntry su i paddingAddress 0 0))
+  pad-one su fl ls l fi room al o =
+      let b : List ℕ = replicate (p .B) 0 in
+      let sw = addEntry su i paddingAddress 0 0 in
+      let fl′ = placed p su fl i paddingAddress 0 0 b .inflight in
+      let o₁ = flock-add p r v su ls fl l ws (flies su) i hi fi paddingAddress 0 0 b (length-replicate (p .B) 0) room (inl refl) al o in
+      flock-busy p v sw fl′ ws (flies su) (flies sw) (λ j hj. flies-stay su ls i hi fi paddingAddress 0 0 j)
+      (subst (λ (x : List Pending). Flock p v sw fl′ x (flies su)) (none-more ws (freshly p su i paddingAddress 0 b)) o₁)
+
+  pads : (x : ℕ) (su : State) (fl : List ℕ) → Lists su → length fl ≡ inflightLen p → flies su i ≡ true → filledIn su i + x ≤ dataCount p → Alone su → Flock p v su fl ws (flies su)
+      → Flock p v (padded p i x su fl .state) (padded p i x su fl .inflight) ws (flies (padded p i x su fl .state))
+  unfolding padded placed
+  pads zero su fl ls l fi h al o = o
+  pads (suc x) su fl ls l fi h al o =
+      let sw = addEntry su i paddingAddress 0 0 in
+      let room : filledIn su i < dataCount p = omega arith in
+      pads x sw (placed p su fl i paddingAddress 0 0 (replicate (p .B) 0) .inflight) (add-lists su ls i hi paddingAddress 0 0)
+      (placed-long p r su fl i paddingAddress 0 0 (replicate (p .B) 0) l hi room (length-replicate (p .B) 0)) (sym (flies-stay su ls i hi fi paddingAddress 0 0 i) ∙ fi)
+      (let e = add-filled su ls i hi paddingAddress 0 0 in omega arith)
+      (λ j hj q e. al j hj (flies-stay su ls i hi fi paddingAddress 0 0 j ∙ q) (sym (add-number su ls i hi paddingAddress 0 0 i) ∙ e ∙ add-number su ls i hi paddingAddress 0 0 j))
+      (pad-one su fl ls l fi room al o)
+
+  pads-missing : (x : ℕ) (su : State) (fl : List ℕ) → padded p i x su fl .state .missing ≡ su .missing
+  unfolding padded placed
+  pads-missing zero su fl = refl
+  pads-missing (suc x) su fl = pads-missing x (addEntry su i paddingAddress 0 0) (placed p su fl i paddingAddress 0 0 (replicate (p .B) 0) .inflight) ∙ same su
+    where
+      same : (su : State) → addEntry su i paddingAddress 0 0 .missing ≡ su .missing
+      same su = unfold addEntry in refl
+
+-- ---- the call
+
+module _ (p : Params) (k : Disk) (m : Memory) (u : Run p k m) (ws : List Pending) (old : List Segment) (f : Flown p k m ws old) (n : ℕ) where
+  abbrev v : View
+  v = seen p k
+
+  abbrev st : State
+  st = m .state
+
+  abbrev checks : List Check
+  checks = rule 1 (not (inRange p)) ∷ rule 2 (not (lentOk p k m)) ∷ rule 3 (not (eqb (st .missing) 0))
+      ∷ rule 5 (not (hasFilling p st) || (scarce p v 1 && not (isNil (idle p v st (victim p v (m .addresses))))))
+      ∷ zones (stateFaults p st ++ cond (scarce p v 1) (tableFaults p (m .addresses)) []) ∷ []
+
+  done : Passes checks → Flown p (storeAll (storeDisk p) (closePlan p m .stores) k) (closePlan p m .memory) (pendingAfter (close n) (closePlan p m .answer) ws) old
+  done (c1, (c2, (c3, (c5, (c9, c))))) =
+      let rg = ranged p (u .base .ranged) in
+      let we = well-of p k m u c3 in
+      let so = state-of p rg st (u .base .state-ok) in
+      let i = fillingSlot p st in
+      let (hi, fi, room) = filling-slot p st (not-false (hasFilling p st) (or-left (not (hasFilling p st)) (scarce p v 1 && not (isNil (idle p v st (victim p v (m .addresses))))) c5)) in
+      let x = dataCount p - filledIn st i in
+      let q = padded p i x st (m .inflight) in
+      let h = we .healthy in
+      let o = pads p rg v ws i hi x st (m .inflight) (h .lists) (buffer-long p k m u we) fi (omega arith)
+      (λ j hj fj e. let (z, op) = open-of p v st h i hi fi in h .opens-at z op .once j i hj hi fj fi (sym e))
+      (flock-of p v st (m .inflight) ws h so (f .flights (we .none-missing))) in
+      flown-as p k (mkMemory (q .state) (m .addresses) (m .compact) (q .inflight)) _ ws old _ _ stores-are memory-is
+      (ap (λ (y : Answer). pendingAfter (close n) y ws) answer-is ∙ pending-quiet (close n) (Closed (stripeIn st i)) ws (quiet-closed (stripeIn st i)))
+      (flown-of p k (mkMemory (q .state) (m .addresses) (m .compact) (q .inflight)) ws old v refl (pads-missing p rg v ws i hi x st (m .inflight) ∙ we .none-missing)
+      (of-flock p v (q .state) (q .inflight) ws o) (parity-none p k m ws old f (we .none-missing)))
+    where
+      stores-are : storeAll (storeDisk p) (closePlan p m .stores) k ≡ k
+      stores-are = unfold closePlan storeAll in refl
+
+      memory-is : closePlan p m .memory
+          ≡ mkMemory (padded p (fillingSlot p st) (dataCount p - filledIn st (fillingSlot p st)) st (m .inflight) .state) (m .addresses) (m .compact)
+          (padded p (fillingSlot p st) (dataCount p - filledIn st (fillingSlot p st)) st (m .inflight) .inflight)
+      memory-is = unfold closePlan in refl
+
+      answer-is : closePlan p m .answer ≡ Closed (stripeIn st (fillingSlot p st))
+      answer-is = unfold closePlan in refl
+
+      quiet-closed : (s : ℕ) → Quiet (Closed s)
+      quiet-closed s = quiet-kind (Closed s) 5 (unfold kind in refl) refl refl refl refl
+
+  pub flown-close : isCut (callDisk p k m (close n) .answer) ≡ false
+      → Flown p (callDisk p k m (close n) .drives) (callDisk p k m (close n) .memory) (pendingAfter (close n) (callDisk p k m (close n) .answer) ws) old
+  unfolding callDisk callOn verdict storeCount lentBlock closeVerdict closeChecks
+  flown-close nc = flown-ended p k m ws old f (close n) checks (closePlan p m) _ done nc (ended p k m checks (closePlan p m) n [])

@@ -1,0 +1,157 @@
+-- Writes: the stripes in flight after one, whatever it answers. Assumes nothing.
+use mathlib.Core.Path.{_≡_, refl, sym, ap, _∙_, subst}
+use mathlib.Core.List.{List, [], _∷_}
+use mathlib.Core.Bool.{false, cond, not, _||_}
+use mathlib.Core.Logic.{inr, ⊎-elim}
+use Prim.Native.Nat.{ℕ, suc, _^_, _<_}
+use native.Mathlib.Omega.{arith}
+use borrow.Author.Tests.{leb-false, eqb-true, eqb-false, not-false}
+use lib.Dec.{leb, eqb}
+use lib.ListN.{length}
+use Rattle.defs.specs.declared.Params.{Params}
+use Rattle.defs.specs.declared.State.{State}
+use Rattle.defs.specs.declared.Answer.{Answer}
+use Rattle.defs.specs.declared.Answer.the-variants.{Sent}
+use Rattle.defs.specs.Answers.{kind, values, isCut, finished}
+use Rattle.defs.specs.Calls.{Check}
+use Rattle.defs.specs.Calls.Check.{rule, zones}
+use Rattle.defs.specs.Counts.{lastCount, aStamp}
+use Rattle.defs.specs.Drives.{View, chunkAt, Store, storeView, Disk, storeDisk, storeAll, zoneOn, emptyZones}
+use Rattle.defs.specs.Lists.{isNil}
+use Rattle.defs.specs.Engine.{storeCount, lentBlock, verdict, lentOk, callOn, callDisk}
+use Rattle.defs.specs.Engine.Call.{write}
+use Rattle.defs.specs.History.{endsRun}
+use Rattle.defs.specs.Memory.{Memory, mkMemory, openSegment, stateFaults, setStamp}
+use Rattle.defs.specs.Params.{inRange}
+use Rattle.defs.specs.Segments.{Segment}
+use Rattle.defs.specs.Write.{opens, noStamp, noSerial, mustWait, scarce, Sending, sending, writeChecks, writePlan, writeVerdict}
+use Rattle.laws.specs.Geometry.{Ranged, ranged}
+use Rattle.runs.specs.Cells.{stamp-same}
+use Rattle.spec_demands.specs.Layouts.{ParityMade}
+use Rattle.spec_demands.specs.Tables.{Pending, pendingBy, stillPending, pendingAfter}
+use Rattle.tablesay.specs.Checks.{Passes}
+use Rattle.tablesay.specs.Going.{address-small, buffer-long}
+use Rattle.tablesay.specs.Idle.{StateOk, state-of, whole-of}
+use Rattle.tablesay.specs.Losing.{named-some}
+use Rattle.tablesay.specs.Members.{In}
+use Rattle.tablesay.specs.Outcomes.{ended}
+use Rattle.tablesay.specs.Range.{capacity-word}
+use Rattle.tablesay.specs.Run.{Healthy, Well, Run}
+use Rattle.tablesay.specs.Sending.{sends}
+use Rattle.tablesay.specs.Tests.{clash, or-left, or-right}
+use Rattle.tablesay.specs.Zones.{Within, Roomy, all-fit}
+use Rattle.views.specs.Views.{seen, view-stores}
+use Rattle.proof_flights.specs.Eighths.{plus}
+use Rattle.proof_flights.specs.Flocks.{flock-of, of-flock, flock-same}
+use Rattle.proof_flights.specs.Flown.{Flights, Flown}
+use Rattle.proof_flights.specs.Idled.{flown-as, flown-ended}
+use Rattle.proof_flights.specs.Sent.{some-empty, leaves-sent}
+
+-- ---- what every call that stores shares
+
+-- a call that went on while the third check stood: no drive is missing
+pub well-of : (p : Params) (k : Disk) (m : Memory) → Run p k m → not (eqb (m .state .missing) 0) ≡ false → Well p k m
+well-of p k m u q = ⊎-elim
+    (λ lo. clash (not-false (eqb (m .state .missing) 0) q) (ap (λ (x : ℕ). eqb x 0) (lo .names-it) ∙ named-some p (ranged p (u .base .ranged)) (lo .which) (lo .which-low)))
+    (λ we. we) (u .mode)
+
+-- the view after stores that have room
+pub seen-after : (p : Params) (k : Disk) (m : Memory) → Run p k m → (ss : List Store) → Roomy p (seen p k) ss → ((s : Store) → In s ss → Within p s)
+    → seen p (storeAll (storeDisk p) ss k) ≡ storeAll storeView ss (seen p k)
+seen-after p k m u ss ro wi =
+    let rg = ranged p (u .base .ranged) in
+    view-stores p k ss (capacity-word p rg) (whole-of p k m (u .base .lent)) (all-fit p (seen p k) ss (u .base .shaped .sized) wi ro)
+
+pub parity-none : (p : Params) (k : Disk) (m : Memory) (ws : List Pending) (old : List Segment) → Flown p k m ws old → m .state .missing ≡ 0 → ParityMade p (seen p k) 0 old
+parity-none p k m ws old f e = subst (λ (x : ℕ). ParityMade p (seen p k) x old) e (f .parities)
+
+pub flown-of : (p : Params) (k : Disk) (m : Memory) (ws : List Pending) (old : List Segment) (u : View) → seen p k ≡ u → m .state .missing ≡ 0
+    → Flights p u (m .state) (m .inflight) ws → ParityMade p u 0 old → Flown p k m ws old
+flown-of p k m ws old u ev em f pm = record {
+  flights = λ q. subst (λ (x : View). Flights p x (m .state) (m .inflight) ws) (sym ev) f;
+  parities = subst (λ (x : View). ParityMade p x (m .state .missing) old) (sym ev) (subst (λ (x : ℕ). ParityMade p u x old) (sym em) pm);
+  all-found = λ n. absurd (n em);
+}
+
+-- ---- another stamp
+
+flights-stamp : (p : Params) → Ranged p → (v : View) (st : State) (fl : List ℕ) (ws : List Pending) (t : ℕ) → Healthy p v st → StateOk p st → Flights p v st fl ws → Flights p v (setStamp st t) fl ws
+flights-stamp p r v st fl ws t h so f =
+    of-flock p v (setStamp st t) fl ws (flock-same p r v v st (setStamp st t) fl ws (λ j. stamp-same st t j) (λ j d b hj fj hd. same-open d b) (flock-of p v st fl ws h so f))
+  where
+    same-open : (d b : ℕ) → chunkAt v d (zoneOn (openSegment (setStamp st t)) d) b ≡ chunkAt v d (zoneOn (openSegment st) d) b
+    same-open d b = unfold setStamp openSegment in refl
+
+-- ---- write
+
+module _ (p : Params) (k : Disk) (m : Memory) (u : Run p k m) (ws : List Pending) (old : List Segment) (f : Flown p k m ws old) where
+  abbrev v : View
+  v = seen p k
+
+  abbrev st : State
+  st = m .state
+
+  module _ (a : ℕ) (b : List ℕ) (n : ℕ) where
+    abbrev checks : List Check
+    checks = rule 1 (not (inRange p)) ∷ rule 2 (not (lentOk p k m) || not (eqb (length b) (p .B))) ∷ rule 3 (not (eqb (st .missing) 0)) ∷ rule 4 (leb (p .L) a)
+        ∷ rule 6 (noStamp st || noSerial p st) ∷ rule 7 (mustWait p st) ∷ rule 8 (scarce p v (cond (opens p st) 2 1)) ∷ zones (stateFaults p st) ∷ []
+
+    abbrev t : ℕ
+    t = suc (m .state .stamp .0)
+
+    abbrev q : Sending
+    q = sending p (seen p k) (m .state) (m .inflight) a (suc (m .state .stamp .0)) 1 b
+
+    abbrev m′ : Memory
+    m′ = mkMemory (setStamp (q .state) t) (m .addresses) (m .compact) (q .inflight)
+
+    abbrev k′ : Disk
+    k′ = storeAll (storeDisk p) (q .stores) k
+
+    abbrev v′ : View
+    v′ = storeAll storeView (q .stores) v
+
+    done : Passes checks → Flown p (storeAll (storeDisk p) (writePlan p v m a b .stores) k) (writePlan p v m a b .memory) (pendingAfter (write a b n) (writePlan p v m a b .answer) ws) old
+    done (c1, (c2, (c3, (c4, (c6, (c7, (c8, (c9, c)))))))) =
+        let rg = ranged p (u .base .ranged) in
+        let we = well-of p k m u c3 in
+        let so = state-of p rg st (u .base .state-ok) in
+        let lb : length b ≡ p .B = eqb-true (length b) (p .B) (not-false (eqb (length b) (p .B)) (or-right (not (lentOk p k m)) (not (eqb (length b) (p .B))) c2)) in
+        let ha : a < 256 ^ 8 = address-small p (u .base .ranged) a (leb-false (p .L) a c4) in
+        let ht : t < 256 ^ 8 = (let nl = eqb-false (st .stamp .0) lastCount (stamp-left (or-left (noStamp st) (noSerial p st) c6)) in let g = we .healthy .stamp-fits in omega arith) in
+        let ns = or-right (noStamp st) (noSerial p st) c6 in
+        let fl = m .inflight in
+        let bu = buffer-long p k m u we in
+        let ne : isNil (emptyZones p v) ≡ false = some-empty p v (cond (opens p st) 2 1) c8 in
+        let sh = u .base .shaped in
+        let h = we .healthy in
+        let no = we .none-missing in
+        let s = sends p rg v sh st h so fl bu a t 1 b ha ht (omega arith) lb c7 ns (λ x. ne) in
+        let le = leaves-sent p rg v sh st h so fl bu ws old (f .flights no) (parity-none p k m ws old f no) a t 1 b (inr refl) lb c7 ns (λ x. ne) in
+        flown-as p k′ m′ _ _ old _ _ (ap (λ (l : List Store). storeAll (storeDisk p) l k) stores-is) memory-is
+        (ap (λ (x : Answer). pendingAfter (write a b n) x ws) answer-is ∙ pending-sent (q .stripe) (q .drive))
+        (flown-of p k′ m′ _ old v′ (seen-after p k m u (q .stores) (s .has-room) (s .all-within)) (missing-same (q .state) ∙ s .missing-after ∙ no)
+        (flights-stamp p rg v′ (q .state) (q .inflight) _ t (s .healthy-after) (s .state-after) (le .0)) (le .1))
+      where
+        stamp-left : noStamp st ≡ false → eqb (st .stamp .0) lastCount ≡ false
+        stamp-left q = unfold noStamp in q
+
+        stores-is : writePlan p v m a b .stores ≡ q .stores
+        stores-is = unfold writePlan in refl
+
+        memory-is : writePlan p v m a b .memory ≡ m′
+        memory-is = unfold writePlan in refl
+
+        answer-is : writePlan p v m a b .answer ≡ Sent (aStamp t) (q .stripe) (q .drive)
+        answer-is = unfold writePlan in refl
+
+        pending-sent : (s d : ℕ) → pendingAfter (write a b n) (Sent (aStamp t) s d) ws ≡ plus ws 1 (record { stripe = s; drive = d; address = a; stamp = t; block = b })
+        pending-sent s d = unfold pendingAfter endsRun isCut finished kind stillPending pendingBy values in refl
+
+        missing-same : (s : State) → setStamp s t .missing ≡ s .missing
+        missing-same s = unfold setStamp in refl
+
+    pub flown-write : isCut (callDisk p k m (write a b n) .answer) ≡ false
+        → Flown p (callDisk p k m (write a b n) .drives) (callDisk p k m (write a b n) .memory) (pendingAfter (write a b n) (callDisk p k m (write a b n) .answer) ws) old
+    unfolding callDisk callOn verdict storeCount lentBlock writeVerdict writeChecks
+    flown-write nc = flown-ended p k m ws old f (write a b n) checks (writePlan p v m a b) _ done nc (ended p k m checks (writePlan p v m a b) n b)
