@@ -2,18 +2,18 @@
 use mathlib.Core.Path.{_≡_, refl, sym, ap, _∙_, subst, ap₂}
 use mathlib.Core.List.{List, [], _∷_, _++_, map, append-nil}
 use mathlib.Core.Bool.{true, false, cond, not, _&&_, Bool}
-use mathlib.Core.Logic.{inl, inr, ⊎-elim}
-use Prim.Native.Nat.{ℕ, zero, suc, _+_, _-_, _≤_, _<_}
+use mathlib.Core.Logic.{inl, inr}
+use Prim.Native.Nat.{ℕ, zero, suc, _+_, _-_, _<_}
 use native.Mathlib.Omega.{arith}
-use borrow.Author.Tests.{lt-ltb, eq-eqb, ne-eqb, eqb-true, leb-true, not-false}
-use lib.Dec.{leb, ltb, eqb}
+use borrow.Author.Tests.{lt-ltb, eq-eqb, eqb-true, leb-true, not-false}
+use lib.Dec.{ltb, eqb}
 use lib.ListN.{length, length-map, getD}
 use Rattle.defs.specs.declared.Params.{Params}
 use Rattle.defs.specs.declared.State.{State}
 use Rattle.defs.specs.declared.Answer.{Answer}
 use Rattle.defs.specs.declared.Answer.the-variants.{Landed, Cut}
 use Rattle.defs.specs.Answers.{kind, values, isRefused, isCut, finished}
-use Rattle.defs.specs.Calls.{Plan, After}
+use Rattle.defs.specs.Calls.{Plan}
 use Rattle.defs.specs.Drives.{View, pointerAt, Store, storeView, Disk, storeDisk, storeAll, zoneOn, sealedIn}
 use Rattle.defs.specs.Drives.Store.{put}
 use Rattle.defs.specs.Engine.Call.{land}
@@ -23,13 +23,12 @@ use Rattle.defs.specs.Landing.{slotOf, waiting, completes, seals, flightRec, la
 use Rattle.defs.specs.Layout.{recordBytes, dataDrive, Rec}
 use Rattle.defs.specs.Lists.{below, keep, tally}
 use Rattle.defs.specs.Memory.{Memory, filledIn, isWrite, openSegment, isFree, inFlight, setClosed, markLanded, freeStripe, slotBlock, stripeIn, entryIn}
-use Rattle.defs.specs.Params.{named}
 use Rattle.defs.specs.Segments.{Segment, segmentOf, counts}
 use Rattle.laws.specs.Geometry.{Ranged, ranged, position-drive, drive-is-data}
 use Rattle.laws.specs.Ranges.{Test, test, and-left, and-right}
 use Rattle.laws.specs.Ranges.Test.{yes!, no! }
 use Rattle.laws.specs.Stores.{storeAll-append}
-use Rattle.views.specs.Views.{seen, view-stores}
+use Rattle.views.specs.Views.{seen}
 use Rattle.spec_demands.specs.Layouts.{ParityMade}
 use Rattle.spec_demands.specs.Tables.{Pending, pendingBy, stillPending, pendingAfter, noPending, pendingIn, openIn, landingStores, Lands}
 use Rattle.spec_demands.specs.Engines.{onValues, callWorld, viewIn}
@@ -37,55 +36,27 @@ use Rattle.tablesay.specs.Checks.{Passes}
 use Rattle.tablesay.specs.Chunks.{chunk-roomy, chunk-tidy, chunk-open, chunk-healthy, all-behind, none-left, open-after, uncounted-yet, counts-now}
 use Rattle.tablesay.specs.Filling.{block-long! }
 use Rattle.tablesay.specs.Going.{buffer-long}
-use Rattle.tablesay.specs.Idle.{StateOk, state-of, whole-of}
+use Rattle.tablesay.specs.Idle.{StateOk, state-of}
 use Rattle.tablesay.specs.Joins.{roomy-append, within-append}
 use Rattle.tablesay.specs.Landings.{Waits, waits}
-use Rattle.tablesay.specs.Losing.{named-some}
 use Rattle.tablesay.specs.Members.{In, in-keep, map-in, in-getD}
-use Rattle.tablesay.specs.Outcomes.{Ended, ended, refusal-kind, cut-cut}
+use Rattle.tablesay.specs.Outcomes.{Ended, ended, refusal-kind}
 use Rattle.tablesay.specs.Outcomes.Ended.{ended-refused, ended-done, ended-cut}
-use Rattle.tablesay.specs.Range.{capacity-word}
 use Rattle.tablesay.specs.Run.{flies, Healthy, Well, Run}
 use Rattle.tablesay.specs.Sealing.{seal-roomy, seal-within, seal-sealed}
 use Rattle.tablesay.specs.Tests.{clash, not-so, cond-true, cond-false}
-use Rattle.tablesay.specs.Zones.{Shaped, Within, Roomy, all-fit, shaped-after}
+use Rattle.tablesay.specs.Zones.{Shaped, Within, Roomy, shaped-after}
 use Rattle.proof_flights.specs.Flown.{sentOf, Flights, Flown}
+use Rattle.proof_flights.specs.Idled.{flown-ended}
+use Rattle.proof_flights.specs.Written.{well-of, seen-after, parity-none, flown-of}
 use Rattle.proof_flights.specs.LandedChunk.{flies1, stripe1, chunk-flights, chunk-parities, flight-data, flight-stripe}
 use Rattle.proof_flights.specs.LandedFree.{elsewhere, elsewhere-all, free-flights, seal-parities, seal-counts}
-
--- ---- with none missing
-
--- what Flown asks of a view and a state
-pub flown-well : (p : Params) (k : Disk) (m : Memory) (u : View) (ws : List Pending) (old : List Segment) → seen p k ≡ u → m .state .missing ≡ 0
-    → Flights p u (m .state) (m .inflight) ws → ParityMade p u 0 old → Flown p k m ws old
-flown-well p k m u ws old e g f pm = record {
-  flights = λ x. subst (λ (y : View). Flights p y (m .state) (m .inflight) ws) (sym e) f;
-  parities = λ gs. subst (λ (y : View). ParityMade p y (m .state .missing) old) (sym e) (subst (λ (n : ℕ). ParityMade p u n old) (sym g) pm) gs;
-  all-found = λ n. absurd (n g);
-}
-
--- a run with none missing
-pub well-of : (p : Params) (k : Disk) (m : Memory) → Run p k m → m .state .missing ≡ 0 → Well p k m
-well-of p k m u e = ⊎-elim (λ l. clash (eq-eqb (named (l .which)) 0 (sym (l .names-it) ∙ e)) (named-some p (ranged p (u .base .ranged)) (l .which) (l .which-low))) (λ w. w) (u .mode)
 
 -- ---- the writes that wait after an answer
 
 pub after-landed : (d s n x : ℕ) (ws : List Pending) → pendingAfter (land d s n) (Landed x) ws ≡ cond (ltb 0 x) (elsewhere s ws) ws
 unfolding pendingAfter endsRun isCut finished kind stillPending pendingBy values elsewhere
 after-landed d s n x ws = append-nil (cond (ltb 0 x) (keep (λ (w : Pending). not (eqb (w .stripe) s)) ws) ws)
-
--- a refused landing leaves them
-pub after-refused : (d s n : ℕ) (a : Answer) (ws : List Pending) → isRefused a ≡ true → pendingAfter (land d s n) a ws ≡ ws
-after-refused d s n a ws q = go (leb-true (kind a) 1 (as! q))
-  where
-    as! : isRefused a ≡ true → leb (kind a) 1 ≡ true
-    as! x = unfold isRefused in x
-
-    kind-not : (x : ℕ) → kind a ≤ 1 → 1 < x → eqb (kind a) x ≡ false
-    kind-not x l h = ne-eqb (kind a) x (λ e. let bad : ⊥ = omega arith in bad)
-
-    go : kind a ≤ 1 → pendingAfter (land d s n) a ws ≡ ws
-    go l = unfold pendingAfter endsRun isCut finished stillPending pendingBy in rw (kind-not 2 l (omega arith), kind-not 12 l (omega arith), kind-not 4 l (omega arith)) (append-nil ws)
 
 module _ (p : Params) (k : Disk) (m : Memory) (u : Run p k m) (d s : ℕ) where
   abbrev v : View
@@ -121,7 +92,7 @@ module _ (p : Params) (k : Disk) (m : Memory) (u : Run p k m) (d s : ℕ) where
 
   module _ (none : st .missing ≡ 0) (wt : waiting p st d s ≡ true) where
     we : Well p k m
-    we = well-of p k m u none
+    we = well-of p k m u (ap (λ (x : ℕ). not (eqb x 0)) none)
 
     rg : Ranged p
     rg = ranged p (u .base .ranged)
@@ -186,9 +157,6 @@ module _ (p : Params) (k : Disk) (m : Memory) (u : Run p k m) (d s : ℕ) where
     one-store : storeAll storeView (store ∷ []) v ≡ v1
     one-store = unfold storeAll in refl
 
-    view-is : (ss : List Store) → Roomy p v ss → ((x : Store) → In x ss → Within p x) → seen p (storeAll (storeDisk p) ss k) ≡ storeAll storeView ss v
-    view-is ss ro wi = view-stores p k ss (capacity-word p rg) (whole-of p k m (u .base .lent)) (all-fit p v ss (sh .sized) wi ro)
-
     stores-open : seals p st i d ≡ false → plan .stores ≡ store ∷ []
     stores-open q = unfold landPlan landStore zoneOn in rw q
 
@@ -196,7 +164,7 @@ module _ (p : Params) (k : Disk) (m : Memory) (u : Run p k m) (d s : ℕ) where
     stores-sealed q = unfold landPlan landStore zoneOn in rw q
 
     pub view-open : seals p st i d ≡ false → seen p (storeAll (storeDisk p) (plan .stores) k) ≡ v1
-    view-open q = ap (λ (ss : List Store). seen p (storeAll (storeDisk p) ss k)) (stores-open q) ∙ view-is (store ∷ []) roomy1 within1 ∙ one-store
+    view-open q = ap (λ (ss : List Store). seen p (storeAll (storeDisk p) ss k)) (stores-open q) ∙ seen-after p k m u (store ∷ []) roomy1 within1 ∙ one-store
 
     sh1 : Shaped p v1
     sh1 = subst (λ (x : View). Shaped p x) one-store (shaped-after p v (store ∷ []) sh roomy1)
@@ -215,7 +183,7 @@ module _ (p : Params) (k : Disk) (m : Memory) (u : Run p k m) (d s : ℕ) where
     pub view-sealed : seals p st i d ≡ true → seen p (storeAll (storeDisk p) (plan .stores) k) ≡ v2
     view-sealed q =
         ap (λ (ss : List Store). seen p (storeAll (storeDisk p) ss k)) (stores-sealed q)
-        ∙ view-is ((store ∷ []) ++ sealStores p v1 z)
+        ∙ seen-after p k m u ((store ∷ []) ++ sealStores p v1 z)
         (roomy-append p v (store ∷ []) (sealStores p v1 z) (sh .sized) roomy1 (subst (λ (x : View). Roomy p x (sealStores p v1 z)) (sym one-store) (seal-roomy p rg v1 sh1 z hz (behind q))))
         (within-append p (store ∷ []) (sealStores p v1 z) within1 (seal-within p rg v1 sh1 z hz (behind q)))
         ∙ storeAll-append storeView (store ∷ []) (sealStores p v1 z) v ∙ ap (storeAll storeView (sealStores p v1 z)) one-store
@@ -242,7 +210,7 @@ module _ (p : Params) (k : Disk) (m : Memory) (u : Run p k m) (d s : ℕ) where
       F = f .flights none
 
       pm : ParityMade p v 0 old
-      pm = λ g t. subst (λ (n : ℕ). ParityMade p v n old) none (f .parities) g t
+      pm = parity-none p k m ws old f none
 
       pm1 : ParityMade p v1 0 old
       pm1 = λ g t. chunk-parities p rg v sh st he so oz d i hd hi fi (w .slot-ready) fl lb ws F old pm g t
@@ -300,7 +268,7 @@ module _ (p : Params) (k : Disk) (m : Memory) (u : Run p k m) (d s : ℕ) where
           make : (x : View) (su : State) (qs : List Pending) → seen p (storeAll (storeDisk p) (plan .stores) k) ≡ x → plan .memory .state ≡ su → su .missing ≡ st .missing
               → Flights p x su fl qs → ParityMade p x 0 old → left ≡ qs → Flown p (storeAll (storeDisk p) (plan .stores) k) (plan .memory) left old
           make x su qs ev es mi fq pq eq =
-              flown-well p (storeAll (storeDisk p) (plan .stores) k) (plan .memory) x left old ev (missing-is su es mi)
+              flown-of p (storeAll (storeDisk p) (plan .stores) k) (plan .memory) left old x ev (missing-is su es mi)
               (subst (λ (y : List Pending). Flights p x (plan .memory .state) (plan .memory .inflight) y) (sym eq)
               (subst (λ (y : List ℕ). Flights p x (plan .memory .state) y qs) (sym inflight-is) (subst (λ (y : State). Flights p x y fl qs) (sym es) fq))) pq
 
@@ -433,27 +401,14 @@ module _ (p : Params) (k : Disk) (m : Memory) (u : Run p k m) (d s : ℕ) where
 pub flown-land : (p : Params) (k : Disk) (m : Memory) (ws : List Pending) (old : List Segment) (d s n : ℕ) → Run p k m → Flown p k m ws old
     → isCut (callDisk p k m (land d s n) .answer) ≡ false
     → Flown p (callDisk p k m (land d s n) .drives) (callDisk p k m (land d s n) .memory) (pendingAfter (land d s n) (callDisk p k m (land d s n) .answer) ws) old
-flown-land p k m ws old d s n u f nc = go (land-ends p k m u d s n)
-  where
-    r : After Disk
-    r = callDisk p k m (land d s n)
-
-    move : (a : Answer) (x : Disk) (y : Memory) (qs : List Pending) → r .answer ≡ a → r .drives ≡ x → r .memory ≡ y → pendingAfter (land d s n) a ws ≡ qs → Flown p x y qs old
-        → Flown p (r .drives) (r .memory) (pendingAfter (land d s n) (r .answer) ws) old
-    move a x y qs ea ex ey eq g =
-        subst (λ (b : Answer). Flown p (r .drives) (r .memory) (pendingAfter (land d s n) b ws) old) (sym ea)
-        (subst (λ (l : List Pending). Flown p (r .drives) (r .memory) l old) (sym eq)
-        (subst (λ (h : Disk). Flown p h (r .memory) qs old) (sym ex) (subst (λ (h : Memory). Flown p x h qs old) (sym ey) g)))
-
-    go : Ended p k m (landChecks p (lentOk p k m) (seen p k) m d s) (landPlan p (seen p k) m d s) (callDisk p k m (land d s n))
-        → Flown p (callDisk p k m (land d s n) .drives) (callDisk p k m (land d s n) .memory) (pendingAfter (land d s n) (callDisk p k m (land d s n) .answer) ws) old
-    go (ended-refused a e ea ex ey) = move a k m ws ea ex ey (after-refused d s n a ws (refusal-kind (landChecks p (lentOk p k m) (seen p k) m d s) a e)) f
-    go (ended-done c ea ex ey) =
-        let z0 = passed-none p k m u d s c in
-        let wt = passed-waits p k m u d s c in
-        move (landPlan p (seen p k) m d s .answer) (storeAll (storeDisk p) (landPlan p (seen p k) m d s .stores) k) (landPlan p (seen p k) m d s .memory)
-        (cond (completes p (m .state) (slotOf (m .state) s) d) (elsewhere s ws) ws) ea ex ey (pending-plan p k m u d s z0 wt ws old f n) (flown-plan p k m u d s z0 wt ws old f)
-    go (ended-cut c ea) = clash (ap isCut ea ∙ cut-cut) nc
+flown-land p k m ws old d s n u f nc =
+    let v = seen p k in
+    let q = landPlan p v m d s in
+    flown-ended p k m ws old f (land d s n) (landChecks p (lentOk p k m) v m d s) q (callDisk p k m (land d s n)) (λ c.
+    let z0 = passed-none p k m u d s c in
+    let wt = passed-waits p k m u d s c in
+    subst (λ (l : List Pending). Flown p (storeAll (storeDisk p) (q .stores) k) (q .memory) l old) (sym (pending-plan p k m u d s z0 wt ws old f n)) (flown-plan p k m u d s z0 wt ws old f))
+    nc (land-ends p k m u d s n)
 
 -- ---- what its answer says
 

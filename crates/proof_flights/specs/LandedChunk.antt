@@ -43,7 +43,8 @@ use Rattle.tablesay.specs.Slots.{mark-landed-other, mark-offset, mark-offset-ot
 use Rattle.tablesay.specs.Tests.{or-true-left, cond-true, cond-false, eqb-self}
 use Rattle.tablesay.specs.Zones.{Shaped}
 use Rattle.proof_flights.specs.Flown.{sentOf, Flights}
-use Rattle.proof_flights.specs.LandedPieces.{piece-is, Extends, extends-piece, extends-back, Made, data-drives-in, parity-grows}
+use Rattle.proof_flights.specs.LandedPieces.{piece-parts, Extends, extends-piece, extends-back, data-drives-in, parity-grows}
+use Rattle.proof_flights.specs.Pieces.{ParityAt}
 
 -- ---- one block stored
 
@@ -302,7 +303,7 @@ module _ (p : Params) (r : Ranged p) (v : View) (sh : Shaped p v) (st : State) (
 
     -- ---- the parity of the stripe that is complete
 
-    made-now : completes p st i d ≡ true → Made p seg1 s
+    made-now : completes p st i d ≡ true → ParityAt p seg1 s
     made-now q =
         piece (parityDrive p s) (parity-drive-lt p s (omega (arith, r .drives-low)))
         ∙ ap₂ mkPiece (F .parity-ready i hi fi full!) (flight-parity p st i (parityDrive p s) no-data)
@@ -345,7 +346,7 @@ module _ (p : Params) (r : Ranged p) (v : View) (sh : Shaped p v) (st : State) (
             let on = all-landed p r v sh st h so z oz d i hd hi fi rd b lb q e he in
             let (c, (eo, er)) = landed-chunk p r v sh st h so z oz d i hd hi fi rd b lb e he on in
             let ch = landed! i e hi fi he on in
-            piece-is p v1 0 z s e he
+            piece-parts p v1 0 z s e he
             ∙ ap₂ mkPiece (ap (λ (n : ℕ). getD (zoneAt v1 e z .blocks) (1 + n) noChunk .block) eo ∙ ap (λ (y : Chunk). y .block) ch)
             (er ∙ spare! e (offsetIn st1 i e) ∙ ap (λ (y : Chunk). recordOf (y .spare)) ch ∙ flight-back p r v st z i f0 filled s-low e he)
 
@@ -412,9 +413,9 @@ module _ (p : Params) (r : Ranged p) (v : View) (sh : Shaped p v) (st : State) (
         (λ t ht c. go t c (ℕ-discrete t s) (test (completes p st i d)))
       where
         go : (t : ℕ) → counts p 0 seg1 t ≡ true → Dec (t ≡ s) → Test (completes p st i d)
-            → ((counts p 0 seg0 t ≡ true) × ((e : ℕ) → e < p .N → storedPiece seg0 t e ≡ storedPiece seg1 t e)) ⊎ Made p seg1 t
+            → ((counts p 0 seg0 t ≡ true) × ((e : ℕ) → e < p .N → storedPiece seg0 t e ≡ storedPiece seg1 t e)) ⊎ ParityAt p seg1 t
         go t c (yes e) (no! q) = absurd (uncounted-yet p r v sh st h so z oz d i hd hi fi rd b lb q (subst (λ (x : ℕ). counts p 0 seg1 x ≡ true) e c))
-        go t c (yes e) (yes! q) = inr (subst (λ (x : ℕ). Made p seg1 x) (sym e) (made-now q))
+        go t c (yes e) (yes! q) = inr (subst (λ (x : ℕ). ParityAt p seg1 x) (sym e) (made-now q))
         go t c (no n) y = inl (
           as! (in-all (hasChunk seg0 t) (present p 0) (λ e m. had e (present-in p 0 e m .0))),
           λ e he. extends-piece p 0 v v1 z e he (isIn-empty e) (chunk-extends e he) t (had e he),

@@ -1,13 +1,12 @@
 -- The calls restart and rebuild: after a restart nothing flies, and the stripes are those found or moved; a rebuild stores on the missing drive alone. Assumes nothing.
 use mathlib.Core.Path.{_≡_, refl, sym, ap, _∙_, subst}
-use mathlib.Core.List.{List, [], _++_, append-nil}
+use mathlib.Core.List.{List, [], _++_}
 use mathlib.Core.Bool.{true, false, not, _&&_, _||_}
 use Prim.Native.Nat.{ℕ, _<_}
 use native.Mathlib.Omega.{arith}
 use borrow.Author.Tests.{eqb-true, eqb-false, ltb-true, not-false}
 use lib.Dec.{ltb, eqb}
 use Rattle.defs.specs.declared.Params.{Params}
-use Rattle.defs.specs.declared.Answer.{Answer}
 use Rattle.defs.specs.declared.Answer.the-variants.{Rebuilt}
 use Rattle.defs.specs.Answers.{kind, isRefused, isCut, finished}
 use Rattle.defs.specs.Calls.{Plan, mkPlan, After}
@@ -47,10 +46,11 @@ use Rattle.tablesay.specs.Segs.{remaining-low}
 use Rattle.tablesay.specs.Slots.{none-flies}
 use Rattle.tablesay.specs.Starting.{memory-missing, startChecks, startPlan, Begins, begins}
 use Rattle.tablesay.specs.Tables.{zero-at}
-use Rattle.tablesay.specs.Tests.{clash, or-right, or-neither, or-true-right, cond-true, cond-false}
+use Rattle.tablesay.specs.Tests.{clash, or-right, or-true-right, cond-true, cond-false}
 use Rattle.tablesay.specs.Zones.{Shaped, all-fit}
 use Rattle.proof_flights.specs.Flown.{Flights, Found, Flown}
-use Rattle.proof_flights.specs.LandedCall.{flown-well}
+use Rattle.proof_flights.specs.Idled.{quiet-refused, flown-still, flown-ended}
+use Rattle.proof_flights.specs.Written.{seen-after, flown-of}
 use Rattle.proof_flights.specs.RestartedViews.{found-in, settles-parities, settles-mended}
 
 -- ---- a drive is missing
@@ -63,14 +63,6 @@ flown-found p k m ws old n f = record {
   parities = λ g s rm hs c q. clash (f g s rm hs c) q;
   all-found = λ x g s rm hs c. f g s rm hs c;
 }
-
--- a call that leaves all as it was
-pub flown-same : (p : Params) (k : Disk) (m : Memory) (ws qs : List Pending) (old os : List Segment) (r : After Disk) → r .drives ≡ k → r .memory ≡ m → qs ≡ ws → os ≡ old
-    → Flown p k m ws old → Flown p (r .drives) (r .memory) qs os
-flown-same p k m ws qs old os r ek em eq eo f =
-    subst (λ (x : Disk). Flown p x (r .memory) qs os) (sym ek)
-    (subst (λ (x : Memory). Flown p k x qs os) (sym em)
-    (subst (λ (x : List Pending). Flown p k m x os) (sym eq) (subst (λ (x : List Segment). Flown p k m ws x) (sym eo) f)))
 
 -- ---- restart
 
@@ -159,7 +151,7 @@ module _ (p : Params) (k : Disk) (m : Memory) (d : ℕ) (shk : Whole p k → Sha
       (roomy-append p v ds ts (sh .sized) (drop-roomy p rg v sh acc) (md .mend-roomy)))
       ∙ storeAll-append storeView ds ts v in
       subst (λ (x : ℕ). Flown p (storeAll (storeDisk p) (plan .stores) k) (plan .memory) [] (segments p v x)) (sym nd)
-      (flown-well p (storeAll (storeDisk p) (plan .stores) k) (plan .memory) u [] gs ev (plan-missing ∙ nd)
+      (flown-of p (storeAll (storeDisk p) (plan .stores) k) (plan .memory) [] gs u ev (plan-missing ∙ nd)
       (subst (λ (x : Memory). Flights p u (x .state) (plan .memory .inflight) []) (sym plan-memory)
       (idle-flights p (storeAll storeView (plan .stores) v) u (named d) (m .inflight) (plan .memory .inflight)))
       (settles-parities p rg v sh acc u (md .mend-bound) (md .mend-tidy) (settles-mended p rg v sh acc c6 c8 bd)))
@@ -207,10 +199,6 @@ flown-restart-step p k m ws old d n sh f nc = go (restart-ends p k m d n) (test 
     found! : finished (r .answer) ≡ true → foundAfter p (seen p k) (restart d n) (r .answer) old ≡ segments p (seen p k) (named d)
     found! q = unfold foundAfter in cond-true (finished (r .answer)) (segments p (seen p k) (named d)) old q
 
-    stays! : finished (r .answer) ≡ false → pendingAfter (restart d n) (r .answer) ws ≡ ws
-    stays! q = unfold pendingAfter endsRun stillPending pendingBy in
-        (cond-false (isCut (r .answer) || finished (r .answer)) [] (ws ++ []) (or-neither (isCut (r .answer)) (finished (r .answer)) nc q) ∙ append-nil ws)
-
     old! : finished (r .answer) ≡ false → foundAfter p (seen p k) (restart d n) (r .answer) old ≡ old
     old! q = unfold foundAfter in cond-false (finished (r .answer)) (segments p (seen p k) (named d)) old q
 
@@ -220,7 +208,9 @@ flown-restart-step p k m ws old d n sh f nc = go (restart-ends p k m d n) (test 
     go x (yes! q) =
         subst (λ (l : List Pending). Flown p (r .drives) (r .memory) l (foundAfter p (seen p k) (restart d n) (r .answer) old)) (sym (ends! q))
         (subst (λ (l : List Segment). Flown p (r .drives) (r .memory) [] l) (sym (found! q)) (flown-restart p k m d n sh q))
-    go (ended-refused a e ea ek em) (no! q) = flown-same p k m ws (pendingAfter (restart d n) (r .answer) ws) old (foundAfter p (seen p k) (restart d n) (r .answer) old) r ek em (stays! q) (old! q) f
+    go (ended-refused a e ea ek em) (no! q) =
+        subst (λ (l : List Segment). Flown p (r .drives) (r .memory) (pendingAfter (restart d n) (r .answer) ws) l) (sym (old! q))
+        (flown-still p k m ws old f (restart d n) r ek em (quiet-refused (r .answer) (ap isRefused ea ∙ refusal-kind (startChecks p k m d) a e)))
     go (ended-done c ea ek em) (no! q) = clash (ap finished ea ∙ done!) q
       where
         done! : finished (startPlan p k m d .answer) ≡ true
@@ -276,8 +266,7 @@ module _ (p : Params) (k : Disk) (m : Memory) (u : Run p k m) (d : ℕ) where
       let sh = u .base .shaped in
       let lost = named-in p rg d hd in
       let ev : seen p (storeAll (storeDisk p) (plan′ .stores) k) ≡ v′ =
-      view-stores p k (plan′ .stores) (capacity-word p rg) (whole-of p k m (u .base .lent))
-      (all-fit p v (plan′ .stores) (sh .sized) (rebuild-within p rg v sh d hd lost) (rebuild-roomy p rg v sh d hd lost)) in
+      seen-after p k m u (plan′ .stores) (rebuild-roomy p rg v sh d hd lost) (rebuild-within p rg v sh d hd lost) in
       let ag : Agree p gone v v′ = subst (λ (y : ℕ). Agree p y v v′) (sym q) (rebuild-agrees p rg v sh d hd lost) in
       let low : In (lowDrive p gone) (present p gone) = subst (λ (y : ℕ). In (lowDrive p y) (present p y)) (sym q) (low-present p rg d hd) in
       let n : gone ≡ 0 → ⊥ = λ e. eqb-false (named d) 0 (named-some p rg d hd) (sym q ∙ e) in
@@ -288,23 +277,7 @@ module _ (p : Params) (k : Disk) (m : Memory) (u : Run p k m) (d : ℕ) where
 pub flown-rebuild : (p : Params) (k : Disk) (m : Memory) (ws : List Pending) (old : List Segment) (d n : ℕ) → Run p k m → Flown p k m ws old
     → isCut (callDisk p k m (rebuild d n) .answer) ≡ false
     → Flown p (callDisk p k m (rebuild d n) .drives) (callDisk p k m (rebuild d n) .memory) (pendingAfter (rebuild d n) (callDisk p k m (rebuild d n) .answer) ws) old
-flown-rebuild p k m ws old d n u f nc = go (rebuild-ends p k m u d n)
-  where
-    r : After Disk
-    r = callDisk p k m (rebuild d n)
-
-    stays! : (a : Answer) → r .answer ≡ a → isRefused a ≡ true → pendingAfter (rebuild d n) (r .answer) ws ≡ ws
-    stays! a e q = unfold pendingAfter endsRun stillPending pendingBy in
-        (cond-false (isCut (r .answer) || finished (r .answer)) [] (ws ++ []) (or-neither (isCut (r .answer)) (finished (r .answer)) nc (ap finished e ∙ refused-unfinished a q)) ∙ append-nil ws)
-
-    go : Ended p k m (rebuildChecks p (lentOk p k m) (seen p k) m d (segments p (seen p k) (named d))) (mkPlan (rebuildStores p d (segments p (seen p k) (named d))) Rebuilt m [])
-        (callDisk p k m (rebuild d n))
-        → Flown p (callDisk p k m (rebuild d n) .drives) (callDisk p k m (rebuild d n) .memory) (pendingAfter (rebuild d n) (callDisk p k m (rebuild d n) .answer) ws) old
-    go (ended-refused a e ea ek em) = flown-same p k m ws (pendingAfter (rebuild d n) (r .answer) ws) old old r ek em
-        (stays! a ea (refusal-kind (rebuildChecks p (lentOk p k m) (seen p k) m d (segments p (seen p k) (named d))) a e)) refl f
-    go (ended-done c ea ek em) =
-        let (hd, q) = names-it p k m u d c in
-        subst (λ (x : Disk). Flown p x (r .memory) (pendingAfter (rebuild d n) (r .answer) ws) old) (sym ek)
-        (subst (λ (x : Memory). Flown p (storeAll (storeDisk p) (rebuildStores p d (segments p (seen p k) (named d))) k) x (pendingAfter (rebuild d n) (r .answer) ws) old) (sym em)
-        (rebuilt-flown p k m u d hd q ws (pendingAfter (rebuild d n) (r .answer) ws) old f))
-    go (ended-cut c ea) = clash (ap isCut ea ∙ cut-cut) nc
+flown-rebuild p k m ws old d n u f nc =
+    let gs = segments p (seen p k) (named d) in
+    flown-ended p k m ws old f (rebuild d n) (rebuildChecks p (lentOk p k m) (seen p k) m d gs) (mkPlan (rebuildStores p d gs) Rebuilt m []) (callDisk p k m (rebuild d n))
+    (λ c. let (hd, q) = names-it p k m u d c in rebuilt-flown p k m u d hd q ws (pendingAfter (rebuild d n) Rebuilt ws) old f) nc (rebuild-ends p k m u d n)

@@ -37,7 +37,8 @@ use Rattle.tablesay.specs.Segs.{low-data, seg-is, chunk-at, offset-is, has-chun
 use Rattle.tablesay.specs.Tables.{remains}
 use Rattle.tablesay.specs.Tests.{clash, cond-true, cond-false, cond-same, eqb-self}
 use Rattle.tablesay.specs.Zones.{Shaped, hitsAt, zoneStore, hits, zone-after}
-use Rattle.proof_flights.specs.LandedPieces.{piece-is, Made}
+use Rattle.proof_flights.specs.LandedPieces.{piece-parts}
+use Rattle.proof_flights.specs.Pieces.{ParityAt}
 
 -- ---- one stripe moved
 
@@ -68,7 +69,7 @@ module _ (p : Params) (x : Segment) (s k : ℕ) where
   on-parity e q = cond-false (isData p k e) (getD qs (dataPosition p k e) (mkPiece [] (mkRec 0 0 0))) (parityPiece p k qs) q
 
   -- a segment that has these pieces
-  pub moved-made : Ranged p → (y : Segment) → ((e : ℕ) → e < p .N → storedPiece y k e ≡ on e) → Made p y k
+  pub moved-made : Ranged p → (y : Segment) → ((e : ℕ) → e < p .N → storedPiece y k e ≡ on e) → ParityAt p y k
   moved-made r y f =
       f (parityDrive p k) (parity-drive-lt p k (omega (arith, r .drives-low))) ∙ on-parity (parityDrive p k) no-data ∙ ap (parityPiece p k) (sym back)
     where
@@ -258,7 +259,7 @@ module _ (p : Params) (r : Ranged p) (v : View) (sh : Shaped p v) (acc : Accepte
     stored-low : (s : ℕ) → counts p 0 x s ≡ true → (e : ℕ) → e < p .N → (storedPiece x s e .rec .address < 256 ^ 8) × (storedPiece x s e .rec .stamp < 256 ^ 8)
     stored-low s c e he =
         let k = chunk-at p v 0 g e s he (isIn-empty e) (counts-in p 0 x s e c he (isIn-empty e)) in
-        let q : storedPiece x s e .rec ≡ recordIn p (sealedIn p v 0 g) (zoneAt v e g) (offsetOn x e s) = ap (λ (y : Piece). y .rec) (piece-is p v 0 g s e he) ∙ k .its-record in
+        let q : storedPiece x s e .rec ≡ recordIn p (sealedIn p v 0 g) (zoneAt v e g) (offsetOn x e s) = ap (λ (y : Piece). y .rec) (piece-parts p v 0 g s e he) ∙ k .its-record in
         subst (λ (y : Rec). (y .address < 256 ^ 8) × (y .stamp < 256 ^ 8)) (sym q) (record-low p (zoneAt v e g) (sh .zone-ok e g he hg) (sealedIn p v 0 g) (offsetOn x e s))
 
     -- a stripe of it is a counted one moved
@@ -273,7 +274,7 @@ module _ (p : Params) (r : Ranged p) (v : View) (sh : Shaped p v) (acc : Accepte
         let hc = has-chunk p vc 0 z0 e o o he (isIn-empty e) hs st in
         let er : storedRec y0 o e ≡ recordOf (recordBytes (movedOn p (movedPieces p x s o) o e .rec)) =
         chunk-at p vc 0 z0 e o he (isIn-empty e) hc .its-record ∙ ap (recordIn p (sealedIn p vc 0 z0) (zoneAt vc e z0)) eo ∙ by-spare e o ∙ spare! (movedOn p (movedPieces p x s o) o e) ch in
-        piece-is p vc 0 z0 o e he
+        piece-parts p vc 0 z0 o e he
         ∙ ap₂ mkPiece (ap (λ (n : ℕ). getD (zoneAt vc e z0 .blocks) (1 + n) noChunk .block) eo ∙ ap (λ (y : Chunk). y .block) ch ∙ block! (movedOn p (movedPieces p x s o) o e))
         (er ∙ moved-back p x s o r (omega arith) (stored-low s (counted-in p 0 x s (in-getD cs o 0 h) .1)) e he)
       where
@@ -292,7 +293,7 @@ module _ (p : Params) (r : Ranged p) (v : View) (sh : Shaped p v) (acc : Accepte
         block! q = unfold pieceChunk in refl
 
     -- the parity of every stripe that counts there
-    pub rewritten-made : (o : ℕ) → counts p 0 y0 o ≡ true → Made p y0 o
+    pub rewritten-made : (o : ℕ) → counts p 0 y0 o ≡ true → ParityAt p y0 o
     rewritten-made o c =
         let h0 : 0 < p .N = omega (arith, r .drives-low) in
         let k = chunk-at p vc 0 z0 0 o h0 (isIn-empty 0) (counts-in p 0 y0 o 0 c h0 (isIn-empty 0)) in

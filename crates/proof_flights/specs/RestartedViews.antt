@@ -36,7 +36,7 @@ use Rattle.tablesay.specs.Tests.{clash, eqb-self}
 use Rattle.tablesay.specs.Unsealed.{Loose, loose}
 use Rattle.tablesay.specs.Unsealed.Loose.{loose-none, loose-one}
 use Rattle.tablesay.specs.Zones.{Shaped}
-use Rattle.proof_flights.specs.LandedPieces.{Made}
+use Rattle.proof_flights.specs.Pieces.{ParityAt}
 use Rattle.proof_flights.specs.RestartedMoved.{rewritten-made}
 
 -- a test that as many pass as there are is passed by all
@@ -68,7 +68,7 @@ module _ (p : Params) (r : Ranged p) (v : View) (sh : Shaped p v) (acc : Accepte
   -- every counted stripe was found, or is made
   abbrev pub Settles : View → Type 0
   Settles u = (y s : ℕ) → y < p .Z → usedAt u y ≡ true → s < p .S → counts p 0 (segmentOf p u 0 y) s ≡ true
-      → (foundCounted p 0 (segments p v 0) (segmentOf p u 0 y .serial) s ≡ true) ⊎ Made p (segmentOf p u 0 y) s
+      → (foundCounted p 0 (segments p v 0) (segmentOf p u 0 y .serial) s ≡ true) ⊎ ParityAt p (segmentOf p u 0 y) s
 
   pub settles-parities : (u : View) (b : ℕ) → Tidy p u b → Settles u → ParityMade p u 0 (segments p v 0)
   settles-parities u b t f = λ g s rm hs c n.
@@ -123,7 +123,7 @@ module _ (p : Params) (r : Ranged p) (v : View) (sh : Shaped p v) (acc : Accepte
       settles-footers : Settles vb
       settles-footers y s hy q hs c = go (ℕ-discrete g y)
         where
-          go : Dec (g ≡ y) → (foundCounted p 0 (segments p v 0) (segmentOf p vb 0 y .serial) s ≡ true) ⊎ Made p (segmentOf p vb 0 y) s
+          go : Dec (g ≡ y) → (foundCounted p 0 (segments p v 0) (segmentOf p vb 0 y .serial) s ≡ true) ⊎ ParityAt p (segmentOf p vb 0 y) s
           go (yes e) = inl (subst (λ (n : ℕ). foundCounted p 0 (segments p v 0) (segmentOf p vb 0 n .serial) s ≡ true) e
               (ap (λ (n : ℕ). foundCounted p 0 (segments p v 0) n s) serial! ∙ found-in p v 0 g s (remained g hg kg) (all-count s hs)))
           go (no n) =
@@ -139,7 +139,7 @@ module _ (p : Params) (r : Ranged p) (v : View) (sh : Shaped p v) (acc : Accepte
 
       settles-rewrite : Settles vc
       settles-rewrite y s hy q hs c = ⊎-elim
-          (λ e. inr (subst (λ (n : ℕ). Made p (segmentOf p vc 0 n) s) (sym e)
+          (λ e. inr (subst (λ (n : ℕ). ParityAt p (segmentOf p vc 0 n) s) (sym e)
           (rewritten-made p r v sh acc g hg kg ng oth z0 hz0 fz fit nw s (subst (λ (n : ℕ). counts p 0 (segmentOf p vc 0 n) s ≡ true) e c))))
           (λ k. inl (same-found vc y s hy (k .0) (λ d hd. drop-same p r v sh acc y hy (k .0) d hd ∙ same-else p r v sh acc g hg kg ng oth z0 hz0 fz fit y hy (k .1 .0) (k .1 .1) d hd) c))
           (was! p r v sh acc g hg kg ng oth z0 hz0 fz fit nw y hy q)
