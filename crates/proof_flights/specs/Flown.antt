@@ -13,8 +13,8 @@ use Rattle.defs.specs.Landing.{flightRec}
 use Rattle.defs.specs.Layout.{parityDrive, dataDrive, dataDrives, recordBytes}
 use Rattle.defs.specs.Lists.{below, keep, isIn}
 use Rattle.defs.specs.Memory.{Memory, stripeIn, filledIn, landedIn, isWrite, entryIn, offsetIn, openSegment, isFull, slotBlock}
-use Rattle.defs.specs.Segments.{Segment}
-use Rattle.spec_demands.specs.Layouts.{ParityMade}
+use Rattle.defs.specs.Segments.{Segment, segmentOf, counts}
+use Rattle.spec_demands.specs.Layouts.{Remains, foundCounted, ParityMade}
 use Rattle.spec_demands.specs.Tables.{Pending, noPending}
 use Rattle.tablesay.specs.Run.{flies}
 use Rattle.views.specs.Views.{seen}
@@ -42,6 +42,12 @@ pub record Flights (p : Params) (v : View) (st : State) (fl : List ℕ) (ws : Li
   pub writes-low : (i k : ℕ) → i < 8 → flies st i ≡ true → filledIn st i ≤ k → k < 8 → isWrite st i k ≡ false
   pub pending-flies : (j : ℕ) → j < length ws → (i : ℕ) × (i < 8) × (flies st i ≡ true) × (stripeIn st i ≡ getD ws j noPending .stripe)
 
+-- the restart of this run found every counted stripe
+abbrev pub Found : Params → View → ℕ → List Segment → Type 0
+Found p v gone old = (g s : ℕ) → Remains p v gone g → s < p .S → counts p gone (segmentOf p v gone g) s ≡ true → foundCounted p gone old (segmentOf p v gone g .serial) s ≡ true
+
 pub record Flown (p : Params) (k : Disk) (m : Memory) (ws : List Pending) (old : List Segment) : Type 0 where
   pub flights : m .state .missing ≡ 0 → Flights p (seen p k) (m .state) (m .inflight) ws
   pub parities : ParityMade p (seen p k) (m .state .missing) old
+  -- with a drive missing nothing was written in this run
+  pub all-found : (m .state .missing ≡ 0 → ⊥) → Found p (seen p k) (m .state .missing) old

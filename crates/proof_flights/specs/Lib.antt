@@ -7,3 +7,10 @@ pub mod Sent
 pub mod Written
 pub mod Shut
 pub mod Reclaimed
+pub mod LandedPieces
+pub mod LandedChunk
+pub mod LandedFree
+pub mod LandedCall
+pub mod RestartedMoved
+pub mod RestartedViews
+pub mod RestartedCall

@@ -70,6 +70,7 @@ pub flown-of : (p : Params) (k : Disk) (m : Memory) (ws : List Pending) (old : L
 flown-of p k m ws old u ev em f pm = record {
   flights = λ q. subst (λ (x : View). Flights p x (m .state) (m .inflight) ws) (sym ev) f;
   parities = subst (λ (x : View). ParityMade p x (m .state .missing) old) (sym ev) (subst (λ (x : ℕ). ParityMade p u x old) (sym em) pm);
+  all-found = λ n. absurd (n em);
 }
 
 -- ---- another stamp

@@ -1,0 +1,428 @@
+-- A chunk lands: what its eighth says of the drives after it, and the parity of a stripe that it completes. Assumes nothing.
+use mathlib.Core.Path.{_≡_, refl, sym, ap, ap₂, _∙_, subst}
+use mathlib.Core.List.{List, map}
+use mathlib.Core.Bool.{Bool, true, false, cond, not, _||_}
+use mathlib.Core.Logic.{_⊎_, inl, inr, ⊎-elim}
+use Prim.Native.Nat.{ℕ, suc, _+_, _-_, _^_, _≤_, _<_}
+use native.Mathlib.Decide.{decLt, ℕ-discrete}
+use native.Mathlib.Omega.{arith}
+use native.Mathlib.Nat.{le-of-eq}
+use borrow.Author.Tests.{le-leb, eq-eqb, ne-eqb}
+use lib.Dec.{ltb, eqb}
+use lib.ListN.{length, getD, length-map}
+use lib.Seq.{getD-set-same, getD-set-other}
+use Rattle.defs.specs.declared.Params.{Params}
+use Rattle.defs.specs.declared.State.{State}
+use Rattle.defs.specs.Bytes.{parity}
+use Rattle.defs.specs.Drives.{Chunk, mkChunk, noChunk, Zone, View, zoneAt, pointerAt, chunkAt, putZone, storeView, zoneOn, sealedIn, dataStored, recordIn}
+use Rattle.defs.specs.Drives.Store.{put}
+use Rattle.defs.specs.Landing.{ready, completes, flightRec}
+use Rattle.defs.specs.Layout.{parityDrive, dataDrive, dataPosition, isData, dataDrives, Rec, recordBytes, recordOf}
+use Rattle.defs.specs.Lists.{below, all, keep, isIn}
+use Rattle.defs.specs.Memory.{stripeIn, filledIn, landedIn, isWrite, entryIn, entriesIn, offsetIn, openSegment, isFree, isFull, markLanded, slotBlock}
+use Rattle.defs.specs.Params.{dataCount, present}
+use Rattle.defs.specs.Parity.{Piece, mkPiece, parityRec, parityPiece}
+use Rattle.defs.specs.Segments.{Segment, segmentOf, hasChunk, counts, storedPiece}
+use Rattle.laws.specs.Geometry.{Ranged, parity-drive-lt, position-drive, drive-is-data, position-lt}
+use Rattle.laws.specs.Mask.{isIn-empty}
+use Rattle.laws.specs.Ranges.{Test, test, and-right, length-below, getD-map-below, map-map}
+use Rattle.laws.specs.Ranges.Test.{yes!, no! }
+use Rattle.laws.specs.Xor.{xorAll-lt}
+use Rattle.spec_demands.specs.Layouts.{ParityMade}
+use Rattle.spec_demands.specs.Tables.{Pending}
+use Rattle.tablesay.specs.Chunks.{cells-differ, pointer-some, pointer-data, chunk-zone, chunk-other, chunk-pointer, pointer-else, chunk-grows, mask-now}
+use Rattle.tablesay.specs.Chunks.{chunk-open, open-before, open-after, all-landed, uncounted-yet, landed-chunk, all-filled}
+use Rattle.tablesay.specs.Idle.{StateOk}
+use Rattle.tablesay.specs.Laid.{record-back}
+use Rattle.tablesay.specs.Members.{in-all, map-cong}
+use Rattle.tablesay.specs.Range.{capacity-over}
+use Rattle.tablesay.specs.Reads.{counts-in}
+use Rattle.tablesay.specs.Run.{flies, Flight, Open, Healthy}
+use Rattle.tablesay.specs.Segs.{data-low, low-data, present-in}
+use Rattle.tablesay.specs.Slots.{mark-landed-other, mark-offset, mark-offset-other}
+use Rattle.tablesay.specs.Tests.{or-true-left, cond-true, cond-false, eqb-self}
+use Rattle.tablesay.specs.Zones.{Shaped}
+use Rattle.proof_flights.specs.Flown.{sentOf, Flights}
+use Rattle.proof_flights.specs.LandedPieces.{piece-parts, Extends, extends-piece, extends-back, data-drives-in, parity-grows}
+use Rattle.proof_flights.specs.Pieces.{ParityAt}
+
+-- ---- one block stored
+
+put-old : (b s : List ℕ) (q : Zone) (x : ℕ) → x < q .pointer → getD (putZone b s q .blocks) x noChunk ≡ getD (q .blocks) x noChunk
+unfolding putZone
+put-old b s q x l = getD-set-other (q .blocks) (q .pointer) x (mkChunk b s) noChunk (λ e. let bad : ⊥ = omega arith in bad)
+
+put-new : (b s : List ℕ) (q : Zone) → q .pointer < length (q .blocks) → getD (putZone b s q .blocks) (q .pointer) noChunk ≡ mkChunk b s
+unfolding putZone
+put-new b s q l = getD-set-same (q .blocks) (q .pointer) (mkChunk b s) noChunk l
+
+put-below : (p : Params) (q w : Zone) (x : ℕ) → w .pointer ≡ suc (q .pointer) → 1 ≤ q .pointer → (x ≡ q .pointer - 1 → ⊥) → x < dataStored p w → x < dataStored p q
+put-below p q w x e l n y = let (a, c) = data-low p w x y in low-data p q x a (go c (decLt (1 + x) (q .pointer)))
+  where
+    go : 1 + x < w .pointer → Dec (1 + x < q .pointer) → 1 + x < q .pointer
+    go c (yes m) = m
+    go c (no m) = absurd (n (let k : x ≡ q .pointer - 1 = omega arith in k))
+
+-- ---- records in flight
+
+module _ (p : Params) (st : State) (i : ℕ) where
+  -- of data the entry, of parity the exclusive or of all
+  pub flight-data : (e : ℕ) → isData p (stripeIn st i) e ≡ true → flightRec p st i e ≡ entryIn st i (dataPosition p (stripeIn st i) e)
+  unfolding flightRec
+  flight-data e q = cond-true (isData p (stripeIn st i) e) (entryIn st i (dataPosition p (stripeIn st i) e)) (parityRec (stripeIn st i) (entriesIn st i)) q
+
+  pub flight-parity : (e : ℕ) → isData p (stripeIn st i) e ≡ false → flightRec p st i e ≡ parityRec (stripeIn st i) (entriesIn st i)
+  unfolding flightRec
+  flight-parity e q = cond-false (isData p (stripeIn st i) e) (entryIn st i (dataPosition p (stripeIn st i) e)) (parityRec (stripeIn st i) (entriesIn st i)) q
+
+  pub flight-stripe : (e : ℕ) → flightRec p st i e .stripe ≡ stripeIn st i
+  flight-stripe e = go (test (isData p (stripeIn st i) e))
+    where
+      entry! : (k : ℕ) → entryIn st i k .stripe ≡ stripeIn st i
+      entry! k = unfold entryIn in refl
+
+      par! : parityRec (stripeIn st i) (entriesIn st i) .stripe ≡ stripeIn st i
+      par! = unfold parityRec in refl
+
+      go : Test (isData p (stripeIn st i) e) → flightRec p st i e .stripe ≡ stripeIn st i
+      go (yes! q) = ap (λ (x : Rec). x .stripe) (flight-data e q) ∙ entry! (dataPosition p (stripeIn st i) e)
+      go (no! q) = ap (λ (x : Rec). x .stripe) (flight-parity e q) ∙ par!
+
+module _ (p : Params) (r : Ranged p) (v : View) (st : State) (z i : ℕ) (f : Flight p v st z i) (full : filledIn st i ≡ dataCount p) (so : stripeIn st i < p .S) where
+  abbrev Low : Rec → Type 0
+  Low x = (x .address < 256 ^ 8) × (x .stamp < 256 ^ 8)
+
+  entries-map : (g : Rec → ℕ) → map g (entriesIn st i) ≡ map (λ k. g (entryIn st i k)) (below (filledIn st i))
+  entries-map g = as! (map-map g (entryIn st i) (below (filledIn st i)))
+    where
+      as! : map g (map (entryIn st i) (below (filledIn st i))) ≡ map (λ k. g (entryIn st i k)) (below (filledIn st i))
+          → map g (entriesIn st i) ≡ map (λ k. g (entryIn st i k)) (below (filledIn st i))
+      as! e = unfold entriesIn in e
+
+  each-low : (g : Rec → ℕ) → ((k : ℕ) → k < filledIn st i → g (entryIn st i k) < 2 ^ 64)
+      → (k : ℕ) → k < length (map g (entriesIn st i)) → getD (map g (entriesIn st i)) k 0 < 2 ^ 64
+  each-low g h k l =
+      let n : length (map g (entriesIn st i)) ≡ filledIn st i =
+      ap length (entries-map g) ∙ length-map (below (filledIn st i)) (λ k. g (entryIn st i k)) ∙ length-below (filledIn st i) in
+      let l2 : k < filledIn st i = subst (λ (x : ℕ). k < x) n l in
+      subst (λ (x : ℕ). x < 2 ^ 64) (sym (ap (λ (m : List ℕ). getD m k 0) (entries-map g) ∙ getD-map-below (λ k. g (entryIn st i k)) (filledIn st i) k 0 l2)) (h k l2)
+
+  parity-low : Low (parityRec (stripeIn st i) (entriesIn st i))
+  unfolding parityRec
+  parity-low = (
+    xorAll-lt 64 (map (λ (x : Rec). x .address) (entriesIn st i)) (each-low (λ (x : Rec). x .address) (λ k l. f .entries-low k l .0)),
+    xorAll-lt 64 (map (λ (x : Rec). x .stamp) (entriesIn st i)) (each-low (λ (x : Rec). x .stamp) (λ k l. f .entries-low k l .1)),
+  )
+
+  flight-low : (e : ℕ) → e < p .N → Low (flightRec p st i e)
+  flight-low e he = go (test (isData p (stripeIn st i) e))
+    where
+      go : Test (isData p (stripeIn st i) e) → Low (flightRec p st i e)
+      go (yes! q) = subst (λ (x : Rec). Low x) (sym (flight-data p st i e q))
+          (f .entries-low (dataPosition p (stripeIn st i) e) (subst (λ (x : ℕ). dataPosition p (stripeIn st i) e < x) (sym full) (position-lt p (stripeIn st i) e q he)))
+      go (no! q) = subst (λ (x : Rec). Low x) (sym (flight-parity p st i e q)) parity-low
+
+  -- stored and read back it is the same
+  pub flight-back : (e : ℕ) → e < p .N → recordOf (recordBytes (flightRec p st i e)) ≡ flightRec p st i e
+  flight-back e he =
+      let (a, t) = flight-low e he in
+      record-back (flightRec p st i e) a t (subst (λ (x : ℕ). x < 256 ^ 4) (sym (flight-stripe p st i e)) (let h = r .stripes-high in omega arith))
+
+  -- the records of the data drives are the entries
+  pub flight-entries : map (flightRec p st i) (dataDrives p (stripeIn st i)) ≡ entriesIn st i
+  flight-entries = as! (map-map (flightRec p st i) (dataDrive p (stripeIn st i)) (below (dataCount p))
+      ∙ map-cong (λ k. flightRec p st i (dataDrive p (stripeIn st i) k)) (entryIn st i) (below (dataCount p)) (λ k m.
+      flight-data p st i (dataDrive p (stripeIn st i) k) (drive-is-data p (stripeIn st i) k) ∙ ap (entryIn st i) (position-drive p (stripeIn st i) k))
+      ∙ ap (λ (n : ℕ). map (entryIn st i) (below n)) (sym full))
+    where
+      as! : map (flightRec p st i) (map (dataDrive p (stripeIn st i)) (below (dataCount p))) ≡ map (entryIn st i) (below (filledIn st i))
+          → map (flightRec p st i) (dataDrives p (stripeIn st i)) ≡ entriesIn st i
+      as! e = unfold dataDrives entriesIn in e
+
+-- ---- the chunk
+
+module _ (p : Params) (r : Ranged p) (v : View) (sh : Shaped p v) (st : State) (h : Healthy p v st) (so : StateOk p st) (oz : st .opened ≡ suc (openSegment st))
+    (d i : ℕ) (hd : d < p .N) (hi : i < 8) (fi : flies st i ≡ true) (rd : ready p st i d ≡ true) (fl : List ℕ) (lb : length (slotBlock p fl i d) ≡ p .B) where
+  abbrev z : ℕ
+  z = openSegment st
+
+  abbrev s : ℕ
+  s = stripeIn st i
+
+  abbrev b : List ℕ
+  b = slotBlock p fl i d
+
+  abbrev v1 : View
+  v1 = storeView (put d z b (recordBytes (flightRec p st i d))) v
+
+  abbrev o : ℕ
+  o = pointerAt v d z - 1
+
+  abbrev st1 : State
+  st1 = markLanded st i d o
+
+  abbrev seg0 : Segment
+  seg0 = segmentOf p v 0 z
+
+  abbrev seg1 : Segment
+  seg1 = segmentOf p v1 0 z
+
+  hz : z < p .Z
+  hz = h .opens-at z oz .opened-zone
+
+  d8 : d < 8
+  d8 = omega (arith, r .drives-high)
+
+  -- a chunk below the pointer stays
+  chunk-kept : (e x : ℕ) → e < p .N → x < pointerAt v e z → getD (zoneAt v1 e z .blocks) x noChunk ≡ getD (zoneAt v e z .blocks) x noChunk
+  chunk-kept e x he l = go (ℕ-discrete d e)
+    where
+      as! : x < pointerAt v d z → x < zoneAt v d z .pointer
+      as! m = unfold pointerAt in m
+
+      go : Dec (d ≡ e) → getD (zoneAt v1 e z .blocks) x noChunk ≡ getD (zoneAt v e z .blocks) x noChunk
+      go (yes q) = subst (λ (y : ℕ). getD (zoneAt v1 y z .blocks) x noChunk ≡ getD (zoneAt v y z .blocks) x noChunk) q
+          (ap (λ (y : Zone). getD (y .blocks) x noChunk) (chunk-zone p r v sh st h so z oz d i hd hi fi rd b lb)
+          ∙ put-old b (recordBytes (flightRec p st i d)) (zoneAt v d z) x (as! (subst (λ (y : ℕ). x < pointerAt v y z) (sym q) l)))
+      go (no n) = ap (λ (y : Zone). getD (y .blocks) x noChunk) (chunk-other p r v sh st h so z oz d i hd hi fi rd b lb e z he hz (inl n))
+
+  -- the new one
+  chunk-new : getD (zoneAt v1 d z .blocks) (1 + o) noChunk ≡ mkChunk b (recordBytes (flightRec p st i d))
+  chunk-new =
+      let a = pointer-some p r v sh st h so z oz d i hd hi fi rd b lb in
+      let c = pointer-data p r v sh st h so z oz d i hd hi fi rd b lb in
+      let e : 1 + o ≡ pointerAt v d z = omega arith in
+      ap (λ (n : ℕ). getD (zoneAt v1 d z .blocks) n noChunk) (e ∙ at!)
+      ∙ ap (λ (y : Zone). getD (y .blocks) (zoneAt v d z .pointer) noChunk) (chunk-zone p r v sh st h so z oz d i hd hi fi rd b lb)
+      ∙ put-new b (recordBytes (flightRec p st i d)) (zoneAt v d z) (subst (λ (n : ℕ). zoneAt v d z .pointer < n) (sym (sh .zone-ok d z hd hz .blocks-long))
+      (let k = capacity-over p r in let f = at! in omega arith))
+    where
+      at! : pointerAt v d z ≡ zoneAt v d z .pointer
+      at! = unfold pointerAt in refl
+
+  -- ---- the eighths
+
+  pub flies1 : (j : ℕ) → flies st1 j ≡ flies st j
+  flies1 j = unfold isFree filledIn markLanded in refl
+
+  rec1 : (j e : ℕ) → flightRec p st1 j e ≡ flightRec p st j e
+  rec1 j e = unfold flightRec entriesIn entryIn stripeIn filledIn markLanded in refl
+
+  full1 : (j : ℕ) → isFull p st1 j ≡ isFull p st j
+  full1 j = unfold isFull filledIn markLanded in refl
+
+  pub stripe1 : (j : ℕ) → stripeIn st1 j ≡ stripeIn st j
+  stripe1 j = unfold stripeIn markLanded in refl
+
+  open1 : openSegment st1 ≡ z
+  open1 = unfold openSegment markLanded in refl
+
+  -- landed now: the new one, or landed before
+  landed-or : (j e : ℕ) → e < p .N → isIn (landedIn st1 j) e ≡ true
+      → ((j ≡ i) × (e ≡ d)) ⊎ (((j ≡ i → ⊥) ⊎ (e ≡ d → ⊥)) × (isIn (landedIn st j) e ≡ true))
+  landed-or j e he q = go (ℕ-discrete j i) (ℕ-discrete e d)
+    where
+      go : Dec (j ≡ i) → Dec (e ≡ d) → ((j ≡ i) × (e ≡ d)) ⊎ (((j ≡ i → ⊥) ⊎ (e ≡ d → ⊥)) × (isIn (landedIn st j) e ≡ true))
+      go (no n) y = inr (inl n, ap (λ (m : ℕ). isIn m e) (sym (mark-landed-other st (h .lists) i hi d o d8 j n)) ∙ q)
+      go (yes x) (yes y) = inl (x, y)
+      go (yes x) (no n) = inr (
+        inr n,
+        ap (λ (m : ℕ). isIn (landedIn st m) e) x
+            ∙ sym (mask-now p r v sh st h so z oz d i hd hi fi rd b lb e he ∙ ap (λ (t : Bool). t || isIn (landedIn st i) e) (ne-eqb e d n))
+            ∙ ap (λ (m : ℕ). isIn (landedIn st1 m) e) (sym x) ∙ q,
+      )
+
+  module _ (ws : List Pending) (F : Flights p v st fl ws) where
+    landed! : (j e : ℕ) → j < 8 → flies st j ≡ true → e < p .N → isIn (landedIn st1 j) e ≡ true
+        → getD (zoneAt v1 e z .blocks) (1 + offsetIn st1 j e) noChunk ≡ mkChunk (slotBlock p fl j e) (recordBytes (flightRec p st j e))
+    landed! j e hj fj he q = ⊎-elim here! (λ x. there! (x .0) (x .1)) (landed-or j e he q)
+      where
+        here! : (j ≡ i) × (e ≡ d) → getD (zoneAt v1 e z .blocks) (1 + offsetIn st1 j e) noChunk ≡ mkChunk (slotBlock p fl j e) (recordBytes (flightRec p st j e))
+        here! (x, y) =
+            (λ k. getD (zoneAt v1 (y k) z .blocks) (1 + offsetIn st1 (x k) (y k)) noChunk)
+            ∙ ap (λ (n : ℕ). getD (zoneAt v1 d z .blocks) (1 + n) noChunk) (mark-offset st (h .lists) i hi d o d8) ∙ chunk-new
+            ∙ (λ k. mkChunk (slotBlock p fl (sym x k) (sym y k)) (recordBytes (flightRec p st (sym x k) (sym y k))))
+
+        before! : isIn (landedIn st j) e ≡ true → getD (zoneAt v e z .blocks) (1 + offsetIn st j e) noChunk ≡ mkChunk (slotBlock p fl j e) (recordBytes (flightRec p st j e))
+        before! y = as! (F .landed-is j e hj fj he y)
+          where
+            as! : chunkAt v e (zoneOn (openSegment st) e) (1 + offsetIn st j e) ≡ mkChunk (slotBlock p fl j e) (recordBytes (flightRec p st j e))
+                → getD (zoneAt v e z .blocks) (1 + offsetIn st j e) noChunk ≡ mkChunk (slotBlock p fl j e) (recordBytes (flightRec p st j e))
+            as! x = unfold chunkAt zoneOn in x
+
+        there! : (j ≡ i → ⊥) ⊎ (e ≡ d → ⊥) → isIn (landedIn st j) e ≡ true
+            → getD (zoneAt v1 e z .blocks) (1 + offsetIn st1 j e) noChunk ≡ mkChunk (slotBlock p fl j e) (recordBytes (flightRec p st j e))
+        there! n y =
+            let e8 : e < 8 = omega (arith, r .drives-high) in
+            ap (λ (m : ℕ). getD (zoneAt v1 e z .blocks) (1 + m) noChunk) (mark-offset-other st (h .lists) i hi d o d8 j e (cells-differ i j d e d8 e8 n))
+            ∙ chunk-kept e (1 + offsetIn st j e) he (h .opens-at z oz .flight j hj fj .lands e he y .lies) ∙ before! y
+
+    -- what is known of the flights after the chunk
+    pub chunk-flights : Flights p v1 st1 fl ws
+    chunk-flights = record {
+      landed-is = λ j e hj fj he q. at! j e (landed! j e hj (sym (flies1 j) ∙ fj) he q);
+      parity-full = λ j hj fj q. full1 j ∙ full! j hj (sym (flies1 j) ∙ fj) (ap (λ (x : ℕ). isIn (landedIn st1 j) (parityDrive p x)) (sym (stripe1 j)) ∙ q);
+      parity-ready = λ j hj fj q. ready! j (F .parity-ready j hj (sym (flies1 j) ∙ fj) (sym (full1 j) ∙ q));
+      pending-is = λ j hj fj. pending! j (F .pending-is j hj (sym (flies1 j) ∙ fj));
+      writes-low = λ j k hj fj l hk. writes! j k (F .writes-low j k hj (sym (flies1 j) ∙ fj) (low! j k l) hk);
+      pending-flies = λ n hn. let (j, hj, fj, e) = F .pending-flies n hn in (j, hj, flies1 j ∙ fj, stripe1 j ∙ e);
+    }
+      where
+        at! : (j e : ℕ) → getD (zoneAt v1 e z .blocks) (1 + offsetIn st1 j e) noChunk ≡ mkChunk (slotBlock p fl j e) (recordBytes (flightRec p st j e))
+            → chunkAt v1 e (zoneOn (openSegment st1) e) (1 + offsetIn st1 j e) ≡ mkChunk (slotBlock p fl j e) (recordBytes (flightRec p st1 j e))
+        at! j e x = unfold chunkAt zoneOn in
+            (ap (λ (n : ℕ). getD (zoneAt v1 e n .blocks) (1 + offsetIn st1 j e) noChunk) open1 ∙ x ∙ ap (λ (y : Rec). mkChunk (slotBlock p fl j e) (recordBytes y)) (sym (rec1 j e)))
+
+        ready! : (j : ℕ) → slotBlock p fl j (parityDrive p (stripeIn st j)) ≡ parity (p .B) (map (slotBlock p fl j) (dataDrives p (stripeIn st j)))
+            → slotBlock p fl j (parityDrive p (stripeIn st1 j)) ≡ parity (p .B) (map (slotBlock p fl j) (dataDrives p (stripeIn st1 j)))
+        ready! j x = unfold stripeIn markLanded in x
+
+        pending! : (j : ℕ) → keep (λ (w : Pending). eqb (w .stripe) (stripeIn st j)) ws ≡ map (sentOf p st fl j) (keep (isWrite st j) (below (filledIn st j)))
+            → keep (λ (w : Pending). eqb (w .stripe) (stripeIn st1 j)) ws ≡ map (sentOf p st1 fl j) (keep (isWrite st1 j) (below (filledIn st1 j)))
+        pending! j x = unfold sentOf stripeIn isWrite filledIn entryIn markLanded in x
+
+        low! : (j k : ℕ) → filledIn st1 j ≤ k → filledIn st j ≤ k
+        low! j k l = unfold filledIn markLanded in l
+
+        writes! : (j k : ℕ) → isWrite st j k ≡ false → isWrite st1 j k ≡ false
+        writes! j k x = unfold isWrite markLanded in x
+
+        -- parity lands when the stripe is full
+        by-ready : isData p s d ≡ false → ready p st i d ≡ true → isFull p st i ≡ true
+        by-ready q x = unfold ready in
+            (sym (cond-false (isData p s d) (ltb (dataPosition p s d) (filledIn st i)) (isFull p st i) q)
+            ∙ and-right (not (isIn (landedIn st i) d)) (cond (isData p s d) (ltb (dataPosition p s d) (filledIn st i)) (isFull p st i)) x)
+
+        no-data : (x : ℕ) → parityDrive p s ≡ x → isData p s x ≡ false
+        no-data x e = unfold isData in ap not (eq-eqb x (parityDrive p s) (sym e))
+
+        full! : (j : ℕ) → j < 8 → flies st j ≡ true → isIn (landedIn st1 j) (parityDrive p (stripeIn st j)) ≡ true → isFull p st j ≡ true
+        full! j hj fj q = ⊎-elim
+            (λ x. ap (isFull p st) (x .0) ∙ by-ready (no-data d (ap (λ (n : ℕ). parityDrive p (stripeIn st n)) (sym (x .0)) ∙ x .1)) rd)
+            (λ x. F .parity-full j hj fj (x .1)) (landed-or j (parityDrive p (stripeIn st j)) (parity-drive-lt p (stripeIn st j) (omega (arith, r .drives-low))) q)
+
+    -- ---- the parity of the stripe that is complete
+
+    made-now : completes p st i d ≡ true → ParityAt p seg1 s
+    made-now q =
+        piece (parityDrive p s) (parity-drive-lt p s (omega (arith, r .drives-low)))
+        ∙ ap₂ mkPiece (F .parity-ready i hi fi full!) (flight-parity p st i (parityDrive p s) no-data)
+        ∙ sym (as! (ap₂ (λ (x : List (List ℕ)) (y : List Rec). mkPiece (parity (p .B) x) (parityRec s y))
+        (map-map (λ (y : Piece). y .block) (storedPiece seg1 s) (dataDrives p s)
+        ∙ map-cong (λ e. storedPiece seg1 s e .block) (slotBlock p fl i) (dataDrives p s) (λ e m. ap (λ (y : Piece). y .block) (piece e (data-drives-in p s e m))))
+        (map-map (λ (y : Piece). y .rec) (storedPiece seg1 s) (dataDrives p s)
+        ∙ map-cong (λ e. storedPiece seg1 s e .rec) (flightRec p st i) (dataDrives p s) (λ e m. ap (λ (y : Piece). y .rec) (piece e (data-drives-in p s e m)))
+        ∙ flight-entries p r v st z i f0 filled s-low)))
+      where
+        f0 : Flight p v st z i
+        f0 = h .opens-at z oz .flight i hi fi
+
+        filled : filledIn st i ≡ dataCount p
+        filled = as! (all-filled p r v sh st h so z oz d i hd hi fi rd b lb q)
+          where
+            as! : filledIn st1 i ≡ dataCount p → filledIn st i ≡ dataCount p
+            as! e = unfold filledIn markLanded in e
+
+        s-low : s < p .S
+        s-low = so .slots-ok i hi .stripe-ok
+
+        full! : isFull p st i ≡ true
+        full! = unfold isFull in le-leb (dataCount p) (filledIn st i) (le-of-eq (sym filled))
+
+        no-data : isData p s (parityDrive p s) ≡ false
+        no-data = unfold isData in ap not (eq-eqb (parityDrive p s) (parityDrive p s) refl)
+
+        as! : mkPiece (parity (p .B) (map (λ (y : Piece). y .block) (map (storedPiece seg1 s) (dataDrives p s))))
+            (parityRec s (map (λ (y : Piece). y .rec) (map (storedPiece seg1 s) (dataDrives p s))))
+            ≡ mkPiece (parity (p .B) (map (slotBlock p fl i) (dataDrives p s))) (parityRec s (entriesIn st i))
+            → parityPiece p s (map (storedPiece seg1 s) (dataDrives p s)) ≡ mkPiece (parity (p .B) (map (slotBlock p fl i) (dataDrives p s))) (parityRec s (entriesIn st i))
+        as! e = unfold parityPiece in e
+
+        spare! : (e x : ℕ) → recordIn p false (zoneAt v1 e z) x ≡ recordOf (getD (zoneAt v1 e z .blocks) (1 + x) noChunk .spare)
+        spare! e x = unfold recordIn in refl
+
+        piece : (e : ℕ) → e < p .N → storedPiece seg1 s e ≡ mkPiece (slotBlock p fl i e) (flightRec p st i e)
+        piece e he =
+            let on = all-landed p r v sh st h so z oz d i hd hi fi rd b lb q e he in
+            let (c, (eo, er)) = landed-chunk p r v sh st h so z oz d i hd hi fi rd b lb e he on in
+            let ch = landed! i e hi fi he on in
+            piece-parts p v1 0 z s e he
+            ∙ ap₂ mkPiece (ap (λ (n : ℕ). getD (zoneAt v1 e z .blocks) (1 + n) noChunk .block) eo ∙ ap (λ (y : Chunk). y .block) ch)
+            (er ∙ spare! e (offsetIn st1 i e) ∙ ap (λ (y : Chunk). recordOf (y .spare)) ch ∙ flight-back p r v st z i f0 filled s-low e he)
+
+    -- ---- every counted stripe after the chunk
+
+    chunk-extends : (e : ℕ) → e < p .N → Extends p 0 v v1 z e
+    chunk-extends e he = record {
+      more = more! (pointers e he);
+      same-record = λ x l.
+          ap (λ (t : Bool). recordIn p t (zoneAt v1 e z) x) (open-after p r v sh st h so z oz d i hd hi fi rd b lb)
+          ∙ spare! x (ap (λ (c : Chunk). recordOf (c .spare)) (chunk-kept e (1 + x) he (lies x l)))
+          ∙ ap (λ (t : Bool). recordIn p t (zoneAt v e z) x) (sym (open-before p r v sh st h so z oz d i hd hi fi rd b lb));
+      same-block = λ x l. ap (λ (c : Chunk). c .block) (chunk-kept e (1 + x) he (lies x l));
+    }
+      where
+        pointers : (e : ℕ) → e < p .N → pointerAt v e z ≤ pointerAt v1 e z
+        pointers e he = go (ℕ-discrete d e)
+          where
+            go : Dec (d ≡ e) → pointerAt v e z ≤ pointerAt v1 e z
+            go (yes q) = subst (λ (x : ℕ). pointerAt v x z ≤ pointerAt v1 x z) q (let a = chunk-pointer p r v sh st h so z oz d i hd hi fi rd b lb in omega arith)
+            go (no n) = le-of-eq (sym (pointer-else p r v sh st h so z oz d i hd hi fi rd b lb e he n))
+
+        more! : pointerAt v e z ≤ pointerAt v1 e z → dataStored p (zoneAt v e z) ≤ dataStored p (zoneAt v1 e z)
+        more! l = unfold pointerAt dataStored in omega arith
+
+        lies : (x : ℕ) → x < dataStored p (zoneAt v e z) → 1 + x < pointerAt v e z
+        lies x l = unfold pointerAt in data-low p (zoneAt v e z) x l .1
+
+        spare! : (x : ℕ) → recordOf (getD (zoneAt v1 e z .blocks) (1 + x) noChunk .spare) ≡ recordOf (getD (zoneAt v e z .blocks) (1 + x) noChunk .spare)
+            → recordIn p false (zoneAt v1 e z) x ≡ recordIn p false (zoneAt v e z) x
+        spare! x q = unfold recordIn in q
+
+    -- a chunk on drive e that is not of this stripe was there
+    was-there : (t : ℕ) → (t ≡ s → ⊥) → (e : ℕ) → e < p .N → (x : ℕ) → x < dataStored p (zoneAt v1 e z)
+        → recordIn p (sealedIn p v1 0 z) (zoneAt v1 e z) x .stripe ≡ t → x < dataStored p (zoneAt v e z)
+    was-there t n e he x l q = go (ℕ-discrete d e)
+      where
+        op : Open p v1 st1 (flies st) z
+        op = chunk-open p r v sh st h so z oz d i hd hi fi rd b lb
+
+        on : isIn (landedIn st1 i) d ≡ true
+        on = mask-now p r v sh st h so z oz d i hd hi fi rd b lb d hd ∙ or-true-left (eqb d d) (isIn (landedIn st i) d) (eqb-self d)
+
+        new-stripe : recordIn p (sealedIn p v1 0 z) (zoneAt v1 d z) o .stripe ≡ s
+        new-stripe =
+            ap (λ (w : Bool). recordIn p w (zoneAt v1 d z) o .stripe) (open-after p r v sh st h so z oz d i hd hi fi rd b lb)
+            ∙ ap (λ (y : ℕ). recordIn p false (zoneAt v1 d z) y .stripe) (sym (mark-offset st (h .lists) i hi d o d8)) ∙ op .flight i hi fi .lands d hd on .of-stripe ∙ stripe1 i
+
+        other : (x ≡ o → ⊥) → pointerAt v1 d z ≡ suc (pointerAt v d z) → 1 ≤ pointerAt v d z → x < dataStored p (zoneAt v1 d z) → x < dataStored p (zoneAt v d z)
+        other ne a c y = unfold pointerAt in put-below p (zoneAt v d z) (zoneAt v1 d z) x a c ne y
+
+        here! : x < dataStored p (zoneAt v1 d z) → recordIn p (sealedIn p v1 0 z) (zoneAt v1 d z) x .stripe ≡ t → Dec (x ≡ o) → x < dataStored p (zoneAt v d z)
+        here! y w (yes a) = absurd (n (sym w ∙ ap (λ (m : ℕ). recordIn p (sealedIn p v1 0 z) (zoneAt v1 d z) m .stripe) a ∙ new-stripe))
+        here! y w (no a) = other a (chunk-pointer p r v sh st h so z oz d i hd hi fi rd b lb) (pointer-some p r v sh st h so z oz d i hd hi fi rd b lb) y
+
+        go : Dec (d ≡ e) → x < dataStored p (zoneAt v e z)
+        go (no a) = subst (λ (y : Zone). x < dataStored p y) (chunk-other p r v sh st h so z oz d i hd hi fi rd b lb e z he hz (inl a)) l
+        go (yes a) = subst (λ (m : ℕ). x < dataStored p (zoneAt v m z)) a
+            (here! (subst (λ (m : ℕ). x < dataStored p (zoneAt v1 m z)) (sym a) l)
+            (subst (λ (m : ℕ). recordIn p (sealedIn p v1 0 z) (zoneAt v1 m z) x .stripe ≡ t) (sym a) q) (ℕ-discrete x o))
+
+    pub chunk-parities : (old : List Segment) → ParityMade p v 0 old → ParityMade p v1 0 old
+    chunk-parities old pm = parity-grows p r v v1 z (chunk-grows p r v sh st h so z oz d i hd hi fi rd b lb) (st .serial .0) (h .tidy) old pm
+        (λ t ht c. go t c (ℕ-discrete t s) (test (completes p st i d)))
+      where
+        go : (t : ℕ) → counts p 0 seg1 t ≡ true → Dec (t ≡ s) → Test (completes p st i d)
+            → ((counts p 0 seg0 t ≡ true) × ((e : ℕ) → e < p .N → storedPiece seg0 t e ≡ storedPiece seg1 t e)) ⊎ ParityAt p seg1 t
+        go t c (yes e) (no! q) = absurd (uncounted-yet p r v sh st h so z oz d i hd hi fi rd b lb q (subst (λ (x : ℕ). counts p 0 seg1 x ≡ true) e c))
+        go t c (yes e) (yes! q) = inr (subst (λ (x : ℕ). ParityAt p seg1 x) (sym e) (made-now q))
+        go t c (no n) y = inl (
+          as! (in-all (hasChunk seg0 t) (present p 0) (λ e m. had e (present-in p 0 e m .0))),
+          λ e he. extends-piece p 0 v v1 z e he (isIn-empty e) (chunk-extends e he) t (had e he),
+        )
+          where
+            had : (e : ℕ) → e < p .N → hasChunk seg0 t e ≡ true
+            had e he = extends-back p 0 v v1 z e he (isIn-empty e) (chunk-extends e he) t (was-there t n e he) (counts-in p 0 seg1 t e c he (isIn-empty e))
+
+            as! : all (hasChunk seg0 t) (present p 0) ≡ true → counts p 0 seg0 t ≡ true
+            as! a = unfold counts in a

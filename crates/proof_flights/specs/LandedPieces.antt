@@ -1,0 +1,143 @@
+-- One segment in two views: a chunk that is in both is the same piece, and parity goes over with the pieces. Assumes nothing.
+use mathlib.Core.Path.{_≡_, sym, ap, ap₂, _∙_, subst}
+use mathlib.Core.List.{List}
+use mathlib.Core.Bool.{true, false}
+use mathlib.Core.Logic.{_⊎_, inl, inr, ⊎-elim}
+use Prim.Native.Nat.{ℕ, _+_, _≤_, _<_}
+use native.Mathlib.Omega.{arith}
+use native.Mathlib.Decide.{ℕ-discrete}
+use lib.ListN.{getD}
+use Rattle.defs.specs.declared.Params.{Params}
+use Rattle.defs.specs.Drives.{noChunk, Zone, View, zoneAt, sealedIn, dataStored, recordIn}
+use Rattle.defs.specs.Layout.{dataDrive, dataDrives, headerSerial, Rec}
+use Rattle.defs.specs.Lists.{below, all, isMember, isIn}
+use Rattle.defs.specs.Params.{dataCount, present}
+use Rattle.defs.specs.Parity.{mkPiece}
+use Rattle.defs.specs.Segments.{remaining, Segment, segmentOf, offsetOn, hasChunk, counts, storedPiece, storedRec}
+use Rattle.laws.specs.Geometry.{Ranged, data-drive-lt}
+use Rattle.spec_demands.specs.Layouts.{Remains, ParityMade}
+use Rattle.tablesay.specs.Growing.{Grows, grows-tidy, grows-remaining}
+use Rattle.tablesay.specs.Members.{In, map-in, in-all, below-in, is-member}
+use Rattle.tablesay.specs.Reads.{counts-in}
+use Rattle.tablesay.specs.Run.{Tidy}
+use Rattle.tablesay.specs.Segs.{ChunkAt, zone-by, chunk-at, has-chunk, offset-is, present-in, remaining-low}
+use Rattle.tablesay.specs.Settled.{serial-of, zones-segment}
+use Rattle.proof_flights.specs.Pieces.{ParityAt, SameStripe, parity-from}
+
+-- a piece is the block and the record at the stripe's offset, whatever is missing
+pub piece-parts : (p : Params) (v : View) (gone g s e : ℕ) → e < p .N
+    → storedPiece (segmentOf p v gone g) s e
+    ≡ mkPiece (getD (zoneAt v e g .blocks) (1 + offsetOn (segmentOf p v gone g) e s) noChunk .block) (storedRec (segmentOf p v gone g) s e)
+unfolding storedPiece storedRec
+piece-parts p v gone g s e he = ap (λ (q : Zone). mkPiece (getD (q .blocks) (1 + offsetOn (segmentOf p v gone g) e s) noChunk .block) (storedRec (segmentOf p v gone g) s e)) (zone-by p v gone g e he)
+
+module _ (p : Params) (gone : ℕ) (v u : View) (g : ℕ) where
+  abbrev sv : Segment
+  sv = segmentOf p v gone g
+
+  abbrev su : Segment
+  su = segmentOf p u gone g
+
+  -- what drive e has of the segment in v it has in u too, at the same offsets
+  pub record Extends (e : ℕ) : Type 0 where
+    pub more : dataStored p (zoneAt v e g) ≤ dataStored p (zoneAt u e g)
+    pub same-record : (o : ℕ) → o < dataStored p (zoneAt v e g)
+        → recordIn p (sealedIn p u gone g) (zoneAt u e g) o ≡ recordIn p (sealedIn p v gone g) (zoneAt v e g) o
+    pub same-block : (o : ℕ) → o < dataStored p (zoneAt v e g)
+        → getD (zoneAt u e g .blocks) (1 + o) noChunk .block ≡ getD (zoneAt v e g .blocks) (1 + o) noChunk .block
+
+  module _ (e : ℕ) (he : e < p .N) (q : isIn gone e ≡ false) (x : Extends e) (t : ℕ) (c : hasChunk sv t e ≡ true) where
+    at : ChunkAt p v gone g e t
+    at = chunk-at p v gone g e t he q c
+
+    abbrev o : ℕ
+    o = offsetOn sv e t
+
+    there : o < dataStored p (zoneAt u e g)
+    there = let a = at .stored-there in let b = x .more in omega arith
+
+    its : recordIn p (sealedIn p u gone g) (zoneAt u e g) o .stripe ≡ t
+    its = ap (λ (r : Rec). r .stripe) (x .same-record o (at .stored-there)) ∙ at .its-stripe
+
+    pub extends-has : hasChunk su t e ≡ true
+    extends-has = has-chunk p u gone g e t o he q there its
+
+    pub extends-offset : offsetOn su e t ≡ o
+    extends-offset = offset-is p u gone g e t o he q there its
+        (λ i k y. at .first i k (ap (λ (r : Rec). r .stripe) (sym (x .same-record i (let a = at .stored-there in omega arith))) ∙ y))
+
+    pub extends-piece : storedPiece sv t e ≡ storedPiece su t e
+    extends-piece =
+        let a = at .stored-there in
+        let bl : getD (zoneAt v e g .blocks) (1 + o) noChunk .block ≡ getD (zoneAt u e g .blocks) (1 + offsetOn su e t) noChunk .block =
+        sym (x .same-block o a) ∙ ap (λ (n : ℕ). getD (zoneAt u e g .blocks) (1 + n) noChunk .block) (sym extends-offset) in
+        let rc : storedRec sv t e ≡ storedRec su t e =
+        at .its-record ∙ sym (x .same-record o a) ∙ ap (recordIn p (sealedIn p u gone g) (zoneAt u e g)) (sym extends-offset)
+        ∙ sym (chunk-at p u gone g e t he q extends-has .its-record) in
+        piece-parts p v gone g t e he ∙ ap₂ mkPiece bl rc ∙ sym (piece-parts p u gone g t e he)
+
+  -- a chunk of u is in v, where v has that offset
+  pub extends-back : (e : ℕ) → e < p .N → isIn gone e ≡ false → Extends e → (t : ℕ)
+      → ((o : ℕ) → o < dataStored p (zoneAt u e g) → recordIn p (sealedIn p u gone g) (zoneAt u e g) o .stripe ≡ t → o < dataStored p (zoneAt v e g))
+      → hasChunk su t e ≡ true → hasChunk sv t e ≡ true
+  extends-back e he q x t f c =
+      let k = chunk-at p u gone g e t he q c in
+      let l = f (offsetOn su e t) (k .stored-there) (k .its-stripe) in
+      has-chunk p v gone g e t (offsetOn su e t) he q l (ap (λ (r : Rec). r .stripe) (sym (x .same-record (offsetOn su e t) l)) ∙ k .its-stripe)
+
+  -- a stripe that counts in v counts in u
+  pub extends-counts : ((e : ℕ) → e < p .N → isIn gone e ≡ false → Extends e) → (t : ℕ) → counts p gone sv t ≡ true → counts p gone su t ≡ true
+  extends-counts x t c = as! (in-all (hasChunk su t) (present p gone)
+      (λ e m. let (he, q) = present-in p gone e m in extends-has e he q (x e he q) t (counts-in p gone sv t e c he q)))
+    where
+      as! : all (hasChunk su t) (present p gone) ≡ true → counts p gone su t ≡ true
+      as! a = unfold counts in a
+
+-- and back
+pub extends-sym : (p : Params) (gone : ℕ) (v u : View) (g e : ℕ) → dataStored p (zoneAt u e g) ≤ dataStored p (zoneAt v e g) → Extends p gone v u g e → Extends p gone u v g e
+extends-sym p gone v u g e h x = record {
+  more = h;
+  same-record = λ o l. sym (x .same-record o (omega arith));
+  same-block = λ o l. sym (x .same-block o (omega arith));
+}
+
+-- ---- parity
+
+-- the drives of the data are drives
+pub data-drives-in : (p : Params) (s e : ℕ) → In e (dataDrives p s) → e < p .N
+unfolding dataDrives
+data-drives-in p s e m =
+    let (n, j, q) = map-in (dataDrive p s) (below (dataCount p)) e m in
+    subst (λ (x : ℕ). x < p .N) (sym q) (data-drive-lt p s n (below-in (dataCount p) n j))
+
+-- one segment grows, whose counted stripes were counted with the same pieces, or are made
+pub parity-grows : (p : Params) (r : Ranged p) (v u : View) (z : ℕ) → Grows p v u z → (n : ℕ) → Tidy p v n → (old : List Segment) → ParityMade p v 0 old
+    → ((t : ℕ) → t < p .S → counts p 0 (segmentOf p u 0 z) t ≡ true
+    → ((counts p 0 (segmentOf p v 0 z) t ≡ true) × ((e : ℕ) → e < p .N → storedPiece (segmentOf p v 0 z) t e ≡ storedPiece (segmentOf p u 0 z) t e))
+    ⊎ ParityAt p (segmentOf p u 0 z) t)
+    → ParityMade p u 0 old
+parity-grows p r v u z w n ti old pm f = parity-from p r v u 0 old pm (λ g s rm hs c. go g s rm hs c (ℕ-discrete z g))
+  where
+    Was : ℕ → ℕ → Type 0
+    Was g s = Remains p v 0 g × SameStripe p 0 (segmentOf p v 0 g) (segmentOf p u 0 g) s
+
+    back : (g : ℕ) → Remains p u 0 g → Remains p v 0 g
+    back g rm = ap (isMember g) (grows-remaining p r v u z w n ti) ∙ rm
+
+    serial! : segmentOf p v 0 z .serial ≡ segmentOf p u 0 z .serial
+    serial! = serial-of p r v n ti z ∙ ap headerSerial (w .same-head) ∙ sym (serial-of p r u n (grows-tidy p r v u z w n ti) z)
+
+    go : (g s : ℕ) → Remains p u 0 g → s < p .S → counts p 0 (segmentOf p u 0 g) s ≡ true → Dec (z ≡ g) → Was g s ⊎ ParityAt p (segmentOf p u 0 g) s
+    go g s rm hs c (no q) =
+        let e = zones-segment p r v u g (w .others g (remaining-low p u 0 g (is-member g (remaining p u 0) rm)) q) in
+        inl (
+          back g rm,
+          record {
+            counted-before = ap (λ (x : Segment). counts p 0 x s) e ∙ c;
+            serial-same = ap (λ (x : Segment). x .serial) e;
+            pieces-same = λ d hd. ap (λ (x : Segment). storedPiece x s d) e;
+          },
+        )
+    go g s rm hs c (yes q) = subst (λ (x : ℕ). Was x s ⊎ ParityAt p (segmentOf p u 0 x) s) q
+        (⊎-elim (λ k. inl (subst (λ (x : ℕ). Remains p v 0 x) (sym q) (back g rm), record { counted-before = k .0; serial-same = serial!; pieces-same = k .1 })) (λ m. inr m)
+        (f s hs (subst (λ (x : ℕ). counts p 0 (segmentOf p u 0 x) s ≡ true) (sym q) c)))

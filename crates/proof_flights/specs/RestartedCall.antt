@@ -1,0 +1,283 @@
+-- The calls restart and rebuild: after a restart nothing flies, and the stripes are those found or moved; a rebuild stores on the missing drive alone. Assumes nothing.
+use mathlib.Core.Path.{_≡_, refl, sym, ap, _∙_, subst}
+use mathlib.Core.List.{List, [], _++_}
+use mathlib.Core.Bool.{true, false, not, _&&_, _||_}
+use Prim.Native.Nat.{ℕ, _<_}
+use native.Mathlib.Omega.{arith}
+use borrow.Author.Tests.{eqb-true, eqb-false, ltb-true, not-false}
+use lib.Dec.{ltb, eqb}
+use Rattle.defs.specs.declared.Params.{Params}
+use Rattle.defs.specs.declared.Answer.the-variants.{Rebuilt}
+use Rattle.defs.specs.Answers.{kind, isRefused, isCut, finished}
+use Rattle.defs.specs.Calls.{Plan, mkPlan, After}
+use Rattle.defs.specs.Counts.{lastCount}
+use Rattle.defs.specs.Drives.{View, Store, storeView, Disk, storeDisk, storeAll}
+use Rattle.defs.specs.Engine.Call.{restart, rebuild}
+use Rattle.defs.specs.Engine.{storeCount, lentBlock, verdict, lentOk, callOn, callDisk}
+use Rattle.defs.specs.History.{endsRun}
+use Rattle.defs.specs.Lists.{isMember, isNil, flat}
+use Rattle.defs.specs.Memory.{Memory, idleState, filledIn}
+use Rattle.defs.specs.Params.{inRange, named, present}
+use Rattle.defs.specs.Rebuild.{namesMissing, rebuildChecks, rebuildStores, rebuildVerdict}
+use Rattle.defs.specs.Restart.{freeZones, dropStores, mendStores, restartStores, restartMemory, rewrites, restartPlan, restartVerdict}
+use Rattle.defs.specs.Segments.{lowDrive, remaining, Segment, segmentOf, segments, recsOn, hasChunk, counts, greatestSerial, unsealed}
+use Rattle.laws.specs.Geometry.{Ranged, ranged}
+use Rattle.laws.specs.Ranges.{Test, test, and-left, and-right}
+use Rattle.laws.specs.Ranges.Test.{yes!, no! }
+use Rattle.laws.specs.Stores.{storeAll-append}
+use Rattle.views.specs.Views.{Whole, seen, view-stores}
+use Rattle.spec_demands.specs.Layouts.{Remains, foundCounted}
+use Rattle.spec_demands.specs.Tables.{Pending, pendingBy, stillPending, pendingAfter, foundAfter}
+use Rattle.tablesay.specs.Accept.{Accepted}
+use Rattle.tablesay.specs.Checks.{Passes}
+use Rattle.tablesay.specs.Dropping.{drop-roomy, drop-within}
+use Rattle.tablesay.specs.Frame.{Agree, core, same-remaining, same-core}
+use Rattle.tablesay.specs.Idle.{whole-of}
+use Rattle.tablesay.specs.Joins.{roomy-append, within-append}
+use Rattle.tablesay.specs.Losing.{named-in, named-some, low-present}
+use Rattle.tablesay.specs.Members.{In, is-member}
+use Rattle.tablesay.specs.Outcomes.{Ended, ended, refusal-kind, refused-unfinished, cut-unfinished, cut-cut}
+use Rattle.tablesay.specs.Outcomes.Ended.{ended-refused, ended-done, ended-cut}
+use Rattle.tablesay.specs.Range.{capacity-word}
+use Rattle.tablesay.specs.Rebuilding.{rebuild-roomy, rebuild-within, rebuild-agrees}
+use Rattle.tablesay.specs.Restarting.{mended, serials-small}
+use Rattle.tablesay.specs.Run.{flies, Run}
+use Rattle.tablesay.specs.Segs.{remaining-low}
+use Rattle.tablesay.specs.Slots.{none-flies}
+use Rattle.tablesay.specs.Starting.{memory-missing, startChecks, startPlan, Begins, begins}
+use Rattle.tablesay.specs.Tables.{zero-at}
+use Rattle.tablesay.specs.Tests.{clash, or-right, or-true-right, cond-true, cond-false}
+use Rattle.tablesay.specs.Zones.{Shaped, all-fit}
+use Rattle.proof_flights.specs.Flown.{Flights, Found, Flown}
+use Rattle.proof_flights.specs.Idled.{quiet-refused, flown-still, flown-ended}
+use Rattle.proof_flights.specs.Written.{seen-after, flown-of}
+use Rattle.proof_flights.specs.RestartedViews.{found-in, settles-parities, settles-mended}
+
+-- ---- a drive is missing
+
+-- all is known where every counted stripe was found
+pub flown-found : (p : Params) (k : Disk) (m : Memory) (ws : List Pending) (old : List Segment) → (m .state .missing ≡ 0 → ⊥)
+    → Found p (seen p k) (m .state .missing) old → Flown p k m ws old
+flown-found p k m ws old n f = record {
+  flights = λ e. absurd (n e);
+  parities = λ g s rm hs c q. clash (f g s rm hs c) q;
+  all-found = λ x g s rm hs c. f g s rm hs c;
+}
+
+-- ---- restart
+
+-- nothing flies after it
+idle-flies : (p : Params) (v : View) (gone : ℕ) (fl : List ℕ) (i : ℕ) → flies (restartMemory p v gone fl .state) i ≡ false
+idle-flies p v gone fl i = none-flies (restartMemory p v gone fl .state) i as!
+  where
+    as! : filledIn (restartMemory p v gone fl .state) i ≡ 0
+    as! = unfold restartMemory filledIn idleState in zero-at 8 i
+
+idle-flights : (p : Params) (v u : View) (gone : ℕ) (fl fm : List ℕ) → Flights p u (restartMemory p v gone fl .state) fm []
+idle-flights p v u gone fl fm = record {
+  landed-is = λ i d hi f. clash f (idle-flies p v gone fl i);
+  parity-full = λ i hi f. clash f (idle-flies p v gone fl i);
+  parity-ready = λ i hi f. clash f (idle-flies p v gone fl i);
+  pending-is = λ i hi f. clash f (idle-flies p v gone fl i);
+  writes-low = λ i k hi f. clash f (idle-flies p v gone fl i);
+  pending-flies = λ j hj. absurd (let bad : ⊥ = omega arith in bad);
+}
+
+module _ (p : Params) (k : Disk) (m : Memory) (d : ℕ) (shk : Whole p k → Shaped p (seen p k)) (b : Begins p k m d) where
+  abbrev v : View
+  v = seen p k
+
+  abbrev plan : Plan
+  plan = startPlan p k m d
+
+  rg : Ranged p
+  rg = ranged p (b .in-range!)
+
+  w : Whole p k
+  w = whole-of p k m (b .lent!)
+
+  sh : Shaped p v
+  sh = shk w
+
+  plan-stores : plan .stores ≡ restartStores p (named d) (segments p v (named d))
+  unfolding restartPlan
+  plan-stores = refl
+
+  plan-memory : plan .memory ≡ restartMemory p (storeAll storeView (plan .stores) v) (named d) (m .inflight)
+  unfolding restartPlan
+  plan-memory = refl
+
+  plan-missing : plan .memory .state .missing ≡ named d
+  plan-missing = ap (λ (x : Memory). x .state .missing) plan-memory ∙ memory-missing p (storeAll storeView (plan .stores) v) (named d) (m .inflight)
+
+  -- it names a drive: nothing is stored
+  lost-flown : eqb (named d) 0 ≡ false → Flown p (storeAll (storeDisk p) (plan .stores) k) (plan .memory) [] (segments p v (named d))
+  lost-flown q = subst (λ (x : Disk). Flown p x (plan .memory) [] (segments p v (named d))) (sym drives-same)
+      (flown-found p k (plan .memory) [] (segments p v (named d)) (λ e. eqb-false (named d) 0 q (sym plan-missing ∙ e))
+      (λ g s rm hs c. found g s rm c))
+    where
+      none! : restartStores p (named d) (segments p v (named d)) ≡ []
+      none! = unfold restartStores in
+          cond-false (eqb (named d) 0) (dropStores p (segments p v (named d)) ++ flat (mendStores p (segments p v (named d))) (unsealed (segments p v (named d)))) [] q
+
+      nothing : storeAll (storeDisk p) [] k ≡ k
+      nothing = unfold storeAll in refl
+
+      drives-same : storeAll (storeDisk p) (plan .stores) k ≡ k
+      drives-same = ap (λ (l : List Store). storeAll (storeDisk p) l k) (plan-stores ∙ none!) ∙ nothing
+
+      found : (g s : ℕ) → Remains p v (plan .memory .state .missing) g → counts p (plan .memory .state .missing) (segmentOf p v (plan .memory .state .missing) g) s ≡ true
+          → foundCounted p (plan .memory .state .missing) (segments p v (named d)) (segmentOf p v (plan .memory .state .missing) g .serial) s ≡ true
+      found g s = subst (λ (n : ℕ). Remains p v n g → counts p n (segmentOf p v n g) s ≡ true → foundCounted p n (segments p v (named d)) (segmentOf p v n g .serial) s ≡ true)
+          (sym plan-missing) (found-in p v (named d) g s)
+
+  -- it names none
+  well-flown : named d ≡ 0 → Flown p (storeAll (storeDisk p) (plan .stores) k) (plan .memory) [] (segments p v (named d))
+  well-flown nd =
+      let acc : Accepted p v 0 = subst (λ (g : ℕ). Accepted p v g) nd (b .accepted!) in
+      let gs = segments p v 0 in
+      let c6 = subst (λ (g : ℕ). rewrites p g (segments p v g) && eqb (greatestSerial (segments p v g)) lastCount ≡ false) nd (b .sixth!) in
+      let c8 = subst (λ (g : ℕ). rewrites p g (segments p v g) && isNil (freeZones p (segments p v g)) ≡ false) nd (b .eighth!) in
+      let bd = serials-small p rg v sh in
+      let ds = dropStores p gs in
+      let ts = flat (mendStores p gs) (unsealed gs) in
+      let va = storeAll storeView ds v in
+      let u = storeAll storeView ts va in
+      let md = mended p rg v sh acc c6 c8 bd in
+      let es : plan .stores ≡ ds ++ ts = plan-stores ∙ ap (λ (g : ℕ). restartStores p g (segments p v g)) nd ∙ zero! in
+      let ev : seen p (storeAll (storeDisk p) (plan .stores) k) ≡ u =
+      ap (λ (l : List Store). seen p (storeAll (storeDisk p) l k)) es
+      ∙ view-stores p k (ds ++ ts) (capacity-word p rg) w (all-fit p v (ds ++ ts) (sh .sized) (within-append p ds ts (drop-within p rg v sh acc) (md .mend-within))
+      (roomy-append p v ds ts (sh .sized) (drop-roomy p rg v sh acc) (md .mend-roomy)))
+      ∙ storeAll-append storeView ds ts v in
+      subst (λ (x : ℕ). Flown p (storeAll (storeDisk p) (plan .stores) k) (plan .memory) [] (segments p v x)) (sym nd)
+      (flown-of p (storeAll (storeDisk p) (plan .stores) k) (plan .memory) [] gs u ev (plan-missing ∙ nd)
+      (subst (λ (x : Memory). Flights p u (x .state) (plan .memory .inflight) []) (sym plan-memory)
+      (idle-flights p (storeAll storeView (plan .stores) v) u (named d) (m .inflight) (plan .memory .inflight)))
+      (settles-parities p rg v sh acc u (md .mend-bound) (md .mend-tidy) (settles-mended p rg v sh acc c6 c8 bd)))
+    where
+      zero! : restartStores p 0 (segments p v 0) ≡ dropStores p (segments p v 0) ++ flat (mendStores p (segments p v 0)) (unsealed (segments p v 0))
+      zero! = unfold restartStores in refl
+
+  start-flown : Flown p (storeAll (storeDisk p) (plan .stores) k) (plan .memory) [] (segments p v (named d))
+  start-flown = go (test (eqb (named d) 0))
+    where
+      go : Test (eqb (named d) 0) → Flown p (storeAll (storeDisk p) (plan .stores) k) (plan .memory) [] (segments p v (named d))
+      go (yes! q) = well-flown (eqb-true (named d) 0 q)
+      go (no! q) = lost-flown q
+
+restart-ends : (p : Params) (k : Disk) (m : Memory) (d n : ℕ) → Ended p k m (startChecks p k m d) (startPlan p k m d) (callDisk p k m (restart d n))
+unfolding callDisk callOn verdict storeCount lentBlock restartVerdict
+restart-ends p k m d n = ended p k m (startChecks p k m d) (startPlan p k m d) n []
+
+-- after a restart that finished, on any bytes
+pub flown-restart : (p : Params) (k : Disk) (m : Memory) (d n : ℕ) → (Whole p k → Shaped p (seen p k)) → finished (callDisk p k m (restart d n) .answer) ≡ true
+    → Flown p (callDisk p k m (restart d n) .drives) (callDisk p k m (restart d n) .memory) [] (segments p (seen p k) (named d))
+flown-restart p k m d n sh q = go (restart-ends p k m d n)
+  where
+    go : Ended p k m (startChecks p k m d) (startPlan p k m d) (callDisk p k m (restart d n))
+        → Flown p (callDisk p k m (restart d n) .drives) (callDisk p k m (restart d n) .memory) [] (segments p (seen p k) (named d))
+    go (ended-refused a e f g h) = clash q (ap finished f ∙ refused-unfinished a (refusal-kind (startChecks p k m d) a e))
+    go (ended-done c f g h) = subst (λ (x : Disk). Flown p x (callDisk p k m (restart d n) .memory) [] (segments p (seen p k) (named d))) (sym g)
+        (subst (λ (x : Memory). Flown p (storeAll (storeDisk p) (startPlan p k m d .stores) k) x [] (segments p (seen p k) (named d))) (sym h) (start-flown p k m d sh (begins p k m d c)))
+    go (ended-cut c f) = clash q (ap finished f ∙ cut-unfinished)
+
+-- a restart in a run, finished or refused
+pub flown-restart-step : (p : Params) (k : Disk) (m : Memory) (ws : List Pending) (old : List Segment) (d n : ℕ) → (Whole p k → Shaped p (seen p k)) → Flown p k m ws old
+    → isCut (callDisk p k m (restart d n) .answer) ≡ false
+    → Flown p (callDisk p k m (restart d n) .drives) (callDisk p k m (restart d n) .memory) (pendingAfter (restart d n) (callDisk p k m (restart d n) .answer) ws)
+    (foundAfter p (seen p k) (restart d n) (callDisk p k m (restart d n) .answer) old)
+flown-restart-step p k m ws old d n sh f nc = go (restart-ends p k m d n) (test (finished (callDisk p k m (restart d n) .answer)))
+  where
+    r : After Disk
+    r = callDisk p k m (restart d n)
+
+    ends! : finished (r .answer) ≡ true → pendingAfter (restart d n) (r .answer) ws ≡ []
+    ends! q = unfold pendingAfter endsRun in cond-true (isCut (r .answer) || finished (r .answer)) [] (stillPending (restart d n) (r .answer) ws ++ pendingBy (restart d n) (r .answer))
+        (or-true-right (isCut (r .answer)) (finished (r .answer)) q)
+
+    found! : finished (r .answer) ≡ true → foundAfter p (seen p k) (restart d n) (r .answer) old ≡ segments p (seen p k) (named d)
+    found! q = unfold foundAfter in cond-true (finished (r .answer)) (segments p (seen p k) (named d)) old q
+
+    old! : finished (r .answer) ≡ false → foundAfter p (seen p k) (restart d n) (r .answer) old ≡ old
+    old! q = unfold foundAfter in cond-false (finished (r .answer)) (segments p (seen p k) (named d)) old q
+
+    go : Ended p k m (startChecks p k m d) (startPlan p k m d) (callDisk p k m (restart d n)) → Test (finished (callDisk p k m (restart d n) .answer))
+        → Flown p (callDisk p k m (restart d n) .drives) (callDisk p k m (restart d n) .memory) (pendingAfter (restart d n) (callDisk p k m (restart d n) .answer) ws)
+        (foundAfter p (seen p k) (restart d n) (callDisk p k m (restart d n) .answer) old)
+    go x (yes! q) =
+        subst (λ (l : List Pending). Flown p (r .drives) (r .memory) l (foundAfter p (seen p k) (restart d n) (r .answer) old)) (sym (ends! q))
+        (subst (λ (l : List Segment). Flown p (r .drives) (r .memory) [] l) (sym (found! q)) (flown-restart p k m d n sh q))
+    go (ended-refused a e ea ek em) (no! q) =
+        subst (λ (l : List Segment). Flown p (r .drives) (r .memory) (pendingAfter (restart d n) (r .answer) ws) l) (sym (old! q))
+        (flown-still p k m ws old f (restart d n) r ek em (quiet-refused (r .answer) (ap isRefused ea ∙ refusal-kind (startChecks p k m d) a e)))
+    go (ended-done c ea ek em) (no! q) = clash (ap finished ea ∙ done!) q
+      where
+        done! : finished (startPlan p k m d .answer) ≡ true
+        done! = unfold restartPlan finished kind in refl
+    go (ended-cut c ea) (no! q) = clash (ap isCut ea ∙ cut-cut) nc
+
+-- ---- rebuild
+
+-- what counts, and under which serial, is seen on the drives that are present
+core-counts : (p : Params) (gone : ℕ) (g : Segment) (s : ℕ) → counts p gone g s ≡ counts p gone (core g) s
+unfolding core counts hasChunk recsOn
+core-counts p gone g s = refl
+
+core-serial : (g : Segment) → g .serial ≡ core g .serial
+unfolding core
+core-serial g = refl
+
+found-agrees : (p : Params) (gone : ℕ) (v u : View) (old : List Segment) → In (lowDrive p gone) (present p gone) → Agree p gone v u
+    → Found p v gone old → Found p u gone old
+found-agrees p gone v u old low ag f g s rm hs c =
+    let er = same-remaining p gone v u low ag in
+    let rv : Remains p v gone g = ap (isMember g) er ∙ rm in
+    let ec = same-core p gone v u low ag g (remaining-low p v gone g (is-member g (remaining p v gone) rv)) in
+    let sx = segmentOf p v gone g in
+    let sy = segmentOf p u gone g in
+    let es : sx .serial ≡ sy .serial = core-serial sx ∙ ap (λ (x : Segment). x .serial) ec ∙ sym (core-serial sy) in
+    let cx : counts p gone sx s ≡ true = core-counts p gone sx s ∙ ap (λ (x : Segment). counts p gone x s) ec ∙ sym (core-counts p gone sy s) ∙ c in
+    ap (λ (n : ℕ). foundCounted p gone old n s) (sym es) ∙ f g s rv hs cx
+
+module _ (p : Params) (k : Disk) (m : Memory) (u : Run p k m) (d : ℕ) where
+  abbrev plan′ : Plan
+  plan′ = mkPlan (rebuildStores p d (segments p (seen p k) (named d))) Rebuilt m []
+
+  rebuild-ends : (n : ℕ) → Ended p k m (rebuildChecks p (lentOk p k m) (seen p k) m d (segments p (seen p k) (named d))) plan′ (callDisk p k m (rebuild d n))
+  unfolding callDisk callOn verdict storeCount lentBlock rebuildVerdict
+  rebuild-ends n = ended p k m (rebuildChecks p (lentOk p k m) (seen p k) m d (segments p (seen p k) (named d))) plan′ n []
+
+  -- it is of the missing drive
+  names-it : Passes (rebuildChecks p (lentOk p k m) (seen p k) m d (segments p (seen p k) (named d))) → (d < p .N) × (m .state .missing ≡ named d)
+  unfolding rebuildChecks namesMissing
+  names-it c =
+      let x = ltb d (p .N) in
+      let y = eqb (m .state .missing) (named d) in
+      let t = not-false (x && y) (or-right (not (inRange p)) (not (x && y)) (c .0)) in
+      (ltb-true d (p .N) (and-left x y t), eqb-true (m .state .missing) (named d) (and-right x y t))
+
+  rebuilt-flown : d < p .N → m .state .missing ≡ named d → (ws qs : List Pending) (old : List Segment) → Flown p k m ws old → Flown p (storeAll (storeDisk p) (plan′ .stores) k) m qs old
+  rebuilt-flown hd q ws qs old f =
+      let rg = ranged p (u .base .ranged) in
+      let gone = m .state .missing in
+      let v = seen p k in
+      let v′ = storeAll storeView (plan′ .stores) v in
+      let sh = u .base .shaped in
+      let lost = named-in p rg d hd in
+      let ev : seen p (storeAll (storeDisk p) (plan′ .stores) k) ≡ v′ =
+      seen-after p k m u (plan′ .stores) (rebuild-roomy p rg v sh d hd lost) (rebuild-within p rg v sh d hd lost) in
+      let ag : Agree p gone v v′ = subst (λ (y : ℕ). Agree p y v v′) (sym q) (rebuild-agrees p rg v sh d hd lost) in
+      let low : In (lowDrive p gone) (present p gone) = subst (λ (y : ℕ). In (lowDrive p y) (present p y)) (sym q) (low-present p rg d hd) in
+      let n : gone ≡ 0 → ⊥ = λ e. eqb-false (named d) 0 (named-some p rg d hd) (sym q ∙ e) in
+      flown-found p (storeAll (storeDisk p) (plan′ .stores) k) m qs old n
+      (subst (λ (y : View). Found p y gone old) (sym ev) (found-agrees p gone v v′ old low ag (f .all-found n)))
+
+-- what holds of the flights holds after an uncut rebuild
+pub flown-rebuild : (p : Params) (k : Disk) (m : Memory) (ws : List Pending) (old : List Segment) (d n : ℕ) → Run p k m → Flown p k m ws old
+    → isCut (callDisk p k m (rebuild d n) .answer) ≡ false
+    → Flown p (callDisk p k m (rebuild d n) .drives) (callDisk p k m (rebuild d n) .memory) (pendingAfter (rebuild d n) (callDisk p k m (rebuild d n) .answer) ws) old
+flown-rebuild p k m ws old d n u f nc =
+    let gs = segments p (seen p k) (named d) in
+    flown-ended p k m ws old f (rebuild d n) (rebuildChecks p (lentOk p k m) (seen p k) m d gs) (mkPlan (rebuildStores p d gs) Rebuilt m []) (callDisk p k m (rebuild d n))
+    (λ c. let (hd, q) = names-it p k m u d c in rebuilt-flown p k m u d hd q ws (pendingAfter (rebuild d n) Rebuilt ws) old f) nc (rebuild-ends p k m u d n)

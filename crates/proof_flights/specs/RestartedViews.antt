@@ -1,0 +1,198 @@
+-- After a restart with none missing every counted stripe was found so, or its parity is made: what is dropped goes, footers
+-- come to a segment whose stripes all count, and a rewritten segment has its parity worked out anew. Assumes nothing.
+use mathlib.Core.Path.{_≡_, refl, sym, ap, _∙_, subst}
+use mathlib.Core.List.{List, [], _∷_, _++_, map, append-nil}
+use mathlib.Core.Bool.{Bool, true, false, not, _&&_}
+use mathlib.Core.Logic.{_⊎_, inl, inr, ⊎-elim}
+use Prim.Native.Nat.{ℕ, suc, _^_, _<_}
+use native.Mathlib.Decide.{ℕ-discrete}
+use native.Mathlib.Omega.{arith}
+use borrow.Author.Tests.{eqb-true, eqb-false, not-true}
+use lib.Dec.{eqb}
+use lib.ListN.{length, getD}
+use Rattle.defs.specs.declared.Params.{Params}
+use Rattle.defs.specs.Counts.{lastCount}
+use Rattle.defs.specs.Drives.{Chunk, noChunk, Zone, View, zoneAt, chunkAt, Store, storeView, storeAll, zoneOn, sealedIn}
+use Rattle.defs.specs.Layout.{headerSerial}
+use Rattle.defs.specs.Lists.{below, any, keep, isNil, flat, firstOr}
+use Rattle.defs.specs.Restart.{freeZones, isWhole, isRagged, missingFooters, rewriteStores, dropStores, mendStores, rewrites}
+use Rattle.defs.specs.Segments.{headerAt, remaining, Segment, segmentOf, segments, counts, counted, greatestSerial, unsealed}
+use Rattle.laws.specs.Geometry.{Ranged}
+use Rattle.laws.specs.Ranges.{Test, test, and-both, length-below, keep-hit, keep-miss, length-keep}
+use Rattle.laws.specs.Ranges.Test.{yes!, no! }
+use Rattle.spec_demands.specs.Layouts.{Remains, foundCounted, ParityMade}
+use Rattle.tablesay.specs.Accept.{Accepted}
+use Rattle.tablesay.specs.Dropping.{free-are, drop-same, drop-used}
+use Rattle.tablesay.specs.Joins.{stores-none}
+use Rattle.tablesay.specs.Members.{In, in-map, in-any, keep-in, in-below, below-in, first-in, is-member, member-is}
+use Rattle.tablesay.specs.Mending.{lack, has-pointer, b-zone, b-other}
+use Rattle.tablesay.specs.Puts.{puts-old}
+use Rattle.tablesay.specs.Rewriting.{same-else, was! }
+use Rattle.tablesay.specs.Run.{usedAt, Tidy}
+use Rattle.tablesay.specs.Segs.{serial-is}
+use Rattle.tablesay.specs.Settled.{low-first, remains-is-used, SameZones, zones-used, zones-segment}
+use Rattle.tablesay.specs.Tables.{remains, in-remaining}
+use Rattle.tablesay.specs.Tests.{clash, eqb-self}
+use Rattle.tablesay.specs.Unsealed.{Loose, loose}
+use Rattle.tablesay.specs.Unsealed.Loose.{loose-none, loose-one}
+use Rattle.tablesay.specs.Zones.{Shaped}
+use Rattle.proof_flights.specs.Pieces.{ParityAt}
+use Rattle.proof_flights.specs.RestartedMoved.{rewritten-made}
+
+-- a test that as many pass as there are is passed by all
+keep-full : {A : Type 0} (f : A → Bool) (l : List A) → length (keep f l) ≡ length l → (a : A) → In a l → f a ≡ true
+keep-full f [] e a m = absurd m
+keep-full f (b ∷ l) e a m = go (test (f b)) m (keep-full f l)
+  where
+    go : Test (f b) → (a ≡ b) ⊎ In a l → (length (keep f l) ≡ length l → (c : _) → In c l → f c ≡ true) → f a ≡ true
+    go (yes! q) (inl x) ih = ap f x ∙ q
+    go (yes! q) (inr x) ih = ih (let k = ap length (sym (keep-hit f b l q)) ∙ e in let w : length (keep f l) ≡ length l = omega arith in w) a x
+    go (no! q) x ih = absurd (let k = ap length (sym (keep-miss f b l q)) ∙ e in let w = length-keep f l in let bad : ⊥ = omega arith in bad)
+
+-- a counted stripe of a view is found in it
+pub found-in : (p : Params) (v : View) (gone g s : ℕ) → Remains p v gone g → counts p gone (segmentOf p v gone g) s ≡ true
+    → foundCounted p gone (segments p v gone) (segmentOf p v gone g .serial) s ≡ true
+unfolding foundCounted segments
+found-in p v gone g s rm c =
+    let x = segmentOf p v gone g in
+    in-any (λ (y : Segment). eqb (y .serial) (x .serial) && counts p gone y s) (map (segmentOf p v gone) (remaining p v gone)) x
+    (in-map (segmentOf p v gone) (remaining p v gone) g (is-member g (remaining p v gone) rm)) (and-both (eqb (x .serial) (x .serial)) (counts p gone x s) (eqb-self (x .serial)) c)
+
+module _ (p : Params) (r : Ranged p) (v : View) (sh : Shaped p v) (acc : Accepted p v 0) where
+  abbrev gs : List Segment
+  gs = segments p v 0
+
+  abbrev va : View
+  va = storeAll storeView (dropStores p gs) v
+
+  -- every counted stripe was found, or is made
+  abbrev pub Settles : View → Type 0
+  Settles u = (y s : ℕ) → y < p .Z → usedAt u y ≡ true → s < p .S → counts p 0 (segmentOf p u 0 y) s ≡ true
+      → (foundCounted p 0 (segments p v 0) (segmentOf p u 0 y .serial) s ≡ true) ⊎ ParityAt p (segmentOf p u 0 y) s
+
+  pub settles-parities : (u : View) (b : ℕ) → Tidy p u b → Settles u → ParityMade p u 0 (segments p v 0)
+  settles-parities u b t f = λ g s rm hs c n.
+      let (hg, q) = remains-is-used p r u b t g (is-member g (remaining p u 0) rm) in
+      ⊎-elim (λ y. clash y n) (λ m. m) (f g s hg q hs c)
+
+  remained : (y : ℕ) → y < p .Z → remains p v 0 y ≡ true → Remains p v 0 y
+  remained y hy k = member-is y (remaining p v 0) (in-remaining p v 0 y hy k)
+
+  -- a segment that stayed
+  same-found : (u : View) (y s : ℕ) → y < p .Z → remains p v 0 y ≡ true → SameZones p v u y → counts p 0 (segmentOf p u 0 y) s ≡ true
+      → foundCounted p 0 gs (segmentOf p u 0 y .serial) s ≡ true
+  same-found u y s hy k sm c =
+      let e = zones-segment p r v u y sm in
+      subst (λ (x : Segment). foundCounted p 0 gs (x .serial) s ≡ true) e (found-in p v 0 y s (remained y hy k) (ap (λ (x : Segment). counts p 0 x s) e ∙ c))
+
+  settles-drop : Settles va
+  settles-drop y s hy q hs c = let k = sym (drop-used p r v sh acc y hy) ∙ q in inl (same-found va y s hy k (drop-same p r v sh acc y hy k) c)
+
+  module _ (g : ℕ) (hg : g < p .Z) (kg : remains p v 0 g ≡ true) (ng : sealedIn p v 0 g ≡ false)
+      (oth : (y : ℕ) → y < p .Z → remains p v 0 y ≡ true → (y ≡ g → ⊥) → sealedIn p v 0 y ≡ true) where
+    abbrev x : Segment
+    x = segmentOf p v 0 g
+
+    -- ---- missing footers
+
+    module _ (wh : isWhole p x ≡ true) where
+      abbrev vb : View
+      vb = storeAll storeView (missingFooters p x) va
+
+      all-count : (s : ℕ) → s < p .S → counts p 0 x s ≡ true
+      all-count s h = keep-full (counts p 0 x) (below (p .S)) (full! wh ∙ sym (length-below (p .S))) s (in-below (p .S) s h)
+        where
+          full! : isWhole p x ≡ true → length (keep (counts p 0 x) (below (p .S))) ≡ p .S
+          full! q = unfold isWhole counted in eqb-true (length (keep (counts p 0 x) (below (p .S)))) (p .S) q
+
+      h0 : 0 < p .N
+      h0 = omega (arith, r .drives-low)
+
+      head : headerAt vb 0 g ≡ headerAt v 0 g
+      head = as! (ap (λ (q : Zone). getD (q .blocks) 0 noChunk .block) (b-zone p r v sh acc g hg kg ng oth wh 0 h0)
+          ∙ ap (λ (c : Chunk). c .block) (puts-old 0 g (lack p r v sh acc g hg kg ng oth 0) (zoneAt v 0 g) 0 (let a = has-pointer p r v sh acc g hg kg ng oth wh 0 h0 in omega arith)))
+        where
+          as! : getD (zoneAt vb 0 g .blocks) 0 noChunk .block ≡ getD (zoneAt v 0 g .blocks) 0 noChunk .block → headerAt vb 0 g ≡ headerAt v 0 g
+          as! e = unfold headerAt chunkAt zoneOn in e
+
+      serial! : segmentOf p vb 0 g .serial ≡ x .serial
+      serial! =
+          serial-is p vb 0 g ∙ ap (λ (d : ℕ). headerSerial (headerAt vb d g)) (low-first p r) ∙ ap headerSerial head
+          ∙ sym (serial-is p v 0 g ∙ ap (λ (d : ℕ). headerSerial (headerAt v d g)) (low-first p r))
+
+      settles-footers : Settles vb
+      settles-footers y s hy q hs c = go (ℕ-discrete g y)
+        where
+          go : Dec (g ≡ y) → (foundCounted p 0 (segments p v 0) (segmentOf p vb 0 y .serial) s ≡ true) ⊎ ParityAt p (segmentOf p vb 0 y) s
+          go (yes e) = inl (subst (λ (n : ℕ). foundCounted p 0 (segments p v 0) (segmentOf p vb 0 n .serial) s ≡ true) e
+              (ap (λ (n : ℕ). foundCounted p 0 (segments p v 0) n s) serial! ∙ found-in p v 0 g s (remained g hg kg) (all-count s hs)))
+          go (no n) =
+              let so = b-other p r v sh acc g hg kg ng oth wh y hy n in
+              let k = sym (drop-used p r v sh acc y hy) ∙ zones-used p r va vb y so ∙ q in
+              inl (same-found vb y s hy k (λ d hd. drop-same p r v sh acc y hy k d hd ∙ so d hd) c)
+
+    -- ---- the rewrite
+
+    module _ (z0 : ℕ) (hz0 : z0 < p .Z) (fz : remains p v 0 z0 ≡ false) (fit : suc (greatestSerial (segments p v 0)) < 256 ^ 8) (nw : isWhole p x ≡ false) where
+      abbrev vc : View
+      vc = storeAll storeView (rewriteStores p x z0 (suc (greatestSerial gs))) va
+
+      settles-rewrite : Settles vc
+      settles-rewrite y s hy q hs c = ⊎-elim
+          (λ e. inr (subst (λ (n : ℕ). ParityAt p (segmentOf p vc 0 n) s) (sym e)
+          (rewritten-made p r v sh acc g hg kg ng oth z0 hz0 fz fit nw s (subst (λ (n : ℕ). counts p 0 (segmentOf p vc 0 n) s ≡ true) e c))))
+          (λ k. inl (same-found vc y s hy (k .0) (λ d hd. drop-same p r v sh acc y hy (k .0) d hd ∙ same-else p r v sh acc g hg kg ng oth z0 hz0 fz fit y hy (k .1 .0) (k .1 .1) d hd) c))
+          (was! p r v sh acc g hg kg ng oth z0 hz0 fz fit nw y hy q)
+
+    -- ---- in each case
+
+    module _ (us : unsealed gs ≡ segmentOf p v 0 g ∷ []) (c6 : rewrites p 0 gs && eqb (greatestSerial gs) lastCount ≡ false)
+        (c8 : rewrites p 0 gs && isNil (freeZones p gs) ≡ false) (bd : greatestSerial gs < 256 ^ 8) where
+      abbrev After : List Store → Type 0
+      After l = Settles (storeAll storeView l va)
+
+      settles-one : Settles (storeAll storeView (mendStores p gs x) va)
+      settles-one = go (test (isWhole p x)) (test (isRagged p x))
+        where
+          whole! : isWhole p x ≡ true → mendStores p gs x ≡ missingFooters p x
+          whole! q = unfold mendStores in rw q
+
+          plain! : isWhole p x ≡ false → isRagged p x ≡ false → mendStores p gs x ≡ []
+          plain! q w = unfold mendStores in rw (q, w)
+
+          ragged! : isWhole p x ≡ false → isRagged p x ≡ true → mendStores p gs x ≡ rewriteStores p x (firstOr 0 (freeZones p gs)) (suc (greatestSerial gs))
+          ragged! q w = unfold mendStores in rw (q, w)
+
+          rewrites! : isRagged p x ≡ true → rewrites p 0 gs ≡ true
+          rewrites! q = unfold rewrites in (ap (any (isRagged p)) us ∙ in-any (isRagged p) (x ∷ []) x (inl refl) q)
+
+          go : Test (isWhole p x) → Test (isRagged p x) → Settles (storeAll storeView (mendStores p gs x) va)
+          go (yes! q) w = subst (λ (l : List Store). After l) (sym (whole! q)) (settles-footers q)
+          go (no! q) (no! w) = subst (λ (l : List Store). After l) (sym (plain! q w)) (subst (λ (u : View). Settles u) (sym (stores-none va)) settles-drop)
+          go (no! q) (yes! w) =
+              let rw! = rewrites! w in
+              let n6 : eqb (greatestSerial gs) lastCount ≡ false = sym (ap (λ (b : Bool). b && eqb (greatestSerial gs) lastCount) rw!) ∙ c6 in
+              let n8 : isNil (freeZones p gs) ≡ false = sym (ap (λ (b : Bool). b && isNil (freeZones p gs)) rw!) ∙ c8 in
+              let z0 = firstOr 0 (freeZones p gs) in
+              let m : In z0 (keep (λ z. not (remains p v 0 z)) (below (p .Z))) = subst (λ (l : List ℕ). In z0 l) (free-are p r v sh acc) (first-in (freeZones p gs) 0 n8) in
+              let (i, f) = keep-in (λ z. not (remains p v 0 z)) (below (p .Z)) z0 m in
+              let ne : ¬ (greatestSerial gs ≡ lastCount) = eqb-false (greatestSerial gs) lastCount n6 in
+              subst (λ (l : List Store). After l) (sym (ragged! q w))
+              (settles-rewrite z0 (below-in (p .Z) z0 i) (not-true (remains p v 0 z0) f) (let b = bd in omega arith) q)
+
+  pub settles-mended : rewrites p 0 gs && eqb (greatestSerial gs) lastCount ≡ false → rewrites p 0 gs && isNil (freeZones p gs) ≡ false → greatestSerial gs < 256 ^ 8
+      → Settles (storeAll storeView (flat (mendStores p gs) (unsealed gs)) va)
+  settles-mended c6 c8 bd = go (loose p r v sh acc)
+    where
+      go : Loose p v → Settles (storeAll storeView (flat (mendStores p gs) (unsealed gs)) va)
+      go (loose-none e f) = subst (λ (l : List Store). Settles (storeAll storeView l va)) (sym (ap (flat (mendStores p gs)) e ∙ none!))
+          (subst (λ (u : View). Settles u) (sym (stores-none va)) settles-drop)
+        where
+          none! : flat (mendStores p gs) [] ≡ []
+          none! = unfold flat in refl
+      go (loose-one g hg kg ng us oth) =
+          subst (λ (l : List Store). Settles (storeAll storeView l va)) (sym (ap (flat (mendStores p gs)) us ∙ one! (segmentOf p v 0 g) ∙ append-nil (mendStores p gs (segmentOf p v 0 g))))
+          (settles-one g hg kg ng oth us c6 c8 bd)
+        where
+          one! : (x : Segment) → flat (mendStores p gs) (x ∷ []) ≡ mendStores p gs x ++ []
+          one! x = unfold flat in refl
