@@ -2,25 +2,24 @@
 use mathlib.Core.Path.{_≡_, refl, sym, ap, _∙_, subst}
 use mathlib.Core.List.{List, [], _∷_, _++_, map}
 use mathlib.Core.Logic.{inl}
-use mathlib.Core.Bool.{Bool, true, false, cond, not, _&&_, _||_}
+use mathlib.Core.Bool.{Bool, true, false, cond, not, _&&_}
 use Prim.Native.Nat.{ℕ, zero, suc, _+_, _-_, _^_, _≤_, _<_}
-use borrow.Author.Tests.{not-true, not-false, leb-false, eqb-false}
+use borrow.Author.Tests.{not-false, leb-false, eqb-false}
 use native.Mathlib.Decide.{decLt}
 use native.Mathlib.Omega.{arith}
-use lib.Dec.{leb, eqb, lit<}
+use lib.Dec.{eqb, lit<}
 use lib.ListN.{length, getD, replicate, List·getD-eq-default}
 use Rattle.defs.specs.declared.Params.{Params}
 use Rattle.defs.specs.declared.State.{State}
-use Rattle.defs.specs.Calls.{Plan}
 use Rattle.defs.specs.Closing.{padded, closeChecks, closePlan}
 use Rattle.defs.specs.Counts.{paddingAddress, lastCount}
 use Rattle.defs.specs.Drives.{View, pointerAt, storeView, storeAll, segmentNumbers, emptyOnAll, emptyZones, zoneOn, recordAt}
 use Rattle.defs.specs.Landing.{slotOf, completes, seals, misplaced, overfull, entryFaults, landFaults, landChecks, landPlan}
 use Rattle.defs.specs.Layout.{group}
-use Rattle.defs.specs.Lists.{Opt, below, keep, isNil, firstOr, consIf, flat}
-use Rattle.defs.specs.Memory.{Memory, filledIn, freeSlot, fillingSlot, hasFilling, openSegment, entriesIn, stateFaults, idleState, setOpen, setClosed, beginStripe, addEntry, markLanded, freeStripe}
-use Rattle.defs.specs.Params.{between, inRange, dataCount, named, placeBlock, placeDrive}
-use Rattle.defs.specs.Reclaim.{Victim, victim, victimSegment, victimLive, idle, reclaimChecks, tableFaults, resetPlan, copyPlan}
+use Rattle.defs.specs.Lists.{Opt, below, isNil, firstOr, consIf, flat}
+use Rattle.defs.specs.Memory.{Memory, filledIn, freeSlot, fillingSlot, hasFilling, openSegment, entriesIn, stateFaults, setOpen, setClosed, beginStripe, addEntry, markLanded, freeStripe}
+use Rattle.defs.specs.Params.{between, inRange, dataCount, named}
+use Rattle.defs.specs.Reclaim.{Victim, victimSegment, victimLive, reclaimChecks, tableFaults, resetPlan, copyPlan}
 use Rattle.defs.specs.Restart.{openOf, nextOf, restartMemory, restartStores, restartChecks, restartPlan}
 use Rattle.defs.specs.Segments.{remaining, Segment, segmentOf, segments, counts, counted, unsealed, candidates, greatestStamp, greatestSerial}
 use Rattle.defs.specs.Write.{opens, noStamp, noSerial, placed, openedBy, slotFor, begunBy, sending, writeChecks, writePlan}
@@ -238,7 +237,8 @@ module _ (p : Params) (long : Bool) (v : View) (m : Memory) (f : Fits (m .state)
       go (yes! e) = subst (λ (b : Bool). Fits (cond b (resetPlan p m (victimSegment w)) (copyPlan p v m q) .memory .state)) (sym e) f
       go (no! e) =
           let r = ranged p (not-false (inRange p) (c .0)) in
-          let so = state-of p r st (state-free p st (nil-left (stateFaults p st) (tableFaults p (m .addresses)) (nil-left (stateFaults p st ++ tableFaults p (m .addresses)) _ (c .1 .1 .1 .1 .1 .1 .1 .0)))) in
+          let ts = tableFaults p (m .addresses) in
+          let so = state-of p r st (state-free p st (nil-left (stateFaults p st) ts (nil-left (stateFaults p st ++ ts) _ (c .1 .1 .1 .1 .1 .1 .1 .0)))) in
           subst (λ (b : Bool). Fits (cond b (resetPlan p m (victimSegment w)) (copyPlan p v m q) .memory .state)) (sym e)
           (sending-fits p r v st f (small p st f r so) (next-serial (serial e (c .1 .1 .1 .1 .0))) (m .inflight) _ _ 0 _ (h .records-low _ _ _ _ .0) (h .records-low _ _ _ _ .1) (omega arith))
 

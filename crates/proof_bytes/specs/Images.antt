@@ -1,16 +1,15 @@
 -- Bytes on the drives: the view of an image of bytes holds bytes, and stores of bytes keep that. Assumes nothing.
-use mathlib.Core.Path.{_≡_, refl, sym, subst}
+use mathlib.Core.Path.{refl, sym, subst}
 use mathlib.Core.List.{List, [], _∷_, _++_, map}
 use mathlib.Core.Bool.{Bool, true, false, cond}
 use mathlib.Core.Logic.{inl, inr, ⊎-elim}
-use Prim.Native.Nat.{ℕ, zero, suc, _+_, _*_, _<_}
-use native.Mathlib.Omega.{arith}
+use Prim.Native.Nat.{ℕ, zero, suc, _+_, _*_}
 use lib.Bits.{xor-lt}
-use lib.Dec.{lit<}
-use lib.ListN.{length, getD, take, drop, set, replicate}
+use lib.ListN.{length, getD, take, drop, set}
 use Rattle.defs.specs.declared.Params.{Params}
 use Rattle.defs.specs.Bytes.{splice, xors, parity}
-use Rattle.defs.specs.Drives.{Chunk, mkChunk, noChunk, Zone, mkZone, noZone, View, zoneAt, chunkOf, zoneOf, driveOf, viewOf, Store, putZone, resetZone, setZone, storeView, Disk, storeDisk, storeAll, pointerOf}
+use Rattle.defs.specs.Drives.{Chunk, mkChunk, noChunk, Zone, mkZone, noZone, View, zoneAt, chunkOf, zoneOf, driveOf, viewOf, Store, putZone, resetZone, setZone, storeView, Disk, storeDisk, storeAll}
+use Rattle.defs.specs.Drives.{pointerOf}
 use Rattle.defs.specs.Drives.Store.{put, reset}
 use Rattle.defs.specs.Lists.{flat, pieces, zipped}
 use Rattle.defs.specs.Params.{capacity, unitLen, zoneLen, driveLen, placeOf, placeByte}

@@ -1,8 +1,8 @@
 -- Every call, on any lent bytes: the state that it leaves fits, all that it leaves is bytes, and on bytes it does what it does on the decoded state. Assumes nothing.
 use mathlib.Core.Path.{_≡_, refl, sym, ap, _∙_, subst}
-use mathlib.Core.List.{List, [], _∷_}
-use mathlib.Core.Bool.{Bool, true, false, cond, _&&_}
-use Prim.Native.Nat.{ℕ, _<_}
+use mathlib.Core.List.{List, []}
+use mathlib.Core.Bool.{Bool, true, false, _&&_}
+use Prim.Native.Nat.{ℕ}
 use lib.Dec.{leb, eqb}
 use lib.ListN.{length, take}
 use Rattle.defs.specs.declared.Params.{Params}
@@ -10,16 +10,15 @@ use Rattle.defs.specs.declared.State.{State}
 use Rattle.defs.specs.declared.Answer.{Answer}
 use Rattle.defs.specs.declared.Answer.the-variants.{Cut}
 use Rattle.defs.specs.Answers.{isRefused, finished}
-use Rattle.defs.specs.Calls.{firstRefusal, Plan, Verdict, decided, After, mkAfter, cutMemory, limited, outcome}
+use Rattle.defs.specs.Calls.{firstRefusal, Verdict, decided, After, mkAfter, cutMemory, limited, outcome}
 use Rattle.defs.specs.Calls.Verdict.{due}
-use Rattle.defs.specs.Drives.{View, Store, storeView, Disk, storeDisk, storeAll}
+use Rattle.defs.specs.Drives.{View, Store, Disk, storeDisk, storeAll}
 use Rattle.defs.specs.Engine.{Call, storeCount, lentBlock, lentOk, callOn, callDisk, Lent, Left, lentDisk, lentMemory, lentAll, leftBy, callBytes}
 use Rattle.defs.specs.Engine.Call.{write, land, close, reclaim, read, fill, restart, rebuild}
 use Rattle.defs.specs.Lists.{firstOr}
-use Rattle.defs.specs.Lists.Opt.{some}
-use Rattle.defs.specs.Memory.{Memory, mkMemory, stateLen, stateBytes, stateOf}
+use Rattle.defs.specs.Memory.{Memory, mkMemory, stateLen}
 use Rattle.defs.specs.Params.{named}
-use Rattle.defs.specs.Read.{lookup, readAnswer}
+use Rattle.defs.specs.Read.{lookup}
 use Rattle.defs.specs.Reclaim.{victim, idle}
 use Rattle.defs.specs.Restart.{restartStores, restartChecks, restartPlan}
 use Rattle.defs.specs.Segments.{segments}

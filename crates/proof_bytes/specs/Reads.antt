@@ -10,15 +10,15 @@ use lib.Dec.{lit<}
 use lib.ListN.{length, getD, drop, List·getD-eq-default}
 use lib.Seq.{getD-drop}
 use Rattle.defs.specs.declared.Params.{Params}
-use Rattle.defs.specs.Bytes.{part, xorAll}
-use Rattle.defs.specs.Drives.{Chunk, noChunk, Zone, noZone, View, zoneAt, chunkAt, zoneOn, sealedIn, dataStored, blocksOf, recordIn, recordAt}
+use Rattle.defs.specs.Bytes.{part}
+use Rattle.defs.specs.Drives.{Chunk, noChunk, Zone, noZone, View, zoneAt, chunkAt, zoneOn, sealedIn, dataStored, blocksOf, recordIn}
 use Rattle.defs.specs.Layout.{dataDrive, headerSerial, Rec, mkRec, recordOf, footerRecord}
 use Rattle.defs.specs.Lists.{below, isIn}
 use Rattle.defs.specs.Params.{capacity, spareLen, perFooter, present}
 use Rattle.defs.specs.Parity.{parityRec}
 use Rattle.defs.specs.Rank.{Cand}
-use Rattle.defs.specs.Segments.{lowDrive, headerAt, remaining, Segment, recordsIn, segmentOf, segments, recsOn, offsetOn, storedRec, recOf, candOf, candidates, greatestStamp, greatestSerial}
-use Rattle.laws.specs.Geometry.{Ranged, data-drive-lt}
+use Rattle.defs.specs.Segments.{lowDrive, headerAt, remaining, Segment, recordsIn, segmentOf, segments, offsetOn, storedRec, recOf, candOf, candidates, greatestStamp, greatestSerial}
+use Rattle.laws.specs.Geometry.{data-drive-lt}
 use Rattle.laws.specs.Xor.{xorAll-lt}
 use Rattle.tablesay.specs.Bounds.{blocks-at}
 use Rattle.tablesay.specs.Counting.{greatest-low}
@@ -106,13 +106,14 @@ module _ (p : Params) (v : View) (h : Reads p v) (gone : ℕ) where
 
   rows-low : (w : Bool) (q : Zone) (o : ℕ) → ((i : ℕ) → LowRec (recordIn p w q i)) → LowRec (getD (recordsIn p w q) o (mkRec 0 0 0))
   unfolding recordsIn
-  rows-low w q o k = go (decLt o (length (map (recordIn p w q) (below (dataStored p q)))))
+  rows-low w q o k = go (decLt o (length l))
     where
-      go : Dec (o < length (map (recordIn p w q) (below (dataStored p q)))) → LowRec (getD (map (recordIn p w q) (below (dataStored p q))) o (mkRec 0 0 0))
-      go (yes l) =
-          let (i, m, e) = map-in (recordIn p w q) (below (dataStored p q)) (getD (map (recordIn p w q) (below (dataStored p q))) o (mkRec 0 0 0)) (in-getD (map (recordIn p w q) (below (dataStored p q))) o (mkRec 0 0 0) l) in
-          subst LowRec (sym e) (k i)
-      go (no l) = subst LowRec (sym (List·getD-eq-default (map (recordIn p w q) (below (dataStored p q))) (mkRec 0 0 0) {n = o} (omega arith))) (lit< tt, lit< tt)
+      l : List Rec
+      l = map (recordIn p w q) (below (dataStored p q))
+
+      go : Dec (o < length l) → LowRec (getD l o (mkRec 0 0 0))
+      go (yes h) = let (i, m, e) = map-in (recordIn p w q) (below (dataStored p q)) (getD l o (mkRec 0 0 0)) (in-getD l o (mkRec 0 0 0) h) in subst LowRec (sym e) (k i)
+      go (no h) = subst LowRec (sym (List·getD-eq-default l (mkRec 0 0 0) {n = o} (omega arith))) (lit< tt, lit< tt)
 
   stored-low : (g s d : ℕ) → d < p .N → LowRec (storedRec (seg g) s d)
   unfolding storedRec

@@ -1,7 +1,7 @@
 -- In a run that a finished restart began the state fits its bytes, whatever blocks are written: headers, records and footers hold bytes. Assumes nothing.
 use mathlib.Core.Path.{_≡_, refl, sym, ap, _∙_, subst}
 use mathlib.Core.List.{List, [], _++_}
-use mathlib.Core.Bool.{true, false, cond}
+use mathlib.Core.Bool.{false}
 use mathlib.Core.Logic.{⊎-elim}
 use Prim.Native.Nat.{ℕ, _^_, _<_}
 use lib.Dec.{eqb}
@@ -13,7 +13,7 @@ use Rattle.defs.specs.Lists.{flat}
 use Rattle.defs.specs.Memory.{Memory, idleState}
 use Rattle.defs.specs.Params.{named}
 use Rattle.defs.specs.Restart.{dropStores, mendStores, restartStores, restartMemory, restartPlan}
-use Rattle.defs.specs.Segments.{Segment, segments, unsealed, candidates, greatestStamp, greatestSerial}
+use Rattle.defs.specs.Segments.{segments, unsealed, candidates, greatestStamp, greatestSerial}
 use Rattle.laws.specs.Geometry.{Ranged, ranged}
 use Rattle.views.specs.Views.{Whole, seen}
 use Rattle.tablesay.specs.Checks.{Passes}
@@ -25,7 +25,7 @@ use Rattle.tablesay.specs.Starting.{memory-missing, startChecks, startPlan, beg
 use Rattle.tablesay.specs.Tests.{cond-false}
 use Rattle.tablesay.specs.Zones.{Shaped}
 use Rattle.proof_bytes.specs.Sections.{Fits}
-use Rattle.proof_bytes.specs.Reads.{Reads, grounded-reads, shaped-grounded, stamps-low, serials-low}
+use Rattle.proof_bytes.specs.Reads.{grounded-reads, shaped-grounded, stamps-low, serials-low}
 use Rattle.proof_bytes.specs.Fitted.{idle-fits}
 use Rattle.proof_bytes.specs.Kept.{RestartFits}
 

@@ -11,7 +11,8 @@ use lib.Seq.{ext-getD}
 use Rattle.defs.specs.declared.State.{State}
 use Rattle.defs.specs.Bytes.{beFrom, beOf, toBe, part}
 use Rattle.defs.specs.Lists.{upFrom, below, flat, total, zipped}
-use Rattle.defs.specs.Memory.{idleState, zeroState, Section, section, stateSections, sectionLen, sectionAt, stateLen, numbersAt, sectionOf, numberOf, stateNumbers, sectionBytes, stateBytes, stateOf, mkState}
+use Rattle.defs.specs.Memory.{idleState, zeroState, Section, section, stateSections, sectionLen, sectionAt, stateLen, numbersAt, sectionOf, numberOf, stateNumbers, sectionBytes, stateBytes, stateOf}
+use Rattle.defs.specs.Memory.{mkState}
 use Rattle.laws.specs.Be.{length-toBe, beOf-toBe}
 use Rattle.laws.specs.Ranges.{length-below, map-below-same, getD-map-below, length-flat}
 use Rattle.laws.specs.Splice.{part-all, part-append-left, part-append-right}

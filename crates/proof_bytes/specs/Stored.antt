@@ -1,9 +1,9 @@
 -- What each call stores, keeps in flight and fills is bytes: headers, records and footers as they are laid out, data from the image or the
 -- in-flight buffer, parity as the exclusive or of bytes. Assumes nothing.
-use mathlib.Core.Path.{_≡_, refl, sym, ap, _∙_, subst}
+use mathlib.Core.Path.{sym, ap, _∙_, subst}
 use mathlib.Core.List.{List, [], _∷_, _++_, map}
 use mathlib.Core.Bool.{Bool, true, false, cond, not}
-use Prim.Native.Nat.{ℕ, zero, suc, _+_, _-_, _<_}
+use Prim.Native.Nat.{ℕ, zero, suc, _+_, _-_}
 use lib.Dec.{eqb}
 use lib.ListN.{getD, take, drop, replicate}
 use Rattle.defs.specs.declared.Params.{Params}
@@ -14,9 +14,8 @@ use Rattle.defs.specs.Bytes.{parity}
 use Rattle.defs.specs.Calls.{Plan, mkPlan}
 use Rattle.defs.specs.Closing.{padded, closePlan}
 use Rattle.defs.specs.Counts.{paddingAddress}
-use Rattle.defs.specs.Drives.{Chunk, noChunk, Zone, noZone, View, zoneAt, chunkAt, Store, storeView, zoneOn, sparesOf, footersOf, zeroSpare, headerStores, footerStores, resetStores, emptyZones}
+use Rattle.defs.specs.Drives.{Chunk, noChunk, Zone, noZone, View, zoneAt, chunkAt, storeView, zoneOn, sparesOf, footersOf, zeroSpare, headerStores, footerStores, resetStores, emptyZones}
 use Rattle.defs.specs.Drives.Store.{put, reset}
-use Rattle.defs.specs.Faults.{footersStored}
 use Rattle.defs.specs.Landing.{slotOf, seals, flightRec, sealStores, landStore, landPlan}
 use Rattle.defs.specs.Layout.{headerBlock, recordBytes, footerBlock, mkRec, dataPosition, isData, dataDrives}
 use Rattle.defs.specs.Lists.{upFrom, below, flat, firstOr, isIn, isNil, keep, Opt}
@@ -27,14 +26,16 @@ use Rattle.defs.specs.Read.{Found, storedAt, decodedAt, readPiece}
 use Rattle.defs.specs.Read.Found.{nowhere, here, away}
 use Rattle.defs.specs.Rebuild.{rebuiltZone, rebuildStores}
 use Rattle.defs.specs.Reclaim.{Victim, victimSegment, victimLive, resetPlan, copyPlan}
-use Rattle.defs.specs.Restart.{freeZones, isWhole, isRagged, missingFooters, renumbered, movedPieces, movedOn, movedStripe, movedStripes, rewriteStores, dropStores, mendStores, restartStores, restartMemory, restartPlan}
+use Rattle.defs.specs.Restart.{freeZones, isWhole, isRagged, missingFooters, renumbered, movedPieces, movedOn, movedStripe, movedStripes, rewriteStores, dropStores, mendStores, restartStores}
+use Rattle.defs.specs.Restart.{restartMemory, restartPlan}
 use Rattle.defs.specs.Segments.{remaining, Segment, segmentOf, segments, counted, offsetOn, storedPiece, pieceOf, putPiece, greatestSerial, unsealed}
 use Rattle.defs.specs.Write.{placed, slotFor, opens, openedBy, begunBy, sending, writePlan}
 use Rattle.tablesay.specs.Image.{bytes-part}
 use Rattle.tablesay.specs.Laid.{bytes-nil, bytes-zeros, bytes-header, bytes-zeroSpare, bytes-record, bytes-footer, in-take, in-drop}
 use Rattle.tablesay.specs.Members.{In, map-in, getD-in, keep-in}
 use Rattle.tablesay.specs.Zones.{Bytes}
-use Rattle.proof_bytes.specs.Images.{bytes-splice, bytes-parity, get-map, ZoneBytes, ViewBytes, no-zone-bytes, StoreBytes, StoresBytes, store-view, stores-none, stores-cons, stores-append, stores-cond, stores-map, stores-flat}
+use Rattle.proof_bytes.specs.Images.{bytes-splice, bytes-parity, get-map, ZoneBytes, ViewBytes, no-zone-bytes, StoreBytes, StoresBytes, store-view, stores-none, stores-cons, stores-append}
+use Rattle.proof_bytes.specs.Images.{stores-cond, stores-map, stores-flat}
 
 -- ---- headers, footers, resets
 

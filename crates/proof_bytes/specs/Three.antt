@@ -1,6 +1,6 @@
 -- Demand 3 on the lent bytes, from demand 3 with the state as a value: histories on bytes, decoded, are histories on values, step by step. Assumes nothing.
 use mathlib.Core.Path.{_≡_, refl, sym, ap, ap₂, _∙_, subst}
-use mathlib.Core.List.{List, [], _∷_, append-nil}
+use mathlib.Core.List.{List, [], _∷_}
 use mathlib.Core.Bool.{Bool, true, false, cond, not, _&&_, and-true, and-false}
 use Prim.Native.Nat.{ℕ, _*_, _<_}
 use borrow.Author.Tests.{eq-eqb, ne-eqb}
@@ -10,28 +10,29 @@ use lib.ListN.{length, replicate, length-replicate}
 use Rattle.defs.specs.declared.Params.{Params}
 use Rattle.defs.specs.declared.State.{State}
 use Rattle.defs.specs.declared.Answer.{Answer}
-use Rattle.defs.specs.Answers.{kind, isRefused, isRefusedAs, isCut, finished}
+use Rattle.defs.specs.Answers.{kind, isRefused, isRefusedAs, finished}
 use Rattle.defs.specs.Bytes.{splice}
 use Rattle.defs.specs.Calls.{After}
 use Rattle.defs.specs.Demands.{areBytes, ReadOk, SameAs, RestartOk, ClaimOf, Allowed, Claims}
 use Rattle.defs.specs.Drives.{Disk, mkDisk, pointerByte}
 use Rattle.defs.specs.Engine.{Call, lentBlock, lentOk, callDisk, Lent, Left, lentDisk, lentMemory, callBytes}
 use Rattle.defs.specs.Engine.Call.{read, fill, restart}
-use Rattle.defs.specs.History.{World, mkWorld, Event, callOf, restartOf, inOrder, swapped, before, happens, onlyIf, orderly, restartIn, worldAfter, Send, endsRun, sentAfter, untrustedAfter, Mark, Hist, marked, step, emptyDisk, began, namesAll, allowed, Seen, seenFilled, seenAt}
+use Rattle.defs.specs.History.{World, mkWorld, Event, callOf, restartOf, inOrder, swapped, before, happens, onlyIf, orderly, restartIn, worldAfter, sentAfter, untrustedAfter, Mark, Hist, marked, step}
+use Rattle.defs.specs.History.{began, namesAll, allowed, seenFilled, seenAt}
 use Rattle.defs.specs.History.Event.{calls as calls′, boots as boots′}
 use Rattle.defs.specs.History.Seen.{unwritten, got, failed}
 use Rattle.defs.specs.Lists.{Opt, consIf}
 use Rattle.defs.specs.Lists.Opt.{none, some}
-use Rattle.defs.specs.Memory.{Memory, mkMemory, zeroState, stateLen, stateOf}
+use Rattle.defs.specs.Memory.{mkMemory, stateLen}
 use Rattle.defs.specs.Params.{inRange, driveLen, addressesLen, compactLen, inflightLen, named}
 use Rattle.defs.specs.Restart.{namesDrive}
-use Rattle.laws.specs.Ranges.{Test, test, and-left, and-right, and-both}
-use Rattle.laws.specs.Ranges.Test.{yes!, no! }
+use Rattle.laws.specs.Ranges.{and-left, and-right, and-both}
 use Rattle.demand3.specs.Demand.{demand-3}
-use Rattle.hosts.specs.Shorts.{shortAnswer, short-refused}
+use Rattle.hosts.specs.Shorts.{short-refused}
 use Rattle.runs.specs.Join.{sent-refused}
 use Rattle.spec_demands.specs.Engines.{onBytes, callLent, readsAs}
-use Rattle.spec_demands.specs.Histories.{LentEvent, lentCall, withDisk, lentInOrder, lentBefore, lentHappens, lentOrderly, lentRestart, lentAfter, LentMark, LentHist, lentMarked, lentStep, lentBegan, lentBytes, eventBytes, lentAllowed, LentAllowed, LentSame, LentRestartOk, LentClaim, LentClaims, Demand3}
+use Rattle.spec_demands.specs.Histories.{LentEvent, lentCall, withDisk, lentInOrder, lentBefore, lentHappens, lentOrderly, lentRestart, lentAfter, LentMark, LentHist, lentMarked, lentStep, lentBegan}
+use Rattle.spec_demands.specs.Histories.{lentBytes, eventBytes, lentAllowed, LentAllowed, LentSame, LentClaim, LentClaims, Demand3}
 use Rattle.spec_demands.specs.Histories.LentEvent.{calls, boots}
 use Rattle.tablesay.specs.Image.{bytes-of}
 use Rattle.tablesay.specs.Laid.{bytes-nil, bytes-zeros}
@@ -258,7 +259,8 @@ module _ (p : Params) (h : LentHist) (g : HistGood h) (e : LentEvent) (e′ : Ev
       let r = lentHappens p l e in
       let x = lentAfter p l e r in
       let ss = sentAfter (lentCall e) (r .answer) (h .sends) in
-      ap (λ (o : Opt Mark). record { world = worldOf x; sends = ss; untrusted = untrustedAfter (lentCall e) (r .answer) (h .untrusted); mark = o }) (mark-same (finished (r .answer)) x (length ss) (h .mark))
+      let us = untrustedAfter (lentCall e) (r .answer) (h .untrusted) in
+      ap (λ (o : Opt Mark). record { world = worldOf x; sends = ss; untrusted = us; mark = o }) (mark-same (finished (r .answer)) x (length ss) (h .mark))
       ∙ ap₂ (left (lentCall e)) (after-same p l (g .now-good) e e′ s r ∙ ap (worldAfter p (worldOf l) e′) (happens-same p l (g .now-good) e e′ s q)) answer-same
       ∙ ap (λ (c : Call). left c (worldAfter p (worldOf l) e′ (happens p (worldOf l) e′)) (happens p (worldOf l) e′ .answer)) (call-same p l (g .now-good) e e′ s)
 
@@ -343,7 +345,7 @@ module _ (p : Params) (h : LentHist) (d n : ℕ) (u : Lent) (im ps : List ℕ) (
     lent = lent-is j;
     sends = sends-is j;
     untrusted = untrusted-is j;
-    mark = mark-is j;
+    mark = mark-is (lentAfter p (h .lent) (boots d n u im ps) (lentHappens p (h .lent) (boots d n u im ps))) (length (sentAfter (restart d n) a (h .sends))) j;
   }
     where
       a : Answer
@@ -358,9 +360,8 @@ module _ (p : Params) (h : LentHist) (d n : ℕ) (u : Lent) (im ps : List ℕ) (
       untrusted-is : untrustedAfter (restart d n) a (h .untrusted) ≡ h .untrusted
       untrusted-is = unfold untrustedAfter in cond-true (isRefused a) (h .untrusted) (named d) refuses
 
-      mark-is : lentMarked (finished a) (cond (lentInOrder p (withDisk u (lentDisk (h .lent))) d) (lentHappens p (h .lent) (boots d n u im ps) .lent) (h .lent)) (length (sentAfter (restart d n) a (h .sends))) (h .mark) ≡ h .mark
-      mark-is = ap (λ (b : Bool). lentMarked b (cond (lentInOrder p (withDisk u (lentDisk (h .lent))) d) (lentHappens p (h .lent) (boots d n u im ps) .lent) (h .lent)) (length (sentAfter (restart d n) a (h .sends))) (h .mark))
-          (refused-unfinished a refuses) ∙ (unfold lentMarked in refl)
+      mark-is : (x : Lent) (n : ℕ) → lentMarked (finished a) x n (h .mark) ≡ h .mark
+      mark-is x n = ap (λ (b : Bool). lentMarked b x n (h .mark)) (refused-unfinished a refuses) ∙ (unfold lentMarked in refl)
 
 -- ---- lists of events
 
@@ -383,59 +384,70 @@ events-call : (c : Call) (es : List LentEvent) → eventsOf (calls c ∷ es) ≡
 unfolding eventsOf
 events-call c es = refl
 
+-- one event, and the rest
+module _ (p : Params) (h : LentHist) (g : HistGood h) (e : LentEvent) (e′ : Event) (s : Same e e′) (t : lentAllowed p h e ≡ true) where
+  abbrev by : eventBytes e ≡ true
+  by = bytes-first p h e t
+
+  allowed-cons : (es : List Event) → Allowed p (histOf (lentStep p h e)) es → Allowed p (histOf h) (e′ ∷ es)
+  allowed-cons es x = (allowed-same p h g e e′ s by t, subst (λ (y : Hist). Allowed p y es) (step-same p h g e e′ s by) x)
+
+  claims-cons : (ds : List LentEvent) (es : List Event) → (Claims p (histOf (lentStep p h e)) es → LentClaims p (lentStep p h e) ds)
+      → Claims p (histOf h) (e′ ∷ es) → LentClaims p h (e ∷ ds)
+  claims-cons ds es f (x, y) = (claim-same p h g e e′ s by x, f (subst (λ (z : Hist). Claims p z es) (sym (step-same p h g e e′ s by)) y))
+
+  next-good : HistGood (lentStep p h e)
+  next-good = step-good p h g e e′ s by
+
 module _ (p : Params) where
   -- the premises carry over
   all-allowed : (es : List LentEvent) (h : LentHist) → HistGood h → LentAllowed p h es → Allowed p (histOf h) (eventsOf es)
   all-allowed [] h g t = unfold eventsOf in tt
   all-allowed (calls c ∷ es) h g (t, ts) =
-      let q = bytes-first p h (calls c) t in
       let s = same-calls c in
       subst (Allowed p (histOf h)) (sym (events-call c es))
-      (allowed-same p h g (calls c) (calls′ c) s q t, subst (λ (x : Hist). Allowed p x (eventsOf es)) (step-same p h g (calls c) (calls′ c) s q) (all-allowed es (lentStep p h (calls c)) (step-good p h g (calls c) (calls′ c) s q) ts))
-  all-allowed (boots d n u im ps ∷ es) h g (t, ts) = go (ℕ-discrete (length (u .state)) stateLen) (all-allowed es (lentStep p h (boots d n u im ps)))
+      (allowed-cons p h g (calls c) (calls′ c) s t (eventsOf es) (all-allowed es (lentStep p h (calls c)) (next-good p h g (calls c) (calls′ c) s t) ts))
+  all-allowed (boots d n u im ps ∷ es) h g (t, ts) = go (ℕ-discrete (length (u .state)) stateLen) (λ k. all-allowed es (lentStep p h (boots d n u im ps)) k ts)
     where
-      b : LentEvent
-      b = boots d n u im ps
+      e : LentEvent
+      e = boots d n u im ps
 
-      go : Dec (length (u .state) ≡ stateLen) → (HistGood (lentStep p h (boots d n u im ps)) → LentAllowed p (lentStep p h (boots d n u im ps)) es → Allowed p (histOf (lentStep p h (boots d n u im ps))) (eventsOf es))
+      go : Dec (length (u .state) ≡ stateLen) → (HistGood (lentStep p h (boots d n u im ps)) → Allowed p (histOf (lentStep p h (boots d n u im ps))) (eventsOf es))
           → Allowed p (histOf h) (eventsOf (boots d n u im ps ∷ es))
       go (yes x) ih =
-          let q = bytes-first p h b t in
           let e′ = boots′ d n (lentMemory u) im ps in
           let s = same-boots d n u im ps x in
-          subst (Allowed p (histOf h)) (sym (events-boot d n u im ps es x))
-          (allowed-same p h g b e′ s q t, subst (λ (y : Hist). Allowed p y (eventsOf es)) (step-same p h g b e′ s q) (ih (step-good p h g b e′ s q) ts))
+          subst (Allowed p (histOf h)) (sym (events-boot d n u im ps es x)) (allowed-cons p h g e e′ s t (eventsOf es) (ih (next-good p h g e e′ s t)))
       go (no x) ih =
           let f = short-step p h d n u im ps x in
-          subst (Allowed p (histOf h)) (sym (events-short d n u im ps es x))
-          (subst (λ (y : LentHist). Allowed p (histOf y) (eventsOf es)) f (ih (subst HistGood (sym f) g) ts))
+          subst (Allowed p (histOf h)) (sym (events-short d n u im ps es x)) (subst (λ (y : LentHist). Allowed p (histOf y) (eventsOf es)) f (ih (subst HistGood (sym f) g)))
 
   -- and the claims come back
   all-claims : (es : List LentEvent) (h : LentHist) → HistGood h → LentAllowed p h es → Claims p (histOf h) (eventsOf es) → LentClaims p h es
   all-claims [] h g t c = tt
   all-claims (calls c ∷ es) h g (t, ts) y =
-      let q = bytes-first p h (calls c) t in
       let s = same-calls c in
-      let (a, b) = subst (Claims p (histOf h)) (events-call c es) y in
-      (claim-same p h g (calls c) (calls′ c) s q a, all-claims es (lentStep p h (calls c)) (step-good p h g (calls c) (calls′ c) s q) ts (subst (λ (x : Hist). Claims p x (eventsOf es)) (sym (step-same p h g (calls c) (calls′ c) s q)) b))
-  all-claims (boots d n u im ps ∷ es) h g (t, ts) y = go (ℕ-discrete (length (u .state)) stateLen) (all-claims es (lentStep p h (boots d n u im ps)))
+      claims-cons p h g (calls c) (calls′ c) s t es (eventsOf es) (all-claims es (lentStep p h (calls c)) (next-good p h g (calls c) (calls′ c) s t) ts)
+      (subst (Claims p (histOf h)) (events-call c es) y)
+  all-claims (boots d n u im ps ∷ es) h g (t, ts) y = go (ℕ-discrete (length (u .state)) stateLen) (λ k. all-claims es (lentStep p h (boots d n u im ps)) k ts)
     where
-      b : LentEvent
-      b = boots d n u im ps
+      e : LentEvent
+      e = boots d n u im ps
 
-      go : Dec (length (u .state) ≡ stateLen)
-          → (HistGood (lentStep p h (boots d n u im ps)) → LentAllowed p (lentStep p h (boots d n u im ps)) es → Claims p (histOf (lentStep p h (boots d n u im ps))) (eventsOf es) → LentClaims p (lentStep p h (boots d n u im ps)) es)
-          → LentClaims p h (boots d n u im ps ∷ es)
+      h′ : LentHist
+      h′ = lentStep p h (boots d n u im ps)
+
+      go : Dec (length (u .state) ≡ stateLen) → (HistGood h′ → Claims p (histOf h′) (eventsOf es) → LentClaims p h′ es) → LentClaims p h (boots d n u im ps ∷ es)
       go (yes x) ih =
-          let q = bytes-first p h b t in
           let e′ = boots′ d n (lentMemory u) im ps in
           let s = same-boots d n u im ps x in
-          let (a, z) = subst (Claims p (histOf h)) (events-boot d n u im ps es x) y in
-          (claim-same p h g b e′ s q a, ih (step-good p h g b e′ s q) ts (subst (λ (w : Hist). Claims p w (eventsOf es)) (sym (step-same p h g b e′ s q)) z))
+          claims-cons p h g e e′ s t es (eventsOf es) (ih (next-good p h g e e′ s t)) (subst (Claims p (histOf h)) (events-boot d n u im ps es x) y)
       go (no x) ih =
           let f = short-step p h d n u im ps x in
-          let z = subst (Claims p (histOf h)) (events-short d n u im ps es x) y in
-          (subst (LentClaim p h (boots d n u im ps)) (sym (short-restart p h d n u im ps x)) tt, ih (subst HistGood (sym f) g) ts (subst (λ (w : LentHist). Claims p (histOf w) (eventsOf es)) (sym f) z))
+          let z = subst (Claims p (histOf h)) (events-short d n u im ps es x) y in (
+            subst (LentClaim p h (boots d n u im ps)) (sym (short-restart p h d n u im ps x)) tt,
+            ih (subst HistGood (sym f) g) (subst (λ (w : LentHist). Claims p (histOf w) (eventsOf es)) (sym f) z),
+          )
 
 -- ---- from the start
 

@@ -2,22 +2,20 @@
 use mathlib.Core.Path.{_≡_, refl, sym, ap, ap₂, _∙_, subst}
 use mathlib.Core.List.{List, [], _∷_}
 use mathlib.Core.Bool.{Bool, true, false, cond, _&&_}
-use Prim.Native.Nat.{ℕ, _<_}
+use Prim.Native.Nat.{ℕ}
 use native.Mathlib.Decide.{ℕ-discrete}
 use lib.Dec.{eqb}
 use lib.ListN.{length, replicate}
 use Rattle.defs.specs.declared.Params.{Params}
-use Rattle.defs.specs.declared.Answer.{Answer}
-use Rattle.defs.specs.declared.Answer.the-variants.{Landed, Restarted}
 use Rattle.defs.specs.Answers.{kind, values, isRefused, isRefusedAs, isCut, finished}
 use Rattle.defs.specs.Calls.{After}
-use Rattle.defs.specs.Demands.{areBytes, NotNinth}
-use Rattle.defs.specs.Drives.{Disk, View}
+use Rattle.defs.specs.Demands.{NotNinth}
+use Rattle.defs.specs.Drives.{Disk}
 use Rattle.defs.specs.Engine.{Call, lentOk, callOn, callDisk, Lent, Left, lentDisk, lentMemory, callBytes}
 use Rattle.defs.specs.Engine.Call.{write, land, close, reclaim, read, fill, restart, rebuild}
-use Rattle.defs.specs.History.{World, mkWorld, restartOf, Seen}
+use Rattle.defs.specs.History.{World, mkWorld, restartOf}
 use Rattle.defs.specs.History.Seen.{unwritten, got, failed}
-use Rattle.defs.specs.Memory.{Memory, stateLen, stateOf}
+use Rattle.defs.specs.Memory.{stateLen}
 use Rattle.defs.specs.Params.{inRange, noDrive, named}
 use Rattle.defs.specs.Restart.{namesDrive}
 use Rattle.defs.specs.Segments.{Segment, segments}
@@ -25,7 +23,6 @@ use Rattle.views.specs.Views.{Whole, seen}
 use Rattle.hosts.specs.Hosts.{bytes-short}
 use Rattle.hosts.specs.Shorts.{shortAnswer, short-refused, restart-short}
 use Rattle.spec_demands.specs.Engines.{Reply, onValues, onBytes, callWorld, callLent, viewIn, readsAs}
-use Rattle.spec_demands.specs.Layouts.{Layout}
 use Rattle.spec_demands.specs.Tables.{Pending, pendingAfter, foundAfter, Says, openIn, landingStores, Lands, Restarts, Rebuilds, CallSays, SaysOn, AfterRestart}
 use Rattle.tablesay.specs.Image.{bytes-of, shaped-of}
 use Rattle.tablesay.specs.Outcomes.{refused-unfinished}
@@ -35,7 +32,7 @@ use Rattle.tablesay.specs.Theorem.{restart-finished, stepped}
 use Rattle.tablesay.specs.Zones.{Shaped}
 use Rattle.proof_bytes.specs.Sections.{Fits}
 use Rattle.proof_bytes.specs.Reads.{grounded-reads, shaped-grounded}
-use Rattle.proof_bytes.specs.Kept.{on-fits, finished-fits, answer-same, decoded, simulates, state-long}
+use Rattle.proof_bytes.specs.Kept.{on-fits, finished-fits, answer-same, simulates, state-long}
 use Rattle.proof_bytes.specs.Runs.{run-restart}
 
 -- ---- a reply on bytes, decoded
@@ -140,11 +137,14 @@ says-on p l g ws old (c ∷ cs) (s, y, n, x, t) = (
   subst (λ (r : Reply World). NotNinth (restartOf c) (r .answer)) (sym e) n,
   call-says p l ws (callLent p l c) c (subst (λ (r : Reply World). CallSays onValues p (worldOf l) ws c r) (sym e) x),
   λ q. says-on p (callLent p l c .world) (going-on p l g c q) (pendingAfter c (callLent p l c .answer) ws) (foundAfter p (viewIn onBytes p l) c (callLent p l c .answer) old) cs
-      (subst (λ (r : Reply World). isCut (r .answer) ≡ false → SaysOn onValues p (r .world) (pendingAfter c (r .answer) ws) (foundAfter p (viewIn onValues p (worldOf l)) c (r .answer) old) cs) (sym e) t q),
+      (subst Next (sym e) t q),
 )
   where
     e : replyOf (callLent p l c) ≡ callWorld p (worldOf l) c
     e = going-same p l g c
+
+    Next : Reply World → Type 0
+    Next r = isCut (r .answer) ≡ false → SaysOn onValues p (r .world) (pendingAfter c (r .answer) ws) (foundAfter p (viewIn onValues p (worldOf l)) c (r .answer) old) cs
 
 -- ---- from the restart on
 
@@ -177,13 +177,15 @@ lift-2 two p l d n cs by q = go (ℕ-discrete (length (l .state)) stateLen)
         f : Fits (callDisk p (lentDisk l) (lentMemory l) c .memory .state)
         f = unfold callDisk in finished-fits p (lentOk p (lentDisk l) (lentMemory l)) (lentDisk l) (lentMemory l) d n (run-restart p (lentDisk l) (lentMemory l) c shaped!) (on! fin)
           where
-            on! : finished (callDisk p (lentDisk l) (lentMemory l) (restart d n) .answer) ≡ true → finished (callOn p (lentOk p (lentDisk l) (lentMemory l)) (lentDisk l) (lentMemory l) (restart d n) .answer) ≡ true
+            on! : finished (callDisk p (lentDisk l) (lentMemory l) (restart d n) .answer) ≡ true
+                → finished (callOn p (lentOk p (lentDisk l) (lentMemory l)) (lentDisk l) (lentMemory l) (restart d n) .answer) ≡ true
             on! x = unfold callDisk in x
 
         e : replyOf (callLent p l c) ≡ callWorld p (worldOf l) c
         e = reply-same p l c h f
 
-        t : Restarts onValues p (worldOf l) d (callWorld p (worldOf l) (restart d n)) × SaysOn onValues p (callWorld p (worldOf l) (restart d n) .world) [] (segments p (viewIn onValues p (worldOf l)) (named d)) cs
+        t : Restarts onValues p (worldOf l) d (callWorld p (worldOf l) (restart d n))
+            × SaysOn onValues p (callWorld p (worldOf l) (restart d n) .world) [] (segments p (viewIn onValues p (worldOf l)) (named d)) cs
         t = two p (worldOf l) d n cs by (ap (λ (r : Reply World). finished (r .answer)) (sym e) ∙ q)
 
         going : Going p (callLent p l (restart d n) .world)
