@@ -14,7 +14,7 @@ use Rattle.defs.specs.declared.Params.{Params}
 use Rattle.defs.specs.declared.Answer.{Answer}
 use Rattle.defs.specs.declared.Answer.the-variants.{Cut}
 use Rattle.defs.specs.Answers.{kind, isRefused, isCut}
-use Rattle.defs.specs.Bytes.{toBe}
+use Rattle.defs.specs.Bytes.{toLe}
 use Rattle.defs.specs.Calls.{Plan, Verdict, After, mkAfter, cutMemory, outcome}
 use Rattle.defs.specs.Calls.Verdict.{refused, due}
 use Rattle.defs.specs.Drives.{Store, Disk, storeDisk, storeAll}
@@ -31,7 +31,7 @@ use Rattle.proof_answers.specs.Verdicts.Says.{says-no, says-yes}
 
 -- 01, Store count: the state's bytes are all zeros
 pub zero-state : stateBytes zeroState ≡ replicate stateLen 0
-unfolding stateBytes zeroState idleState stateSections sectionLen stateLen stateNumbers sectionBytes flat total zipped toBe
+unfolding stateBytes zeroState idleState stateSections sectionLen stateLen stateNumbers sectionBytes flat total zipped toLe
 zero-state = refl
 
 -- 01, Store count: the stores that are due by a verdict

@@ -1,75 +1,81 @@
 -- The state's bytes: section by section, what is written is read back, what is read fits its width, and all are bytes. Assumes nothing.
 use mathlib.Core.Path.{_≡_, refl, sym, ap, ap₂, _∙_, subst}
 use mathlib.Core.List.{map, List, [], _∷_, _++_, append-assoc}
-use Prim.Native.Nat.{ℕ, zero, suc, _+_, _*_, _^_, _≤_, _<_}
+use Prim.Native.Nat.{ℕ, zero, suc, _+_, _*_, _/_, _^_, _≤_, _<_}
 use native.Mathlib.Omega.{arith}
 use native.Mathlib.Decide.{decLt}
-use native.Mathlib.Nat.{zero-add, add-comm, add-assoc, mul-comm, mul-zero, mul-suc, pow-le-pow-right, one-le-pow}
+use native.Mathlib.Nat.{mod-lt, zero-add, add-comm, add-assoc, mul-comm, mul-zero, mul-suc, pow-le-pow-right, one-le-pow}
 use lib.Dec.{lit<}
 use lib.ListN.{length, getD, take, drop, replicate, length-append, length-map, length-take, List·getD-eq-default}
 use lib.Seq.{ext-getD}
 use Rattle.defs.specs.declared.State.{State}
-use Rattle.defs.specs.Bytes.{beFrom, beOf, toBe, part}
+use Rattle.defs.specs.Bytes.{leOf, toLe, part}
 use Rattle.defs.specs.Lists.{upFrom, below, flat, total, zipped}
 use Rattle.defs.specs.Memory.{idleState, zeroState, Section, section, stateSections, sectionLen, sectionAt, stateLen, numbersAt, sectionOf, numberOf, stateNumbers, sectionBytes, stateBytes, stateOf}
 use Rattle.defs.specs.Memory.{mkState}
-use Rattle.laws.specs.Be.{length-toBe, beOf-toBe}
+use Rattle.laws.specs.Le.{length-toLe, leOf-toLe, leOf-lt}
 use Rattle.laws.specs.Ranges.{length-below, map-below-same, getD-map-below, length-flat}
 use Rattle.laws.specs.Splice.{part-all, part-append-left, part-append-right}
 use Rattle.tablesay.specs.Image.{bytes-part}
-use Rattle.tablesay.specs.Laid.{bytes-nil, bytes-append, bytes-toBe, beOf-low}
+use Rattle.tablesay.specs.Laid.{bytes-nil, bytes-append}
 use Rattle.tablesay.specs.Zones.{Bytes}
 
 -- ---- one section
+
+bytes-toLe : (w n : ℕ) → Bytes (toLe w n)
+unfolding toLe
+bytes-toLe zero n i = bytes-nil i
+bytes-toLe (suc w) n zero = mod-lt n (lit< tt)
+bytes-toLe (suc w) n (suc i) = bytes-toLe w (n / 256) i
 
 length-numbersAt : (w n at : ℕ) (bs : List ℕ) → length (numbersAt w n at bs) ≡ n
 unfolding numbersAt
 length-numbersAt w n at bs = simp length-map (length-below n)
 
-length-numbers : (w : ℕ) (ns : List ℕ) → length (flat (toBe w) ns) ≡ w * length ns
-length-numbers w ns = length-flat (toBe w) w ns (length-toBe w) ∙ mul-comm (length ns) w
+length-numbers : (w : ℕ) (ns : List ℕ) → length (flat (toLe w) ns) ≡ w * length ns
+length-numbers w ns = length-flat (toLe w) w ns (length-toLe w) ∙ mul-comm (length ns) w
 
 -- number k of a section
-number-part : (w k : ℕ) (ns rest : List ℕ) → k < length ns → part (w * k) w (flat (toBe w) ns ++ rest) ≡ toBe w (getD ns k 0)
+number-part : (w k : ℕ) (ns rest : List ℕ) → k < length ns → part (w * k) w (flat (toLe w) ns ++ rest) ≡ toLe w (getD ns k 0)
 unfolding flat
 number-part w k [] rest h = absurd (let q : ⊥ = omega arith in q)
 number-part w zero (n ∷ ns) rest h =
-    let b : List ℕ = toBe w n in
-    let e : length b ≡ w = length-toBe w n in
+    let b : List ℕ = toLe w n in
+    let e : length b ≡ w = length-toLe w n in
     let z : w * 0 ≡ 0 = mul-zero w in
-    ap₂ (λ (x : ℕ) (y : List ℕ). part x w y) z (append-assoc b (flat (toBe w) ns) rest)
-    ∙ part-append-left 0 w b (flat (toBe w) ns ++ rest) (omega arith) ∙ part-all w b (omega arith)
+    ap₂ (λ (x : ℕ) (y : List ℕ). part x w y) z (append-assoc b (flat (toLe w) ns) rest)
+    ∙ part-append-left 0 w b (flat (toLe w) ns ++ rest) (omega arith) ∙ part-all w b (omega arith)
 number-part w (suc k) (n ∷ ns) rest h =
-    let b : List ℕ = toBe w n in
-    let z : w * suc k ≡ length b + w * k = mul-suc w k ∙ add-comm (w * k) w ∙ ap (λ (x : ℕ). x + w * k) (sym (length-toBe w n)) in
-    ap₂ (λ (x : ℕ) (y : List ℕ). part x w y) z (append-assoc b (flat (toBe w) ns) rest)
-    ∙ part-append-right (w * k) w b (flat (toBe w) ns ++ rest) ∙ number-part w k ns rest (omega arith)
+    let b : List ℕ = toLe w n in
+    let z : w * suc k ≡ length b + w * k = mul-suc w k ∙ add-comm (w * k) w ∙ ap (λ (x : ℕ). x + w * k) (sym (length-toLe w n)) in
+    ap₂ (λ (x : ℕ) (y : List ℕ). part x w y) z (append-assoc b (flat (toLe w) ns) rest)
+    ∙ part-append-right (w * k) w b (flat (toLe w) ns ++ rest) ∙ number-part w k ns rest (omega arith)
 
 -- a section, and what follows it
 numbers-back : (w n : ℕ) (ns rest : List ℕ) → length ns ≡ n → ((k : ℕ) → k < length ns → getD ns k 0 < 256 ^ w)
-    → numbersAt w n 0 (flat (toBe w) ns ++ rest) ≡ ns
+    → numbersAt w n 0 (flat (toLe w) ns ++ rest) ≡ ns
 unfolding numbersAt
 numbers-back w n ns rest e f =
-    let l : List ℕ = flat (toBe w) ns ++ rest in
+    let l : List ℕ = flat (toLe w) ns ++ rest in
     ext-getD 0 (numbersAt w n 0 l) ns (length-numbersAt w n 0 l ∙ sym e)
     (λ k h.
     let q : k < length ns = omega (arith, length-numbersAt w n 0 l) in
-    getD-map-below (λ (i : ℕ). beOf (part (0 + w * i) w l)) n k 0 (omega arith) ∙ ap (λ (x : ℕ). beOf (part x w l)) (zero-add (w * k))
-    ∙ ap beOf (number-part w k ns rest q) ∙ beOf-toBe w (getD ns k 0) (f k q))
+    getD-map-below (λ (i : ℕ). leOf (part (0 + w * i) w l)) n k 0 (omega arith) ∙ ap (λ (x : ℕ). leOf (part x w l)) (zero-add (w * k))
+    ∙ ap leOf (number-part w k ns rest q) ∙ leOf-toLe w (getD ns k 0) (f k q))
 
 -- a section behind others
 numbers-behind : (w n at : ℕ) (s t : List ℕ) → numbersAt w n (length s + at) (s ++ t) ≡ numbersAt w n at t
 unfolding numbersAt
 numbers-behind w n at s t =
-    map-below-same (λ (i : ℕ). beOf (part (length s + at + w * i) w (s ++ t))) (λ (i : ℕ). beOf (part (at + w * i) w t)) n
-    (λ k h. ap beOf (ap (λ (x : ℕ). part x w (s ++ t)) (add-assoc (length s) at (w * k)) ∙ part-append-right (at + w * k) w s t))
+    map-below-same (λ (i : ℕ). leOf (part (length s + at + w * i) w (s ++ t))) (λ (i : ℕ). leOf (part (at + w * i) w t)) n
+    (λ k h. ap leOf (ap (λ (x : ℕ). part x w (s ++ t)) (add-assoc (length s) at (w * k)) ∙ part-append-right (at + w * k) w s t))
 
 -- what is read from w bytes is below 256 ^ w
-part-low : (w at : ℕ) (bs : List ℕ) → Bytes bs → beOf (part at w bs) < 256 ^ w
+part-low : (w at : ℕ) (bs : List ℕ) → Bytes bs → leOf (part at w bs) < 256 ^ w
 part-low w at bs h =
     let q = part at w bs in
     let m : 256 ^ length q ≤ 256 ^ w = pow-le-pow-right (lit< tt) {i = length q} {j = w} short in
-    let b = beOf-low q (bytes-part at w bs h) in
+    let b = leOf-lt q (λ k l. bytes-part at w bs h k) in
     omega arith
   where
     short : length (part at w bs) ≤ w
@@ -79,11 +85,11 @@ numbers-low : (w n at : ℕ) (bs : List ℕ) → Bytes bs → (k : ℕ) → getD
 unfolding numbersAt
 numbers-low w n at bs h k = go (decLt k n)
   where
-    go : Dec (k < n) → getD (map (λ i. beOf (part (at + w * i) w bs)) (below n)) k 0 < 256 ^ w
-    go (yes l) = subst (λ (x : ℕ). x < 256 ^ w) (sym (getD-map-below (λ (i : ℕ). beOf (part (at + w * i) w bs)) n k 0 l)) (part-low w (at + w * k) bs h)
+    go : Dec (k < n) → getD (map (λ i. leOf (part (at + w * i) w bs)) (below n)) k 0 < 256 ^ w
+    go (yes l) = subst (λ (x : ℕ). x < 256 ^ w) (sym (getD-map-below (λ (i : ℕ). leOf (part (at + w * i) w bs)) n k 0 l)) (part-low w (at + w * k) bs h)
     go (no l) =
-        let e : length (map (λ i. beOf (part (at + w * i) w bs)) (below n)) ≤ k = simp (length-map, length-below) (omega arith) in
-        subst (λ (x : ℕ). x < 256 ^ w) (sym (List·getD-eq-default (map (λ i. beOf (part (at + w * i) w bs)) (below n)) 0 {n = k} e))
+        let e : length (map (λ i. leOf (part (at + w * i) w bs)) (below n)) ≤ k = simp (length-map, length-below) (omega arith) in
+        subst (λ (x : ℕ). x < 256 ^ w) (sym (List·getD-eq-default (map (λ i. leOf (part (at + w * i) w bs)) (below n)) 0 {n = k} e))
         (one-le-pow w 256 (lit< {m = 0} {n = 256} tt))
 
 -- ---- sections one after the other
@@ -124,13 +130,13 @@ sections-back (s ∷ ss) (ns ∷ nss) zero h f g = numbers-back (s .width) (s .c
 sections-back (s ∷ ss) (ns ∷ nss) (suc k) h f g =
     let d : Section = getD ss k (section 0 0) in
     let t : ℕ = total (map sectionLen (take k ss)) in
-    ap (λ (x : ℕ). numbersAt (d .width) (d .count) (x + t) (flat (toBe (s .width)) ns ++ sectionsBytes ss nss)) (sym (length-section s ns (f .0)))
-    ∙ numbers-behind (d .width) (d .count) t (flat (toBe (s .width)) ns) (sectionsBytes ss nss) ∙ sections-back ss nss k (omega arith) (f .1) (g .1)
+    ap (λ (x : ℕ). numbersAt (d .width) (d .count) (x + t) (flat (toLe (s .width)) ns ++ sectionsBytes ss nss)) (sym (length-section s ns (f .0)))
+    ∙ numbers-behind (d .width) (d .count) t (flat (toLe (s .width)) ns) (sectionsBytes ss nss) ∙ sections-back ss nss k (omega arith) (f .1) (g .1)
 
 bytes-section : (s : Section) (ns : List ℕ) → Bytes (sectionBytes s ns)
 unfolding sectionBytes flat
 bytes-section s [] = bytes-nil
-bytes-section s (n ∷ ns) = bytes-append (toBe (s .width) n) (flat (toBe (s .width)) ns) (bytes-toBe (s .width) n) (bytes-section s ns)
+bytes-section s (n ∷ ns) = bytes-append (toLe (s .width) n) (flat (toLe (s .width)) ns) (bytes-toLe (s .width) n) (bytes-section s ns)
 
 bytes-sections : (ss : List Section) (nss : List (List ℕ)) → Bytes (sectionsBytes ss nss)
 unfolding flat zipped
@@ -274,5 +280,5 @@ module _ (st : State) (f : Fits st) where
 
 -- 01, Store count: zeros are the state that a cut leaves
 pub stateOf-zeros : stateOf (replicate stateLen 0) ≡ zeroState
-unfolding stateOf numberOf sectionOf sectionAt sectionLen stateSections total numbersAt below upFrom part beOf beFrom zeroState idleState stateLen
+unfolding stateOf numberOf sectionOf sectionAt sectionLen stateSections total numbersAt below upFrom part leOf zeroState idleState stateLen
 stateOf-zeros = refl
