@@ -3,5 +3,4 @@ pub mod Stored
 pub mod Segments
 pub mod Calls
 pub mod Restarts
-pub mod Assembly
 pub mod Plain

@@ -23,6 +23,7 @@ use Rattle.defs.specs.Params.{noDrive, named, present}
 use Rattle.defs.specs.Segments.{remaining, Segment, segmentOf, segments, hasChunk, counts, candidates, addressTable, compactTable}
 use Rattle.spec_demands.specs.Engines.{Reply, Engine, onValues, onBytes, viewIn, readsAs}
 use Rattle.spec_demands.specs.Histories.{lentInOrder}
+use Rattle.spec_demands.specs.Latest.{SaidIsLatest}
 use Rattle.spec_demands.specs.Layouts.{Layout}
 use Rattle.spec_demands.specs.Rules.{ZoneRules}
 
@@ -173,5 +174,7 @@ pub record Demand2 : Type 0 where
   pub zone-rules : ZoneRules
   -- 01, How tightly, 2: no restart "that refuses all images": empty drives are accepted
   pub accepts : (p : Params) (l : Lent) (d n : ℕ) → lentInOrder p l d ≡ true → emptyDisk p (lentDisk l) ≡ true → isRefused (callBytes p l (restart d n) .answer) ≡ false
-  -- "From those bytes alone, a read gives the latest-sent block among whole stripes, and after a restart and every call on what it left .."
+  -- "From those bytes alone, a read gives the latest-sent block among whole stripes": what `saidAt` gives is that
+  pub latest : SaidIsLatest
+  -- "and after a restart and every call on what it left, none of them cut, the tables in memory equal what the drives say"
   pub after-restart : AfterRestart onBytes

@@ -1,0 +1,118 @@
+-- Demand 2 with the state as a value, put together by induction over the calls from what each crate proves of one call. Assumes nothing.
+use mathlib.Core.Path.{_≡_}
+use mathlib.Core.List.{List, [], _∷_}
+use mathlib.Core.Bool.{false}
+use Rattle.defs.specs.declared.Params.{Params}
+use Rattle.defs.specs.Answers.{isCut}
+use Rattle.defs.specs.Drives.{Disk}
+use Rattle.defs.specs.Engine.{Call, callDisk}
+use Rattle.defs.specs.Engine.Call.{write, land, close, reclaim, read, fill, restart, rebuild}
+use Rattle.defs.specs.History.{mkWorld, seenFilled, seenAt}
+use Rattle.defs.specs.Memory.{Memory}
+use Rattle.defs.specs.Params.{named}
+use Rattle.defs.specs.Segments.{Segment, segments}
+use Rattle.proof_flights.specs.Flown.{Flown}
+use Rattle.proof_flights.specs.Idled.{flown-read, flown-fill}
+use Rattle.proof_flights.specs.LandedCall.{flown-land, lands-say}
+use Rattle.proof_flights.specs.Reclaimed.{flown-reclaim}
+use Rattle.proof_flights.specs.RestartedCall.{flown-restart, flown-restart-step, flown-rebuild}
+use Rattle.proof_flights.specs.Shut.{flown-close}
+use Rattle.proof_flights.specs.Written.{flown-write}
+use Rattle.proof_rebuilt.specs.Theorem.{rebuilds-say}
+use Rattle.spec_demands.specs.Engines.{callWorld, onValues, viewIn, readsAs}
+use Rattle.spec_demands.specs.Layouts.{Layout}
+use Rattle.spec_demands.specs.Tables.{Pending, pendingAfter, foundAfter, Says, CallSays, SaysOn, AfterRestart}
+use Rattle.tablesay.specs.Image.{bytes-of, shaped-of}
+use Rattle.tablesay.specs.Reading.{says}
+use Rattle.tablesay.specs.Run.{Run}
+use Rattle.tablesay.specs.Theorem.{restart-finished, stepped}
+use Rattle.tablesay.specs.Zones.{Shaped}
+use Rattle.views.specs.Views.{Whole, seen}
+use Rattle.proof_layout.specs.Calls.{Keeps, laid-write, laid-close, laid-read, laid-fill, laid-reclaim, laid-land, laid-rebuild}
+use Rattle.proof_layout.specs.Laid.{Laid, layout-of}
+use Rattle.proof_layout.specs.Restarts.{restarts-say, laid-first, laid-again}
+
+-- what holds between calls, of the tables, the layout and the stripes in flight
+pub record Holds (p : Params) (k : Disk) (m : Memory) (ws : List Pending) (old : List Segment) : Type 0 where
+  pub runs : Run p k m
+  pub laid : Laid p (seen p k) (m .state .missing) old
+  pub flown : Flown p k m ws old
+
+-- tables and reads, as the engine over values gives them
+pub says-here : (p : Params) (k : Disk) (m : Memory) → Run p k m → Says onValues p (mkWorld k m)
+unfolding viewIn readsAs callWorld seenAt seenFilled
+says-here p k m u = let s = says p k m (u .base) in record { addresses-say = s .addresses-say; compact-says = s .compact-says; reads-say = s .reads-say }
+
+layout-here : (p : Params) (k : Disk) (m : Memory) (ws : List Pending) (old : List Segment) → Holds p k m ws old → Layout p (viewIn onValues p (mkWorld k m)) (m .state .missing) old
+unfolding viewIn
+layout-here p k m ws old h = layout-of p (seen p k) (m .state .missing) old (h .laid) (h .flown .parities)
+
+-- the layout, by any call
+pub laid-step : (p : Params) (k : Disk) (m : Memory) → Run p k m → (old : List Segment) → Laid p (seen p k) (m .state .missing) old → (c : Call) → isCut (callDisk p k m c .answer) ≡ false
+    → Keeps p (foundAfter p (seen p k) c (callDisk p k m c .answer) old) (callDisk p k m c)
+unfolding foundAfter
+laid-step p k m u old l (write a b n) nc = laid-write p k m u old l a b n nc
+laid-step p k m u old l (land d s n) nc = laid-land p k m u old l d s n nc
+laid-step p k m u old l (close n) nc = laid-close p k m u old l n nc
+laid-step p k m u old l (reclaim n) nc = laid-reclaim p k m u old l n nc
+laid-step p k m u old l (read a) nc = laid-read p k m u old l a
+laid-step p k m u old l (fill a b) nc = laid-fill p k m u old l a b
+laid-step p k m u old l (restart d n) nc = laid-again p k m u old l d n nc
+laid-step p k m u old l (rebuild d n) nc = laid-rebuild p k m u old l d n nc
+
+-- the stripes in flight, by any call
+flown-step : (p : Params) (k : Disk) (m : Memory) → Run p k m → (ws : List Pending) (old : List Segment) → Flown p k m ws old → (c : Call) → isCut (callDisk p k m c .answer) ≡ false
+    → Flown p (callDisk p k m c .drives) (callDisk p k m c .memory) (pendingAfter c (callDisk p k m c .answer) ws) (foundAfter p (seen p k) c (callDisk p k m c .answer) old)
+unfolding foundAfter
+flown-step p k m u ws old f (write a b n) nc = flown-write p k m u ws old f a b n nc
+flown-step p k m u ws old f (land d s n) nc = flown-land p k m ws old d s n u f nc
+flown-step p k m u ws old f (close n) nc = flown-close p k m u ws old f n nc
+flown-step p k m u ws old f (reclaim n) nc = flown-reclaim p k m u ws old f n nc
+flown-step p k m u ws old f (read a) nc = flown-read p k m u ws old f a nc
+flown-step p k m u ws old f (fill a b) nc = flown-fill p k m u ws old f a b nc
+flown-step p k m u ws old f (restart d n) nc = flown-restart-step p k m ws old d n (λ w. u .base .shaped) f nc
+flown-step p k m u ws old f (rebuild d n) nc = flown-rebuild p k m ws old d n u f nc
+
+call-says : (p : Params) (k : Disk) (m : Memory) (ws : List Pending) (old : List Segment) → Holds p k m ws old → (c : Call) → CallSays onValues p (mkWorld k m) ws c (callWorld p (mkWorld k m) c)
+unfolding callWorld
+call-says p k m ws old h (write a b n) = tt
+call-says p k m ws old h (land d s n) = λ x e. lands-say p k m ws old d s n (h .runs) (h .flown) x e
+call-says p k m ws old h (close n) = tt
+call-says p k m ws old h (reclaim n) = tt
+call-says p k m ws old h (read a) = tt
+call-says p k m ws old h (fill a b) = tt
+call-says p k m ws old h (restart d n) = λ q. restarts-say p k m d n q
+call-says p k m ws old h (rebuild d n) = λ q. rebuilds-say p k m (h .runs) d n q
+
+holds-step : (p : Params) (k : Disk) (m : Memory) (ws : List Pending) (old : List Segment) → Holds p k m ws old → (c : Call) → isCut (callDisk p k m c .answer) ≡ false
+    → Holds p (callDisk p k m c .drives) (callDisk p k m c .memory) (pendingAfter c (callDisk p k m c .answer) ws) (foundAfter p (seen p k) c (callDisk p k m c .answer) old)
+holds-step p k m ws old h c nc = record {
+  runs = stepped p k m (h .runs) c .1 nc;
+  laid = laid-step p k m (h .runs) old (h .laid) c nc;
+  flown = flown-step p k m (h .runs) ws old (h .flown) c nc;
+}
+
+says-on : (p : Params) (k : Disk) (m : Memory) (ws : List Pending) (old : List Segment) → Holds p k m ws old → (cs : List Call) → SaysOn onValues p (mkWorld k m) ws old cs
+unfolding callWorld viewIn
+says-on p k m ws old h [] = (says-here p k m (h .runs), layout-here p k m ws old h)
+says-on p k m ws old h (c ∷ cs) = (
+  says-here p k m (h .runs),
+  layout-here p k m ws old h,
+  stepped p k m (h .runs) c .0,
+  call-says p k m ws old h c,
+  λ nc. says-on p (callDisk p k m c .drives) (callDisk p k m c .memory) (pendingAfter c (callDisk p k m c .answer) ws)
+      (foundAfter p (seen p k) c (callDisk p k m c .answer) old) (holds-step p k m ws old h c nc) cs,
+)
+
+-- demand 2, with the state as a value
+pub after-restart : AfterRestart onValues
+unfolding callWorld viewIn
+after-restart p w d n cs by q =
+    let k = w .disk in
+    let m = w .memory in
+    let sh : Whole p k → Shaped p (seen p k) = λ x. shaped-of p k x (bytes-of (k .image) by) in
+    let a = callDisk p k m (restart d n) in (
+      restarts-say p k m d n q,
+      says-on p (a .drives) (a .memory) [] (segments p (seen p k) (named d))
+          (record { runs = restart-finished p k m d n sh q; laid = laid-first p k m d n sh q; flown = flown-restart p k m d n sh q }) cs,
+    )
