@@ -1,4 +1,4 @@
--- Demands 2 and 3 as statements; they are not proved here. Assumes nothing.
+-- Demand 3 with the state as a value, the lower half of that over bytes (crate spec_demands), and what demand 2 says of the drives. Not proved here. Assumes nothing.
 use mathlib.Core.Path.{_≡_}
 use mathlib.Core.List.{List, [], _∷_}
 use mathlib.Core.Bool.{Bool, true, false, cond}
@@ -7,18 +7,15 @@ use lib.Dec.{ltb}
 use lib.ListN.{length, getD}
 use Rattle.defs.specs.declared.Params.{Params}
 use Rattle.defs.specs.declared.Answer.{Answer}
-use Rattle.defs.specs.Answers.{isRefused, isRefusedAs, isCut, finished}
-use Rattle.defs.specs.Drives.{View, viewOf, Disk, placeSegment, recordAt}
-use Rattle.defs.specs.Engine.{Call, callDisk}
-use Rattle.defs.specs.Engine.Call.{restart}
-use Rattle.defs.specs.History.{mkWorld, Event, restartOf, happens, restartIn, Send, mkSend, Mark, Hist, step, emptyDisk, began, allowed, Seen, seenAt}
+use Rattle.defs.specs.Answers.{isRefused, isRefusedAs, finished}
+use Rattle.defs.specs.Drives.{View, Disk, placeSegment, recordAt}
+use Rattle.defs.specs.History.{Event, happens, restartIn, Send, mkSend, Mark, Hist, step, emptyDisk, began, allowed, Seen, seenAt}
 use Rattle.defs.specs.History.Seen.{unwritten, got, failed}
 use Rattle.defs.specs.Lists.{Opt, all, isIn}
 use Rattle.defs.specs.Lists.Opt.{none, some}
-use Rattle.defs.specs.Memory.{Memory}
 use Rattle.defs.specs.Params.{inRange}
 use Rattle.defs.specs.Rank.{Cand, best, candsOf}
-use Rattle.defs.specs.Segments.{segmentOf, segments, pieceOf, candidates, addressTable, compactTable}
+use Rattle.defs.specs.Segments.{segmentOf, segments, pieceOf, candidates}
 
 -- ---- demand 3
 
@@ -68,10 +65,10 @@ Claims p h (e ∷ es) = ClaimOf p h e (restartIn p (h .world) e) × Claims p (st
 
 -- demand 3, one claim about the list: "for every list of writes, landings, closings, reclaims, reads, restarts and rebuilds" (es) "from empty
 -- drives" (emptyDisk), refused and cut ones included, with parameters in range
-abbrev pub Demand3 : Type 0
-Demand3 = (p : Params) → inRange p ≡ true → (k : Disk) → emptyDisk p k ≡ true → (es : List Event) → Allowed p (began p k) es → Claims p (began p k) es
+abbrev pub Demand3Values : Type 0
+Demand3Values = (p : Params) → inRange p ≡ true → (k : Disk) → emptyDisk p k ≡ true → (es : List Event) → Allowed p (began p k) es → Claims p (began p k) es
 
--- ---- demand 2
+-- ---- demand 2: what the drives say
 
 -- "bytes": numbers below 256; of the image, since a stamp of more than 8 bytes could be read from other numbers
 unfoldable pub areBytes : List ℕ → Bool
@@ -89,25 +86,7 @@ saidBlock p v gone (some c) =
 unfoldable pub saidAt : Params → View → ℕ → ℕ → Seen
 saidAt p v gone a = saidBlock p v gone (best none (candsOf a (candidates p gone (segments p v gone))))
 
--- "the tables in memory equal what the drives say", and so do the reads, under the drive that the restart named missing
-pub record Says (p : Params) (k : Disk) (m : Memory) : Type 0 where
-  pub addresses-say : m .addresses ≡ addressTable p (candidates p (m .state .missing) (segments p (viewOf p (k .image) (k .pointers)) (m .state .missing)))
-  pub compact-says : m .compact ≡ compactTable p (segments p (viewOf p (k .image) (k .pointers)) (m .state .missing))
-  pub reads-say : (a : ℕ) → a < p .L → seenAt p (mkWorld k m) a ≡ saidAt p (viewOf p (k .image) (k .pointers)) (m .state .missing) a
-
 -- 01, How tightly, 2: "9, except from restart, .. where it never comes"
 abbrev pub NotNinth : Opt ℕ → Answer → Type 0
 NotNinth none r = isRefusedAs 9 r ≡ false
 NotNinth (some d) r = Unit {0}
-
--- "every call on what it left, none of them cut"
-abbrev pub SaysOn : Params → Disk → Memory → List Call → Type 0
-SaysOn p k m [] = Says p k m
-SaysOn p k m (c ∷ cs) =
-    Says p k m × NotNinth (restartOf c) (callDisk p k m c .answer)
-    × (isCut (callDisk p k m c .answer) ≡ false → SaysOn p (callDisk p k m c .drives) (callDisk p k m c .memory) cs)
-
--- demand 2: "after a restart" that finished, on any bytes that it accepts, "and every call on what it left, none of them cut"
-abbrev pub Demand2 : Type 0
-Demand2 = (p : Params) (k : Disk) (m : Memory) (d n : ℕ) (cs : List Call) → areBytes (k .image) ≡ true → finished (callDisk p k m (restart d n) .answer) ≡ true
-    → SaysOn p (callDisk p k m (restart d n) .drives) (callDisk p k m (restart d n) .memory) cs

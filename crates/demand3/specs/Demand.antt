@@ -10,7 +10,7 @@ use lib.ListN.{length}
 use Rattle.defs.specs.declared.Params.{Params}
 use Rattle.defs.specs.Answers.{isRefusedAs, finished}
 use Rattle.defs.specs.Calls.{firstRefusal, After}
-use Rattle.defs.specs.Demands.{RestartOk, ClaimOf, Allowed, Claims, Demand3}
+use Rattle.defs.specs.Demands.{RestartOk, ClaimOf, Allowed, Claims, Demand3Values}
 use Rattle.defs.specs.Drives.{zoneAt, Disk}
 use Rattle.defs.specs.Engine.{Call, lentOk, callDisk}
 use Rattle.defs.specs.Engine.Call.{write, land, close, reclaim, read, fill, restart, rebuild}
@@ -234,5 +234,5 @@ empty-holds p h k e = rests 0 (record {
     I = go-start (parOf p h) (mst (start (parOf p h) .g) (itemsIn p (seen p k)) [] false off) noTrack go
 
 -- DEMAND 3
-pub demand-3 : Demand3
+pub demand-3 : Demand3Values
 demand-3 p r k e es al = all-claims p (ranged p r) es (began p k) (empty-holds p (ranged p r) k e) al

@@ -1,3 +1,4 @@
 pub mod Empty
 pub mod Values
 pub mod Demand
+pub mod Instance

@@ -8,14 +8,14 @@ use Rattle.defs.specs.declared.Params.{Params}
 use Rattle.defs.specs.declared.Answer.{Answer}
 use Rattle.defs.specs.declared.Answer.the-variants.{Cut}
 use Rattle.defs.specs.Answers.{kind, values, isRefused, isCut}
-use Rattle.defs.specs.Calls.{cutMemory}
 use Rattle.defs.specs.Drives.{Store, storeDisk, storeAll}
-use Rattle.defs.specs.Engine.{Call, lentBlock, Lent, Left, lentDisk, lentMemory, lentAll, callBytes}
+use Rattle.defs.specs.Engine.{Call, lentBlock, Lent, Left, lentDisk, callBytes}
 use Rattle.defs.specs.Engine.Call.{write, land, close, reclaim, read, fill, restart, rebuild}
 use Rattle.defs.specs.Lists.{isMember}
 use Rattle.defs.specs.Memory.{stateLen}
+use Rattle.defs.specs.Params.{addressesLen, compactLen}
 
--- 01, Refusals: the numbers that the table gives a call, in the order of its checks
+-- 01, Refusals: the numbers that the table gives a call
 unfoldable pub refusalsOf : Call → List ℕ
 refusalsOf (write a b n) = 1 ∷ 2 ∷ 3 ∷ 4 ∷ 6 ∷ 7 ∷ 8 ∷ 9 ∷ []
 refusalsOf (land d s n) = 1 ∷ 2 ∷ 3 ∷ 5 ∷ 9 ∷ []
@@ -71,11 +71,20 @@ withCount k (rebuild d n) = rebuild d k
 
 -- 01, Store count: "image and pointers are as after those stores, state and tables all zeros, other buffers as they came"
 unfoldable pub cutLeft : Params → Lent → Call → List Store → Left
-cutLeft p l c ss = record {
-  answer = Cut;
-  lent = lentAll (storeAll (storeDisk p) ss (lentDisk l)) (cutMemory p (lentMemory l)) (replicate stateLen 0);
-  block = lentBlock c;
-}
+cutLeft p l c ss =
+    let k = storeAll (storeDisk p) ss (lentDisk l) in
+    record {
+      answer = Cut;
+      lent = record {
+        image = k .image;
+        pointers = k .pointers;
+        addresses = replicate (addressesLen p) 0;
+        compact = replicate (compactLen p) 0;
+        inflight = l .inflight;
+        state = replicate stateLen 0;
+      };
+      block = lentBlock c;
+    }
 
 -- 01, Store count: ss are the stores that are due
 pub record Due (p : Params) (l : Lent) (c : Call) (ss : List Store) : Type 0 where

@@ -48,4 +48,3 @@ pub mod Mending
 pub mod Rewriting
 pub mod Restarting
 pub mod Theorem
-pub mod Instance

@@ -14,7 +14,7 @@ use Rattle.defs.specs.Answers.{kind, isRefused, isRefusedAs}
 use Rattle.defs.specs.Calls.{Check, firstRefusal, Plan, mkPlan, Verdict, decided, After, mkAfter, limited, outcome}
 use Rattle.defs.specs.Calls.Check.{rule, zones}
 use Rattle.defs.specs.Calls.Verdict.{refused, due}
-use Rattle.defs.specs.Demands.{saidBlock, saidAt, Says}
+use Rattle.defs.specs.Demands.{saidBlock, saidAt}
 use Rattle.defs.specs.Drives.{View, Store, Disk, storeDisk, storeAll}
 use Rattle.defs.specs.Engine.Call.{read, fill}
 use Rattle.defs.specs.Engine.{storeCount, lentBlock, verdict, lentOk, callOn, callDisk}
@@ -27,7 +27,7 @@ use Rattle.defs.specs.Params.{inRange}
 use Rattle.defs.specs.Rank.{Cand, best, candsOf}
 use Rattle.defs.specs.Read.{Found, lookup, foundFaults, decodeFaults, readPiece, readAnswer, readChecks, readVerdict, fillVerdict}
 use Rattle.defs.specs.Read.Found.{nowhere, here, away}
-use Rattle.defs.specs.Segments.{segments, candidates, compactTable}
+use Rattle.defs.specs.Segments.{segments, candidates, compactTable, addressTable}
 use Rattle.laws.specs.Geometry.{Ranged, ranged}
 use Rattle.laws.specs.Ranges.{and-both}
 use Rattle.laws.specs.Stores.{refused-same}
@@ -49,6 +49,12 @@ state-clear p st q = rw q
 
 pub nil-append : {A : Type 0} (xs ys : List A) → xs ≡ [] → ys ≡ [] → xs ++ ys ≡ []
 nil-append xs ys p q = ap₂ _++_ p q
+
+-- demand 2: tables and reads, with the state as a value
+pub record Says (p : Params) (k : Disk) (m : Memory) : Type 0 where
+  pub addresses-say : m .addresses ≡ addressTable p (candidates p (m .state .missing) (segments p (seen p k) (m .state .missing)))
+  pub compact-says : m .compact ≡ compactTable p (segments p (seen p k) (m .state .missing))
+  pub reads-say : (a : ℕ) → a < p .L → seenAt p (mkWorld k m) a ≡ saidAt p (seen p k) (m .state .missing) a
 
 module _ (p : Params) (k : Disk) (m : Memory) (b : Base p k m) where
   abbrev v : View

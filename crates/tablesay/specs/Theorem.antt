@@ -1,4 +1,4 @@
--- Demand 2: after a finished restart, and every uncut call on what it left, tables and reads are what the drives say, and refusal 9 comes from restarts alone. Assumes nothing.
+-- What holds between calls holds after a finished restart and after every uncut call, and refusal 9 comes from restarts alone. Assumes nothing.
 use mathlib.Core.Path.{_≡_, refl, sym, ap, _∙_, subst}
 use mathlib.Core.List.{List, [], _∷_}
 use mathlib.Core.Bool.{true, false, not, _||_}
@@ -11,7 +11,7 @@ use Rattle.defs.specs.declared.Answer.the-variants.{Rebuilt}
 use Rattle.defs.specs.Answers.{isRefusedAs, isCut, finished}
 use Rattle.defs.specs.Calls.{Check, firstRefusal, Plan, mkPlan, decided, After, outcome}
 use Rattle.defs.specs.Calls.Check.{rule}
-use Rattle.defs.specs.Demands.{NotNinth, SaysOn, Demand2}
+use Rattle.defs.specs.Demands.{NotNinth}
 use Rattle.defs.specs.Drives.{Disk, storeDisk, storeAll}
 use Rattle.defs.specs.Engine.{Call, storeCount, lentBlock, verdict, lentOk, callOn, callDisk}
 use Rattle.defs.specs.Engine.Call.{write, land, close, reclaim, read, fill, restart, rebuild}
@@ -27,12 +27,11 @@ use Rattle.laws.specs.Ranges.{and-left, and-right}
 use Rattle.views.specs.Views.{Whole, seen}
 use Rattle.tablesay.specs.Checks.{clear}
 use Rattle.tablesay.specs.Going.{well-write, well-close}
-use Rattle.tablesay.specs.Image.{bytes-of, shaped-of}
 use Rattle.tablesay.specs.Landings.{well-land}
 use Rattle.tablesay.specs.Losing.{named-some, idle-kept, refused-kept, lost-write, lost-land, lost-close, lost-reclaim, lost-rebuild}
 use Rattle.tablesay.specs.Outcomes.{Ended, ended, refusal-kind, refused-unfinished, cut-unfinished, cut-cut}
 use Rattle.tablesay.specs.Outcomes.Ended.{ended-refused, ended-done, ended-cut}
-use Rattle.tablesay.specs.Reading.{says, read-idle, fill-idle}
+use Rattle.tablesay.specs.Reading.{read-idle, fill-idle}
 use Rattle.tablesay.specs.Reclaiming.{well-reclaim}
 use Rattle.tablesay.specs.Restarting.{started}
 use Rattle.tablesay.specs.Run.{Well, Run, Kept}
@@ -121,15 +120,3 @@ stepped p k m u (read a) = kept-step p (callDisk p k m (read a)) (idle-kept p k 
 stepped p k m u (fill a b) = kept-step p (callDisk p k m (fill a b)) (idle-kept p k m (u .base) (callDisk p k m (fill a b)) u (fill-idle p k m (u .base) a b))
 stepped p k m u (restart d n) = (tt, restart-step p k m u d n)
 stepped p k m u (rebuild d n) = kept-step p (callDisk p k m (rebuild d n)) (⊎-elim (λ x. lost-rebuild p k m u x d n) (λ x. well-rebuild p k m u x d n) (u .mode))
-
--- ---- every list of calls
-
-says-on : (p : Params) (k : Disk) (m : Memory) → Run p k m → (cs : List Call) → SaysOn p k m cs
-says-on p k m u [] = says p k m (u .base)
-says-on p k m u (c ∷ cs) =
-    let s = stepped p k m u c in
-    (says p k m (u .base), s .0, λ nc. says-on p (callDisk p k m c .drives) (callDisk p k m c .memory) (s .1 nc) cs)
-
-pub demand-2 : Demand2
-demand-2 p k m d n cs by q =
-    says-on p (callDisk p k m (restart d n) .drives) (callDisk p k m (restart d n) .memory) (restart-finished p k m d n (λ w. shaped-of p k w (bytes-of (k .image) by)) q) cs
