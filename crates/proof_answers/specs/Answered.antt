@@ -73,7 +73,7 @@ module _ (p : Params) (l : Lent) (c : Call) where
 
   module _ (q : Plan) (e : decidedBy ≡ due q) where
     left-cut : (n : ℕ) → n < length (q .stores) → callBytes p l (withCount n c) ≡ cutLeft p l c (take n (q .stores))
-    unfolding leftBy cutLeft cutMemory isRefused kind
+    unfolding lentMemory lentAll leftBy cutLeft cutMemory isRefused kind
     left-cut n h =
         let k = storeAll (storeDisk p) (take n (q .stores)) disk in
         let r = mkAfter Cut k (cutMemory p memory) (lentBlock c) in
