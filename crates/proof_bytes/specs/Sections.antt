@@ -140,43 +140,56 @@ bytes-sections (s ∷ ss) (ns ∷ nss) = bytes-append (sectionBytes s ns) (secti
 
 -- ---- the state
 
+-- 01, The array: width and count of section i, and the bound of its numbers
+abbrev pub wide : ℕ → ℕ
+wide i = getD stateSections i (section 0 0) .width
+
+abbrev pub many : ℕ → ℕ
+many i = getD stateSections i (section 0 0) .count
+
+abbrev pub limit : ℕ → ℕ
+limit i = 256 ^ wide i
+
+pub limit-pos : (i : ℕ) → 0 < limit i
+limit-pos i = one-le-pow (wide i) 256 (lit< {m = 0} {n = 256} tt)
+
 -- n numbers below m
 abbrev pub Fill : ℕ → ℕ → List ℕ → Type 0
 Fill n m l = (length l ≡ n) × ((k : ℕ) → getD l k 0 < m)
 
 -- each number of the state fits the width of its section, each list has its length
 pub record Fits (st : State) : Type 0 where
-  pub live-fits : st .live < 256 ^ 1
-  pub missing-fits : st .missing < 256 ^ 1
-  pub stamp-fits : st .stamp .0 < 256 ^ 8
-  pub serial-fits : st .serial .0 < 256 ^ 8
-  pub opened-fits : st .opened < 256 ^ 4
-  pub next-fits : st .next < 256 ^ 4
-  pub numbers-fit : Fill 8 (256 ^ 4) (st .numbers)
-  pub filled-fit : Fill 8 (256 ^ 1) (st .filled)
-  pub writes-fit : Fill 8 (256 ^ 1) (st .writes)
-  pub landed-fit : Fill 8 (256 ^ 1) (st .landed)
-  pub addresses-fit : Fill 64 (256 ^ 8) (st .addresses)
-  pub stamps-fit : Fill 64 (256 ^ 8) (st .stamps)
-  pub offsets-fit : Fill 64 (256 ^ 4) (st .offsets)
+  pub live-fits : st .live < limit 0
+  pub missing-fits : st .missing < limit 1
+  pub stamp-fits : st .stamp .0 < limit 2
+  pub serial-fits : st .serial .0 < limit 3
+  pub opened-fits : st .opened < limit 4
+  pub next-fits : st .next < limit 5
+  pub numbers-fit : Fill (many 6) (limit 6) (st .numbers)
+  pub filled-fit : Fill (many 7) (limit 7) (st .filled)
+  pub writes-fit : Fill (many 8) (limit 8) (st .writes)
+  pub landed-fit : Fill (many 9) (limit 9) (st .landed)
+  pub addresses-fit : Fill (many 10) (limit 10) (st .addresses)
+  pub stamps-fit : Fill (many 11) (limit 11) (st .stamps)
+  pub offsets-fit : Fill (many 12) (limit 12) (st .offsets)
 
 -- what is decoded from bytes fits
 pub fits-stateOf : (bs : List ℕ) → Bytes bs → Fits (stateOf bs)
-unfolding stateOf numberOf sectionOf stateSections
+unfolding stateOf numberOf sectionOf
 fits-stateOf bs h = record {
-  live-fits = numbers-low 1 1 (sectionAt 0) bs h 0;
-  missing-fits = numbers-low 1 1 (sectionAt 1) bs h 0;
-  stamp-fits = numbers-low 8 1 (sectionAt 2) bs h 0;
-  serial-fits = numbers-low 8 1 (sectionAt 3) bs h 0;
-  opened-fits = numbers-low 4 1 (sectionAt 4) bs h 0;
-  next-fits = numbers-low 4 1 (sectionAt 5) bs h 0;
-  numbers-fit = (length-numbersAt 4 8 (sectionAt 6) bs, numbers-low 4 8 (sectionAt 6) bs h);
-  filled-fit = (length-numbersAt 1 8 (sectionAt 7) bs, numbers-low 1 8 (sectionAt 7) bs h);
-  writes-fit = (length-numbersAt 1 8 (sectionAt 8) bs, numbers-low 1 8 (sectionAt 8) bs h);
-  landed-fit = (length-numbersAt 1 8 (sectionAt 9) bs, numbers-low 1 8 (sectionAt 9) bs h);
-  addresses-fit = (length-numbersAt 8 64 (sectionAt 10) bs, numbers-low 8 64 (sectionAt 10) bs h);
-  stamps-fit = (length-numbersAt 8 64 (sectionAt 11) bs, numbers-low 8 64 (sectionAt 11) bs h);
-  offsets-fit = (length-numbersAt 4 64 (sectionAt 12) bs, numbers-low 4 64 (sectionAt 12) bs h);
+  live-fits = numbers-low (wide 0) (many 0) (sectionAt 0) bs h 0;
+  missing-fits = numbers-low (wide 1) (many 1) (sectionAt 1) bs h 0;
+  stamp-fits = numbers-low (wide 2) (many 2) (sectionAt 2) bs h 0;
+  serial-fits = numbers-low (wide 3) (many 3) (sectionAt 3) bs h 0;
+  opened-fits = numbers-low (wide 4) (many 4) (sectionAt 4) bs h 0;
+  next-fits = numbers-low (wide 5) (many 5) (sectionAt 5) bs h 0;
+  numbers-fit = (length-numbersAt (wide 6) (many 6) (sectionAt 6) bs, numbers-low (wide 6) (many 6) (sectionAt 6) bs h);
+  filled-fit = (length-numbersAt (wide 7) (many 7) (sectionAt 7) bs, numbers-low (wide 7) (many 7) (sectionAt 7) bs h);
+  writes-fit = (length-numbersAt (wide 8) (many 8) (sectionAt 8) bs, numbers-low (wide 8) (many 8) (sectionAt 8) bs h);
+  landed-fit = (length-numbersAt (wide 9) (many 9) (sectionAt 9) bs, numbers-low (wide 9) (many 9) (sectionAt 9) bs h);
+  addresses-fit = (length-numbersAt (wide 10) (many 10) (sectionAt 10) bs, numbers-low (wide 10) (many 10) (sectionAt 10) bs h);
+  stamps-fit = (length-numbersAt (wide 11) (many 11) (sectionAt 11) bs, numbers-low (wide 11) (many 11) (sectionAt 11) bs h);
+  offsets-fit = (length-numbersAt (wide 12) (many 12) (sectionAt 12) bs, numbers-low (wide 12) (many 12) (sectionAt 12) bs h);
 }
 
 -- what is encoded is bytes
@@ -226,17 +239,17 @@ module _ (st : State) (f : Fits st) where
   fitting : Fitting stateSections (stateNumbers st)
   unfolding stateSections stateNumbers
   fitting = (
-    λ k l. one (256 ^ 1) (st .live) k (f .live-fits) l,
+    λ k l. one (limit 0) (st .live) k (f .live-fits) l,
     (
-      λ k l. one (256 ^ 1) (st .missing) k (f .missing-fits) l,
+      λ k l. one (limit 1) (st .missing) k (f .missing-fits) l,
       (
-        λ k l. one (256 ^ 8) (st .stamp .0) k (f .stamp-fits) l,
+        λ k l. one (limit 2) (st .stamp .0) k (f .stamp-fits) l,
         (
-          λ k l. one (256 ^ 8) (st .serial .0) k (f .serial-fits) l,
+          λ k l. one (limit 3) (st .serial .0) k (f .serial-fits) l,
           (
-            λ k l. one (256 ^ 4) (st .opened) k (f .opened-fits) l,
+            λ k l. one (limit 4) (st .opened) k (f .opened-fits) l,
             (
-              λ k l. one (256 ^ 4) (st .next) k (f .next-fits) l,
+              λ k l. one (limit 5) (st .next) k (f .next-fits) l,
               (
                 λ k l. f .numbers-fit .1 k,
                 (
