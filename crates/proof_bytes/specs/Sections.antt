@@ -88,17 +88,14 @@ numbers-low w n at bs h k = go (decLt k n)
 
 -- ---- sections one after the other
 
--- each section has as many numbers as its count
-abbrev Counted : List Section → List (List ℕ) → Type 0
-Counted [] nss = Unit {0}
-Counted (s ∷ ss) [] = ⊥
-Counted (s ∷ ss) (ns ∷ nss) = (length ns ≡ s .count) × Counted ss nss
+-- n numbers below m
+abbrev pub Fill : ℕ → ℕ → List ℕ → Type 0
+Fill n m l = (length l ≡ n) × ((k : ℕ) → getD l k 0 < m)
 
--- each number fits the width of its section
-abbrev Fitting : List Section → List (List ℕ) → Type 0
-Fitting [] nss = Unit {0}
-Fitting (s ∷ ss) [] = ⊥
-Fitting (s ∷ ss) (ns ∷ nss) = ((k : ℕ) → k < length ns → getD ns k 0 < 256 ^ s .width) × Fitting ss nss
+-- each section has as many numbers as its count, and each number fits its width
+data Filled : List Section → List (List ℕ) → Type 0 where
+  no-more : Filled [] []
+  fills : {s : Section} {ss : List Section} {ns : List ℕ} {nss : List (List ℕ)} → Fill (s .count) (256 ^ s .width) ns → Filled ss nss → Filled (s ∷ ss) (ns ∷ nss)
 
 -- their bytes
 abbrev sectionsBytes : List Section → List (List ℕ) → List ℕ
@@ -108,24 +105,22 @@ length-section : (s : Section) (ns : List ℕ) → length ns ≡ s .count → le
 unfolding sectionBytes sectionLen
 length-section s ns e = length-numbers (s .width) ns ∙ ap (λ (x : ℕ). s .width * x) e
 
-length-sections : (ss : List Section) (nss : List (List ℕ)) → Counted ss nss → length (sectionsBytes ss nss) ≡ total (map sectionLen ss)
+length-sections : (ss : List Section) (nss : List (List ℕ)) → Filled ss nss → length (sectionsBytes ss nss) ≡ total (map sectionLen ss)
 unfolding flat zipped total
-length-sections [] nss h = refl
-length-sections (s ∷ ss) [] h = absurd h
-length-sections (s ∷ ss) (ns ∷ nss) h =
-    length-append (sectionBytes s ns) (sectionsBytes ss nss) ∙ ap₂ _+_ (length-section s ns (h .0)) (length-sections ss nss (h .1))
+length-sections _ _ no-more = refl
+length-sections _ _ (fills {s} {ss} {ns} {nss} f g) =
+    length-append (sectionBytes s ns) (sectionsBytes ss nss) ∙ ap₂ _+_ (length-section s ns (f .0)) (length-sections ss nss g)
 
-sections-back : (ss : List Section) (nss : List (List ℕ)) (k : ℕ) → k < length ss → Counted ss nss → Fitting ss nss
+sections-back : (ss : List Section) (nss : List (List ℕ)) (k : ℕ) → k < length ss → Filled ss nss
     → numbersAt (getD ss k (section 0 0) .width) (getD ss k (section 0 0) .count) (total (map sectionLen (take k ss))) (sectionsBytes ss nss) ≡ getD nss k []
 unfolding flat zipped total sectionBytes
-sections-back [] nss k h f g = absurd (let q : ⊥ = omega arith in q)
-sections-back (s ∷ ss) [] k h f g = absurd f
-sections-back (s ∷ ss) (ns ∷ nss) zero h f g = numbers-back (s .width) (s .count) ns (sectionsBytes ss nss) (f .0) (g .0)
-sections-back (s ∷ ss) (ns ∷ nss) (suc k) h f g =
+sections-back _ _ k h no-more = absurd (let q : ⊥ = omega arith in q)
+sections-back _ _ zero h (fills {s} {ss} {ns} {nss} f g) = numbers-back (s .width) (s .count) ns (sectionsBytes ss nss) (f .0) (λ k l. f .1 k)
+sections-back _ _ (suc k) h (fills {s} {ss} {ns} {nss} f g) =
     let d : Section = getD ss k (section 0 0) in
     let t : ℕ = total (map sectionLen (take k ss)) in
     ap (λ (x : ℕ). numbersAt (d .width) (d .count) (x + t) (flat (toBe (s .width)) ns ++ sectionsBytes ss nss)) (sym (length-section s ns (f .0)))
-    ∙ numbers-behind (d .width) (d .count) t (flat (toBe (s .width)) ns) (sectionsBytes ss nss) ∙ sections-back ss nss k (omega arith) (f .1) (g .1)
+    ∙ numbers-behind (d .width) (d .count) t (flat (toBe (s .width)) ns) (sectionsBytes ss nss) ∙ sections-back ss nss k (omega arith) g
 
 bytes-section : (s : Section) (ns : List ℕ) → Bytes (sectionBytes s ns)
 unfolding sectionBytes flat
@@ -152,10 +147,6 @@ limit i = 256 ^ wide i
 
 pub limit-pos : (i : ℕ) → 0 < limit i
 limit-pos i = one-le-pow (wide i) 256 (lit< {m = 0} {n = 256} tt)
-
--- n numbers below m
-abbrev pub Fill : ℕ → ℕ → List ℕ → Type 0
-Fill n m l = (length l ≡ n) × ((k : ℕ) → getD l k 0 < m)
 
 -- each number of the state fits the width of its section, each list has its length
 pub record Fits (st : State) : Type 0 where
@@ -197,89 +188,34 @@ pub bytes-stateBytes : (st : State) → Bytes (stateBytes st)
 unfolding stateBytes
 bytes-stateBytes st = bytes-sections stateSections (stateNumbers st)
 
+-- a section of one number
+single : (m n : ℕ) → n < m → Fill 1 m (n ∷ [])
+single m n h = (refl, go)
+  where
+    go : (k : ℕ) → getD (n ∷ []) k 0 < m
+    go zero = h
+    go (suc k) = omega arith
+
 module _ (st : State) (f : Fits st) where
-  counted : Counted stateSections (stateNumbers st)
+  filled : Filled stateSections (stateNumbers st)
   unfolding stateSections stateNumbers
-  counted = (
-    refl,
-    (
-      refl,
-      (
-        refl,
-        (
-          refl,
-          (
-            refl,
-            (
-              refl,
-              (
-                f .numbers-fit .0,
-                (
-                  f .filled-fit .0,
-                  (
-                    f .writes-fit .0,
-                    (
-                      f .landed-fit .0,
-                      (f .addresses-fit .0, (f .stamps-fit .0, (f .offsets-fit .0, tt))),
-                    ),
-                  ),
-                ),
-              ),
-            ),
-          ),
-        ),
-      ),
-    ),
-  )
-
-  one : (m n k : ℕ) → n < m → k < 1 → getD (n ∷ []) k 0 < m
-  one m n zero h l = h
-  one m n (suc k) h l = absurd (let q : ⊥ = omega arith in q)
-
-  fitting : Fitting stateSections (stateNumbers st)
-  unfolding stateSections stateNumbers
-  fitting = (
-    λ k l. one (limit 0) (st .live) k (f .live-fits) l,
-    (
-      λ k l. one (limit 1) (st .missing) k (f .missing-fits) l,
-      (
-        λ k l. one (limit 2) (st .stamp .0) k (f .stamp-fits) l,
-        (
-          λ k l. one (limit 3) (st .serial .0) k (f .serial-fits) l,
-          (
-            λ k l. one (limit 4) (st .opened) k (f .opened-fits) l,
-            (
-              λ k l. one (limit 5) (st .next) k (f .next-fits) l,
-              (
-                λ k l. f .numbers-fit .1 k,
-                (
-                  λ k l. f .filled-fit .1 k,
-                  (
-                    λ k l. f .writes-fit .1 k,
-                    (
-                      λ k l. f .landed-fit .1 k,
-                      (λ k l. f .addresses-fit .1 k, (λ k l. f .stamps-fit .1 k, (λ k l. f .offsets-fit .1 k, tt))),
-                    ),
-                  ),
-                ),
-              ),
-            ),
-          ),
-        ),
-      ),
-    ),
-  )
+  filled =
+      fills (single (limit 0) (st .live) (f .live-fits)) (fills (single (limit 1) (st .missing) (f .missing-fits))
+      (fills (single (limit 2) (st .stamp .0) (f .stamp-fits)) (fills (single (limit 3) (st .serial .0) (f .serial-fits))
+      (fills (single (limit 4) (st .opened) (f .opened-fits)) (fills (single (limit 5) (st .next) (f .next-fits))
+      (fills (f .numbers-fit) (fills (f .filled-fit) (fills (f .writes-fit) (fills (f .landed-fit)
+      (fills (f .addresses-fit) (fills (f .stamps-fit) (fills (f .offsets-fit) no-more))))))))))))
 
   -- a state that fits has its bytes
   pub length-stateBytes : length (stateBytes st) ≡ stateLen
   unfolding stateBytes stateLen
-  length-stateBytes = length-sections stateSections (stateNumbers st) counted
+  length-stateBytes = length-sections stateSections (stateNumbers st) filled
 
   -- 01, The array: a state in bytes says that state
   pub stateOf-stateBytes : stateOf (stateBytes st) ≡ st
   unfolding stateOf numberOf sectionOf sectionAt stateBytes stateSections stateNumbers
   stateOf-stateBytes =
-      let back : (k : ℕ) → k < 13 → sectionOf (stateBytes st) k ≡ getD (stateNumbers st) k [] = λ k h. sections-back stateSections (stateNumbers st) k h counted fitting in
+      let back : (k : ℕ) → k < 13 → sectionOf (stateBytes st) k ≡ getD (stateNumbers st) k [] = λ k h. sections-back stateSections (stateNumbers st) k h filled in
       let one : (k : ℕ) → k < 13 → numberOf (stateBytes st) k ≡ getD (getD (stateNumbers st) k []) 0 0 = λ k h. ap (λ (l : List ℕ). getD l 0 0) (back k h) in
       λ j.
       mkState (one 0 (lit< tt) j) (one 1 (lit< tt) j) (one 2 (lit< tt) j) (one 3 (lit< tt) j) (one 4 (lit< tt) j) (one 5 (lit< tt) j)
