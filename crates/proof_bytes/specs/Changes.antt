@@ -1,7 +1,7 @@
 -- What each change of the state keeps: its numbers fit their widths. Assumes nothing.
 use mathlib.Core.Path.{_∙_, subst, sym}
 use mathlib.Core.List.{List, [], _∷_}
-use Prim.Native.Nat.{ℕ, zero, suc, _*_, _^_, _≤_, _<_}
+use Prim.Native.Nat.{ℕ, zero, suc, _*_, _≤_, _<_}
 use native.Mathlib.Nat.{one-mul, zero-mul}
 use native.Mathlib.Omega.{arith}
 use lib.Bits.{or-lt}
@@ -9,10 +9,10 @@ use lib.Dec.{lit<}
 use lib.ListN.{getD, set, replicate, length-set, length-replicate}
 use Rattle.defs.specs.declared.State.{State}
 use Rattle.defs.specs.Lists.{only}
-use Rattle.defs.specs.Memory.{cell, idleState, zeroState, filledIn, landedIn, setStamp, setOpen, setClosed, beginStripe, addEntry, landedMask, markLanded, freeStripe}
+use Rattle.defs.specs.Memory.{stateSections, cell, idleState, zeroState, filledIn, landedIn, setStamp, setOpen, setClosed, beginStripe, addEntry, landedMask, markLanded, freeStripe}
 use Rattle.laws.specs.Mask.{only-lt}
 use Rattle.tablesay.specs.Tables.{zero-at}
-use Rattle.proof_bytes.specs.Sections.{Fill, Fits}
+use Rattle.proof_bytes.specs.Sections.{limit, limit-pos, Fill, Fits}
 
 -- ---- lists of numbers
 
@@ -37,7 +37,7 @@ fill-zeros n m h = (length-replicate n 0, λ k. subst (λ (x : ℕ). x < m) (sym
 -- ---- the state with a part changed
 
 module _ (st : State) (f : Fits st) where
-  pub fits-stamp : (t : ℕ) → t < 256 ^ 8 → Fits (setStamp st t)
+  pub fits-stamp : (t : ℕ) → t < limit 2 → Fits (setStamp st t)
   unfolding setStamp
   fits-stamp t h = record {
     live-fits = f .live-fits;
@@ -55,7 +55,7 @@ module _ (st : State) (f : Fits st) where
     offsets-fit = f .offsets-fit;
   }
 
-  pub fits-open : (g r : ℕ) → suc g < 256 ^ 4 → r < 256 ^ 8 → Fits (setOpen st g r)
+  pub fits-open : (g r : ℕ) → suc g < limit 4 → r < limit 3 → Fits (setOpen st g r)
   unfolding setOpen
   fits-open g r h k = record {
     live-fits = f .live-fits;
@@ -63,7 +63,7 @@ module _ (st : State) (f : Fits st) where
     stamp-fits = f .stamp-fits;
     serial-fits = k;
     opened-fits = h;
-    next-fits = lit< tt;
+    next-fits = limit-pos 5;
     numbers-fit = f .numbers-fit;
     filled-fit = f .filled-fit;
     writes-fit = f .writes-fit;
@@ -80,8 +80,8 @@ module _ (st : State) (f : Fits st) where
     missing-fits = f .missing-fits;
     stamp-fits = f .stamp-fits;
     serial-fits = f .serial-fits;
-    opened-fits = lit< tt;
-    next-fits = lit< tt;
+    opened-fits = limit-pos 4;
+    next-fits = limit-pos 5;
     numbers-fit = f .numbers-fit;
     filled-fit = f .filled-fit;
     writes-fit = f .writes-fit;
@@ -91,19 +91,19 @@ module _ (st : State) (f : Fits st) where
     offsets-fit = f .offsets-fit;
   }
 
-  pub fits-begin : (i : ℕ) → suc (st .next) < 256 ^ 4 → Fits (beginStripe st i)
+  pub fits-begin : (i : ℕ) → st .next < limit 6 → suc (st .next) < limit 5 → Fits (beginStripe st i)
   unfolding beginStripe
-  fits-begin i h = record {
+  fits-begin i g h = record {
     live-fits = f .live-fits;
     missing-fits = f .missing-fits;
     stamp-fits = f .stamp-fits;
     serial-fits = f .serial-fits;
     opened-fits = f .opened-fits;
     next-fits = h;
-    numbers-fit = fill-set (st .numbers) i (st .next) (f .numbers-fit) (f .next-fits);
-    filled-fit = fill-set (st .filled) i 0 (f .filled-fit) (lit< tt);
-    writes-fit = fill-set (st .writes) i 0 (f .writes-fit) (lit< tt);
-    landed-fit = fill-set (st .landed) i 0 (f .landed-fit) (lit< tt);
+    numbers-fit = fill-set (st .numbers) i (st .next) (f .numbers-fit) g;
+    filled-fit = fill-set (st .filled) i 0 (f .filled-fit) (limit-pos 7);
+    writes-fit = fill-set (st .writes) i 0 (f .writes-fit) (limit-pos 8);
+    landed-fit = fill-set (st .landed) i 0 (f .landed-fit) (limit-pos 9);
     addresses-fit = f .addresses-fit;
     stamps-fit = f .stamps-fit;
     offsets-fit = f .offsets-fit;
@@ -114,8 +114,8 @@ module _ (st : State) (f : Fits st) where
   write-bit (suc zero) k h = subst (λ (x : ℕ). x < 256) (sym (one-mul (only k))) (only-lt k)
   write-bit (suc (suc w)) k h = absurd (let z : ⊥ = omega arith in z)
 
-  pub fits-add : (i a t w : ℕ) → suc (filledIn st i) < 256 → a < 256 ^ 8 → t < 256 ^ 8 → w ≤ 1 → Fits (addEntry st i a t w)
-  unfolding addEntry
+  pub fits-add : (i a t w : ℕ) → suc (filledIn st i) < limit 7 → a < limit 10 → t < limit 11 → w ≤ 1 → Fits (addEntry st i a t w)
+  unfolding addEntry stateSections
   fits-add i a t w h ha ht hw =
       let k = filledIn st i in
       record {
@@ -134,8 +134,8 @@ module _ (st : State) (f : Fits st) where
         offsets-fit = f .offsets-fit;
       }
 
-  pub fits-mark : (i d o : ℕ) → o < 256 ^ 4 → Fits (markLanded st i d o)
-  unfolding markLanded landedMask landedIn
+  pub fits-mark : (i d o : ℕ) → o < limit 12 → Fits (markLanded st i d o)
+  unfolding markLanded landedMask landedIn stateSections
   fits-mark i d o h = record {
     live-fits = f .live-fits;
     missing-fits = f .missing-fits;
@@ -162,7 +162,7 @@ module _ (st : State) (f : Fits st) where
     opened-fits = f .opened-fits;
     next-fits = f .next-fits;
     numbers-fit = f .numbers-fit;
-    filled-fit = fill-set (st .filled) i 0 (f .filled-fit) (lit< tt);
+    filled-fit = fill-set (st .filled) i 0 (f .filled-fit) (limit-pos 7);
     writes-fit = f .writes-fit;
     landed-fit = f .landed-fit;
     addresses-fit = f .addresses-fit;
@@ -172,9 +172,9 @@ module _ (st : State) (f : Fits st) where
 
 -- ---- nothing in flight
 
-pub fits-idle : (live gone stamp serial opened next : ℕ) → live < 256 ^ 1 → gone < 256 ^ 1 → stamp < 256 ^ 8 → serial < 256 ^ 8 → opened < 256 ^ 4 → next < 256 ^ 4
+pub fits-idle : (live gone stamp serial opened next : ℕ) → live < limit 0 → gone < limit 1 → stamp < limit 2 → serial < limit 3 → opened < limit 4 → next < limit 5
     → Fits (idleState live gone stamp serial opened next)
-unfolding idleState
+unfolding idleState stateSections
 fits-idle live gone stamp serial opened next a b c d e g = record {
   live-fits = a;
   missing-fits = b;
@@ -182,15 +182,15 @@ fits-idle live gone stamp serial opened next a b c d e g = record {
   serial-fits = d;
   opened-fits = e;
   next-fits = g;
-  numbers-fit = fill-zeros 8 (256 ^ 4) (lit< tt);
-  filled-fit = fill-zeros 8 (256 ^ 1) (lit< tt);
-  writes-fit = fill-zeros 8 (256 ^ 1) (lit< tt);
-  landed-fit = fill-zeros 8 (256 ^ 1) (lit< tt);
-  addresses-fit = fill-zeros 64 (256 ^ 8) (lit< tt);
-  stamps-fit = fill-zeros 64 (256 ^ 8) (lit< tt);
-  offsets-fit = fill-zeros 64 (256 ^ 4) (lit< tt);
+  numbers-fit = fill-zeros 8 (limit 6) (limit-pos 6);
+  filled-fit = fill-zeros 8 (limit 7) (limit-pos 7);
+  writes-fit = fill-zeros 8 (limit 8) (limit-pos 8);
+  landed-fit = fill-zeros 8 (limit 9) (limit-pos 9);
+  addresses-fit = fill-zeros 64 (limit 10) (limit-pos 10);
+  stamps-fit = fill-zeros 64 (limit 11) (limit-pos 11);
+  offsets-fit = fill-zeros 64 (limit 12) (limit-pos 12);
 }
 
 pub fits-zero : Fits zeroState
 unfolding zeroState
-fits-zero = fits-idle 0 0 0 0 0 0 (lit< tt) (lit< tt) (lit< tt) (lit< tt) (lit< tt) (lit< tt)
+fits-zero = fits-idle 0 0 0 0 0 0 (limit-pos 0) (limit-pos 1) (limit-pos 2) (limit-pos 3) (limit-pos 4) (limit-pos 5)

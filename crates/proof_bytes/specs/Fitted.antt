@@ -3,7 +3,7 @@ use mathlib.Core.Path.{_≡_, refl, sym, ap, _∙_, subst}
 use mathlib.Core.List.{List, [], _∷_, _++_, map}
 use mathlib.Core.Logic.{inl}
 use mathlib.Core.Bool.{Bool, true, false, cond, not, _&&_}
-use Prim.Native.Nat.{ℕ, zero, suc, _+_, _-_, _^_, _≤_, _<_}
+use Prim.Native.Nat.{ℕ, zero, suc, _+_, _-_, _≤_, _<_}
 use borrow.Author.Tests.{not-false, leb-false, eqb-false}
 use native.Mathlib.Decide.{decLt}
 use native.Mathlib.Omega.{arith}
@@ -17,7 +17,8 @@ use Rattle.defs.specs.Drives.{View, pointerAt, storeView, storeAll, segmentNumb
 use Rattle.defs.specs.Landing.{slotOf, completes, seals, misplaced, overfull, entryFaults, landFaults, landChecks, landPlan}
 use Rattle.defs.specs.Layout.{group}
 use Rattle.defs.specs.Lists.{Opt, below, isNil, firstOr, consIf, flat}
-use Rattle.defs.specs.Memory.{Memory, filledIn, freeSlot, fillingSlot, hasFilling, openSegment, entriesIn, stateFaults, setOpen, setClosed, beginStripe, addEntry, markLanded, freeStripe}
+use Rattle.defs.specs.Memory.{Memory, stateSections, filledIn, freeSlot, fillingSlot, hasFilling, openSegment, entriesIn, stateFaults, setOpen, setClosed, beginStripe, addEntry, markLanded}
+use Rattle.defs.specs.Memory.{freeStripe}
 use Rattle.defs.specs.Params.{between, inRange, dataCount, named}
 use Rattle.defs.specs.Reclaim.{Victim, victimSegment, victimLive, reclaimChecks, tableFaults, resetPlan, copyPlan}
 use Rattle.defs.specs.Restart.{openOf, nextOf, restartMemory, restartStores, restartChecks, restartPlan}
@@ -26,14 +27,14 @@ use Rattle.defs.specs.Write.{opens, noStamp, noSerial, placed, openedBy, slotFo
 use Rattle.laws.specs.Geometry.{between-high, Ranged, ranged, addresses-all, data-count-high}
 use Rattle.laws.specs.Mask.{only-lt}
 use Rattle.laws.specs.Ranges.{Test, test, and-left, length-below, length-keep}
-use Rattle.laws.specs.Ranges.Test.{yes!, no! }
+use Rattle.laws.specs.Ranges.Test.{yes!, no!}
 use Rattle.plans.specs.Refusals.{state-free}
 use Rattle.tablesay.specs.Checks.{Passes}
 use Rattle.tablesay.specs.Idle.{StateOk, state-of}
 use Rattle.tablesay.specs.Members.{In, map-in, keep-in, below-in, first-in}
 use Rattle.tablesay.specs.Segs.{remaining-low, seg-is}
 use Rattle.tablesay.specs.Tests.{clash, or-left, or-right}
-use Rattle.proof_bytes.specs.Sections.{Fits}
+use Rattle.proof_bytes.specs.Sections.{limit, limit-pos, Fits}
 use Rattle.proof_bytes.specs.Changes.{low-set, set-le, fits-stamp, fits-open, fits-closed, fits-begin, fits-add, fits-mark, fits-free, fits-idle}
 use Rattle.proof_bytes.specs.Reads.{Reads, stamps-low, serials-low}
 
@@ -53,6 +54,7 @@ nil-right s t q = ap (λ (x : List ℕ). x ++ t) (sym (nil-left s t q)) ∙ q
 
 module _ (p : Params) (st : State) (f : Fits st) (r : Ranged p) (so : StateOk p st) where
   small : Small st
+  unfolding stateSections
   small = record { filled-small = λ i. go i (decLt i 8); next-small = let a = so .next-low in let b = r .stripes-high in omega arith }
     where
       go : (i : ℕ) → Dec (i < 8) → getD (st .filled) i 0 < 8
@@ -82,9 +84,9 @@ first-low p v h = go (test (isNil (emptyZones p v)))
     go (yes! q) = nothing (emptyZones p v) q
     go (no! q) = inside (first-in (emptyZones p v) 0 q)
 
-module _ (p : Params) (r : Ranged p) (v : View) (st : State) (f : Fits st) (m : Small st) (serial : opens p st ≡ true → suc (st .serial .0) < 256 ^ 8) where
+module _ (p : Params) (r : Ranged p) (v : View) (st : State) (f : Fits st) (m : Small st) (serial : opens p st ≡ true → suc (st .serial .0) < limit 3) where
   opened : Fits (openedBy p v st) × Small (openedBy p v st)
-  unfolding openedBy setOpen
+  unfolding openedBy setOpen stateSections
   opened = go (test (opens p st))
     where
       st′ : State
@@ -98,8 +100,8 @@ module _ (p : Params) (r : Ranged p) (v : View) (st : State) (f : Fits st) (m : 
       go (no! q) = subst (λ (b : Bool). Fits (cond b st′ st) × Small (cond b st′ st)) (sym q) (f, m)
 
   begins : (st₁ : State) (i : ℕ) → Fits st₁ → Small st₁ → Fits (beginStripe st₁ i) × ((k : ℕ) → getD (beginStripe st₁ i .filled) k 0 < 8)
-  unfolding beginStripe
-  begins st₁ i g s = (fits-begin st₁ g i (let a = s .next-small in omega arith), low-set 8 (st₁ .filled) i 0 (s .filled-small) (lit< tt))
+  unfolding beginStripe stateSections
+  begins st₁ i g s = (fits-begin st₁ g i (let a = s .next-small in omega arith) (let a = s .next-small in omega arith), low-set 8 (st₁ .filled) i 0 (s .filled-small) (lit< tt))
 
   begun : Fits (begunBy p st (openedBy p v st)) × ((k : ℕ) → getD (begunBy p st (openedBy p v st) .filled) k 0 < 8)
   unfolding begunBy
@@ -110,12 +112,12 @@ module _ (p : Params) (r : Ranged p) (v : View) (st : State) (f : Fits st) (m : 
       go true h = (f, m .filled-small)
       go false h = h
 
-  pub sending-fits : (fl : List ℕ) (a t w : ℕ) (b : List ℕ) → a < 256 ^ 8 → t < 256 ^ 8 → w ≤ 1 → Fits (sending p v st fl a t w b .state)
-  unfolding sending placed
+  pub sending-fits : (fl : List ℕ) (a t w : ℕ) (b : List ℕ) → a < limit 10 → t < limit 11 → w ≤ 1 → Fits (sending p v st fl a t w b .state)
+  unfolding sending placed stateSections
   sending-fits fl a t w b ha ht hw =
       fits-add (begunBy p st (openedBy p v st)) (begun .0) (slotFor p st) a t w (few (slotFor p st)) ha ht hw
     where
-      few : (i : ℕ) → suc (filledIn (begunBy p st (openedBy p v st)) i) < 256
+      few : (i : ℕ) → suc (filledIn (begunBy p st (openedBy p v st)) i) < limit 7
       few i = unfold filledIn in (let x = begun .1 i in omega arith)
 
 -- ---- the calls
@@ -125,36 +127,33 @@ module _ (p : Params) (long : Bool) (v : View) (m : Memory) (f : Fits (m .state)
   st = m .state
 
   -- 01, Refusals, 6: there is a next stamp
-  next-stamp : noStamp st ≡ false → suc (st .stamp .0) < 256 ^ 8
-  unfolding noStamp
-  next-stamp q = let n = eqb-false (st .stamp .0) lastCount q in let b = f .stamp-fits in go n b
+  next-stamp : noStamp st ≡ false → suc (st .stamp .0) < limit 2
+  unfolding noStamp stateSections
+  next-stamp q = below-last (st .stamp .0) (eqb-false (st .stamp .0) lastCount q) (f .stamp-fits)
     where
-      go : (st .stamp .0 ≡ 18446744073709551615 → ⊥) → st .stamp .0 < 256 ^ 8 → suc (st .stamp .0) < 256 ^ 8
-      go n b = below-last (st .stamp .0) n b
-        where
-          below-last : (x : ℕ) → (x ≡ 18446744073709551615 → ⊥) → x < 256 ^ 8 → suc x < 256 ^ 8
-          below-last x n b = omega arith
+      below-last : (x : ℕ) → (x ≡ lastCount → ⊥) → x < limit 2 → suc x < limit 2
+      below-last x n b = omega arith
 
   -- and a next serial where a segment is opened
-  next-serial : noSerial p st ≡ false → opens p st ≡ true → suc (st .serial .0) < 256 ^ 8
-  unfolding noSerial
+  next-serial : noSerial p st ≡ false → opens p st ≡ true → suc (st .serial .0) < limit 3
+  unfolding noSerial stateSections
   next-serial q o = below-last (st .serial .0) (λ e. clash (ap (λ (b : Bool). b && eqb (st .serial .0) lastCount) o ∙ same (st .serial .0) e) q) (f .serial-fits)
     where
       same : (x : ℕ) → x ≡ lastCount → eqb x lastCount ≡ true
       same x e = ap (λ (y : ℕ). eqb y lastCount) e
 
-      below-last : (x : ℕ) → (x ≡ lastCount → ⊥) → x < 256 ^ 8 → suc x < 256 ^ 8
+      below-last : (x : ℕ) → (x ≡ lastCount → ⊥) → x < limit 3 → suc x < limit 3
       below-last x n b = omega arith
 
   pub write-fits : (a : ℕ) (b : List ℕ) → Passes (writeChecks p long v m a b) → Fits (writePlan p v m a b .memory .state)
-  unfolding writeChecks writePlan
+  unfolding writeChecks writePlan stateSections
   write-fits a b c =
       let r = ranged p (not-false (inRange p) (c .0)) in
       let so = state-of p r st (state-free p st (c .1 .1 .1 .1 .1 .1 .1 .0)) in
       let six = c .1 .1 .1 .1 .0 in
       let t = next-stamp (or-left (noStamp st) (noSerial p st) six) in
       let q = sending p v st (m .inflight) a (suc (st .stamp .0)) 1 b in
-      let ha : a < 256 ^ 8 = let x = leb-false (p .L) a (c .1 .1 .1 .0) in let y = addresses-all p r in omega arith in
+      let ha : a < limit 10 = let x = leb-false (p .L) a (c .1 .1 .1 .0) in let y = addresses-all p r in omega arith in
       fits-stamp (q .state)
       (sending-fits p r v st f (small p st f r so) (next-serial (or-right (noStamp st) (noSerial p st) six)) (m .inflight) a (suc (st .stamp .0)) 1 b ha t (omega arith))
       (suc (st .stamp .0)) t
@@ -166,8 +165,8 @@ module _ (p : Params) (long : Bool) (v : View) (m : Memory) (f : Fits (m .state)
   consIf-nil true n l q = absurd (let z : _≡_ {A = ℕ} (suc (length l)) 0 = ap length q in let y : ⊥ = omega arith in y)
   consIf-nil false n l q = refl
 
-  placed-low : (d g s : ℕ) → Ranged p → misplaced p v d (zoneOn g d) s ≡ false → pointerAt v d (zoneOn g d) - 1 < 256 ^ 4
-  unfolding misplaced
+  placed-low : (d g s : ℕ) → Ranged p → misplaced p v d (zoneOn g d) s ≡ false → pointerAt v d (zoneOn g d) - 1 < limit 12
+  unfolding misplaced stateSections
   placed-low d g s r q =
       let n = pointerAt v d (zoneOn g d) in
       let a = between-high 1 (p .S) n (and-left (between 1 (p .S) n) (eqb (group p (n - 1)) (group p s)) (not-false (between 1 (p .S) n && eqb (group p (n - 1)) (group p s)) q)) in
@@ -201,19 +200,19 @@ module _ (p : Params) (long : Bool) (v : View) (m : Memory) (f : Fits (m .state)
 
   -- ---- closing
 
-  padded-fits : (i k : ℕ) (x : State) (fl : List ℕ) → Fits x → filledIn x i + k < 256 → Fits (padded p i k x fl .state)
-  unfolding padded placed
+  padded-fits : (i k : ℕ) (x : State) (fl : List ℕ) → Fits x → filledIn x i + k < limit 7 → Fits (padded p i k x fl .state)
+  unfolding padded placed stateSections
   padded-fits i zero x fl h l = h
   padded-fits i (suc k) x fl h l =
       padded-fits i k (addEntry x i paddingAddress 0 0) (placed p x fl i paddingAddress 0 0 (replicate (p .B) 0) .inflight)
-      (fits-add x h i paddingAddress 0 0 (omega arith) (lit< tt) (lit< tt) (omega arith))
+      (fits-add x h i paddingAddress 0 0 (omega arith) (lit< tt) (limit-pos 11) (omega arith))
       (let z = one-more in omega arith)
     where
       one-more : filledIn (addEntry x i paddingAddress 0 0) i ≤ suc (filledIn x i)
       one-more = unfold filledIn addEntry in set-le (x .filled) i (suc (getD (x .filled) i 0))
 
   pub close-fits : Passes (closeChecks p long v m) → Fits (closePlan p m .memory .state)
-  unfolding closeChecks closePlan
+  unfolding closeChecks closePlan stateSections
   close-fits c =
       let r = ranged p (not-false (inRange p) (c .0)) in
       let so = state-of p r st (state-free p st (nil-left (stateFaults p st) _ (c .1 .1 .1 .1 .0))) in
@@ -227,7 +226,7 @@ module _ (p : Params) (long : Bool) (v : View) (m : Memory) (f : Fits (m .state)
 
   pub reclaim-fits : Reads p v → (w : Opt Victim) (q : ℕ) → Passes (reclaimChecks p long v m w)
       → Fits (cond (isNil (victimLive w)) (resetPlan p m (victimSegment w)) (copyPlan p v m q) .memory .state)
-  unfolding reclaimChecks resetPlan copyPlan recordAt
+  unfolding reclaimChecks resetPlan copyPlan recordAt stateSections
   reclaim-fits h w q c = go (test (isNil (victimLive w)))
     where
       serial : isNil (victimLive w) ≡ false → not (isNil (victimLive w)) && noSerial p st ≡ false → noSerial p st ≡ false
@@ -248,9 +247,9 @@ counted-few : (p : Params) (g : Segment) → length (counted p 0 g) ≤ p .S
 unfolding counted
 counted-few p g = let a = length-keep (counts p 0 g) (below (p .S)) in let b = length-below (p .S) in omega arith
 
-pub idle-fits : (p : Params) → Ranged p → (v : View) (d : ℕ) (fl : List ℕ) → greatestStamp (candidates p (named d) (segments p v (named d))) < 256 ^ 8
-    → greatestSerial (segments p v (named d)) < 256 ^ 8 → Fits (restartMemory p v (named d) fl .state)
-unfolding restartMemory openOf nextOf
+pub idle-fits : (p : Params) → Ranged p → (v : View) (d : ℕ) (fl : List ℕ) → greatestStamp (candidates p (named d) (segments p v (named d))) < limit 2
+    → greatestSerial (segments p v (named d)) < limit 3 → Fits (restartMemory p v (named d) fl .state)
+unfolding restartMemory openOf nextOf stateSections
 idle-fits p r v d fl ht hs =
     fits-idle 1 (named d) (greatestStamp (candidates p (named d) (segments p v (named d)))) (greatestSerial (segments p v (named d))) (openOf us) (nextOf p us)
     (lit< tt) names ht hs (low-open us left) (low-next us)
@@ -258,7 +257,7 @@ idle-fits p r v d fl ht hs =
     us : List Segment
     us = cond (eqb (named d) 0) (unsealed (segments p v (named d))) []
 
-    names : named d < 256 ^ 1
+    names : named d < limit 1
     names = unfold named in only-lt d
 
     in-segs : (x : Segment) → In x (segments p v (named d)) → x .seg < p .Z
@@ -276,17 +275,17 @@ idle-fits p r v d fl ht hs =
         go true i = in-segs x (unfold unsealed in keep-in (λ (g : Segment). not (g .full)) (segments p v (named d)) x i .0)
         go false i = absurd i
 
-    low-open : (l : List Segment) → ((x : Segment) → In x l → x .seg < p .Z) → openOf l < 256 ^ 4
+    low-open : (l : List Segment) → ((x : Segment) → In x l → x .seg < p .Z) → openOf l < limit 4
     low-open [] i = lit< tt
     low-open (g ∷ gs) i = let a = i g (inl refl) in let b = r .zones-high in omega arith
 
-    low-next : (l : List Segment) → nextOf p l < 256 ^ 4
+    low-next : (l : List Segment) → nextOf p l < limit 5
     low-next [] = lit< tt
     low-next (g ∷ gs) = let a = counted-few p g in let b = r .stripes-high in omega arith
 
 pub restart-fits : (p : Params) (long : Bool) (v : View) (d : ℕ) (fl : List ℕ) → Reads p (storeAll storeView (restartStores p (named d) (segments p v (named d))) v)
     → Passes (restartChecks p long v d (segments p v (named d))) → Fits (restartPlan p v d (segments p v (named d)) fl .memory .state)
-unfolding restartChecks restartPlan
+unfolding restartChecks restartPlan stateSections
 restart-fits p long v d fl h c =
     let u = storeAll storeView (restartStores p (named d) (segments p v (named d))) v in
     idle-fits p (ranged p (not-false (inRange p) (or-left (not (inRange p)) _ (c .0)))) u d fl (stamps-low p u h (named d)) (serials-low p u h (named d))

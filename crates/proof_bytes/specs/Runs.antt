@@ -10,7 +10,7 @@ use Rattle.defs.specs.Drives.{View, Store, storeView, Disk, storeDisk, storeAll
 use Rattle.defs.specs.Engine.{Call, lentOk}
 use Rattle.defs.specs.Engine.Call.{write, land, close, reclaim, read, fill, restart, rebuild}
 use Rattle.defs.specs.Lists.{flat}
-use Rattle.defs.specs.Memory.{Memory, idleState}
+use Rattle.defs.specs.Memory.{Memory, stateSections, idleState}
 use Rattle.defs.specs.Params.{named}
 use Rattle.defs.specs.Restart.{dropStores, mendStores, restartStores, restartMemory, restartPlan}
 use Rattle.defs.specs.Segments.{segments, unsealed, candidates, greatestStamp, greatestSerial}
@@ -38,6 +38,7 @@ module _ (p : Params) (k : Disk) (m : Memory) (d : ℕ) where
 
   -- a drive is missing: nothing is stored
   lost-fits : Ranged p → Shaped p v → eqb (named d) 0 ≡ false → Fits (restartMemory p (storeAll storeView ss v) (named d) (m .inflight) .state)
+  unfolding stateSections
   lost-fits r sh q =
       let h = grounded-reads p v (shaped-grounded p v sh) in
       subst (λ (u : View). Fits (restartMemory p u (named d) (m .inflight) .state)) (sym (ap (λ (l : List Store). storeAll storeView l v) none! ∙ same))
@@ -52,6 +53,7 @@ module _ (p : Params) (k : Disk) (m : Memory) (d : ℕ) where
 
   -- none is missing: what holds after the restart bounds stamp and serial
   well-fits : Ranged p → (k′ : Disk) → Well p k′ (restartMemory p (storeAll storeView ss v) (named d) (m .inflight)) → Fits (restartMemory p (storeAll storeView ss v) (named d) (m .inflight) .state)
+  unfolding stateSections
   well-fits r k′ w = idle-fits p r (storeAll storeView ss v) d (m .inflight) (stamp! (w .healthy .stamp-fits)) (serial! (w .healthy .serial-fits))
     where
       u : View

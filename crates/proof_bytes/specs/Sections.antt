@@ -94,17 +94,14 @@ numbers-low w n at bs h k = go (decLt k n)
 
 -- ---- sections one after the other
 
--- each section has as many numbers as its count
-abbrev Counted : List Section → List (List ℕ) → Type 0
-Counted [] nss = Unit {0}
-Counted (s ∷ ss) [] = ⊥
-Counted (s ∷ ss) (ns ∷ nss) = (length ns ≡ s .count) × Counted ss nss
+-- n numbers below m
+abbrev pub Fill : ℕ → ℕ → List ℕ → Type 0
+Fill n m l = (length l ≡ n) × ((k : ℕ) → getD l k 0 < m)
 
--- each number fits the width of its section
-abbrev Fitting : List Section → List (List ℕ) → Type 0
-Fitting [] nss = Unit {0}
-Fitting (s ∷ ss) [] = ⊥
-Fitting (s ∷ ss) (ns ∷ nss) = ((k : ℕ) → k < length ns → getD ns k 0 < 256 ^ s .width) × Fitting ss nss
+-- each section has as many numbers as its count, and each number fits its width
+data Filled : List Section → List (List ℕ) → Type 0 where
+  no-more : Filled [] []
+  fills : {s : Section} {ss : List Section} {ns : List ℕ} {nss : List (List ℕ)} → Fill (s .count) (256 ^ s .width) ns → Filled ss nss → Filled (s ∷ ss) (ns ∷ nss)
 
 -- their bytes
 abbrev sectionsBytes : List Section → List (List ℕ) → List ℕ
@@ -114,24 +111,22 @@ length-section : (s : Section) (ns : List ℕ) → length ns ≡ s .count → le
 unfolding sectionBytes sectionLen
 length-section s ns e = length-numbers (s .width) ns ∙ ap (λ (x : ℕ). s .width * x) e
 
-length-sections : (ss : List Section) (nss : List (List ℕ)) → Counted ss nss → length (sectionsBytes ss nss) ≡ total (map sectionLen ss)
+length-sections : (ss : List Section) (nss : List (List ℕ)) → Filled ss nss → length (sectionsBytes ss nss) ≡ total (map sectionLen ss)
 unfolding flat zipped total
-length-sections [] nss h = refl
-length-sections (s ∷ ss) [] h = absurd h
-length-sections (s ∷ ss) (ns ∷ nss) h =
-    length-append (sectionBytes s ns) (sectionsBytes ss nss) ∙ ap₂ _+_ (length-section s ns (h .0)) (length-sections ss nss (h .1))
+length-sections _ _ no-more = refl
+length-sections _ _ (fills {s} {ss} {ns} {nss} f g) =
+    length-append (sectionBytes s ns) (sectionsBytes ss nss) ∙ ap₂ _+_ (length-section s ns (f .0)) (length-sections ss nss g)
 
-sections-back : (ss : List Section) (nss : List (List ℕ)) (k : ℕ) → k < length ss → Counted ss nss → Fitting ss nss
+sections-back : (ss : List Section) (nss : List (List ℕ)) (k : ℕ) → k < length ss → Filled ss nss
     → numbersAt (getD ss k (section 0 0) .width) (getD ss k (section 0 0) .count) (total (map sectionLen (take k ss))) (sectionsBytes ss nss) ≡ getD nss k []
 unfolding flat zipped total sectionBytes
-sections-back [] nss k h f g = absurd (let q : ⊥ = omega arith in q)
-sections-back (s ∷ ss) [] k h f g = absurd f
-sections-back (s ∷ ss) (ns ∷ nss) zero h f g = numbers-back (s .width) (s .count) ns (sectionsBytes ss nss) (f .0) (g .0)
-sections-back (s ∷ ss) (ns ∷ nss) (suc k) h f g =
+sections-back _ _ k h no-more = absurd (let q : ⊥ = omega arith in q)
+sections-back _ _ zero h (fills {s} {ss} {ns} {nss} f g) = numbers-back (s .width) (s .count) ns (sectionsBytes ss nss) (f .0) (λ k l. f .1 k)
+sections-back _ _ (suc k) h (fills {s} {ss} {ns} {nss} f g) =
     let d : Section = getD ss k (section 0 0) in
     let t : ℕ = total (map sectionLen (take k ss)) in
     ap (λ (x : ℕ). numbersAt (d .width) (d .count) (x + t) (flat (toLe (s .width)) ns ++ sectionsBytes ss nss)) (sym (length-section s ns (f .0)))
-    ∙ numbers-behind (d .width) (d .count) t (flat (toLe (s .width)) ns) (sectionsBytes ss nss) ∙ sections-back ss nss k (omega arith) (f .1) (g .1)
+    ∙ numbers-behind (d .width) (d .count) t (flat (toLe (s .width)) ns) (sectionsBytes ss nss) ∙ sections-back ss nss k (omega arith) g
 
 bytes-section : (s : Section) (ns : List ℕ) → Bytes (sectionBytes s ns)
 unfolding sectionBytes flat
@@ -146,43 +141,52 @@ bytes-sections (s ∷ ss) (ns ∷ nss) = bytes-append (sectionBytes s ns) (secti
 
 -- ---- the state
 
--- n numbers below m
-abbrev pub Fill : ℕ → ℕ → List ℕ → Type 0
-Fill n m l = (length l ≡ n) × ((k : ℕ) → getD l k 0 < m)
+-- 01, The array: width and count of section i, and the bound of its numbers
+abbrev pub wide : ℕ → ℕ
+wide i = getD stateSections i (section 0 0) .width
+
+abbrev pub many : ℕ → ℕ
+many i = getD stateSections i (section 0 0) .count
+
+abbrev pub limit : ℕ → ℕ
+limit i = 256 ^ wide i
+
+pub limit-pos : (i : ℕ) → 0 < limit i
+limit-pos i = one-le-pow (wide i) 256 (lit< {m = 0} {n = 256} tt)
 
 -- each number of the state fits the width of its section, each list has its length
 pub record Fits (st : State) : Type 0 where
-  pub live-fits : st .live < 256 ^ 1
-  pub missing-fits : st .missing < 256 ^ 1
-  pub stamp-fits : st .stamp .0 < 256 ^ 8
-  pub serial-fits : st .serial .0 < 256 ^ 8
-  pub opened-fits : st .opened < 256 ^ 4
-  pub next-fits : st .next < 256 ^ 4
-  pub numbers-fit : Fill 8 (256 ^ 4) (st .numbers)
-  pub filled-fit : Fill 8 (256 ^ 1) (st .filled)
-  pub writes-fit : Fill 8 (256 ^ 1) (st .writes)
-  pub landed-fit : Fill 8 (256 ^ 1) (st .landed)
-  pub addresses-fit : Fill 64 (256 ^ 8) (st .addresses)
-  pub stamps-fit : Fill 64 (256 ^ 8) (st .stamps)
-  pub offsets-fit : Fill 64 (256 ^ 4) (st .offsets)
+  pub live-fits : st .live < limit 0
+  pub missing-fits : st .missing < limit 1
+  pub stamp-fits : st .stamp .0 < limit 2
+  pub serial-fits : st .serial .0 < limit 3
+  pub opened-fits : st .opened < limit 4
+  pub next-fits : st .next < limit 5
+  pub numbers-fit : Fill (many 6) (limit 6) (st .numbers)
+  pub filled-fit : Fill (many 7) (limit 7) (st .filled)
+  pub writes-fit : Fill (many 8) (limit 8) (st .writes)
+  pub landed-fit : Fill (many 9) (limit 9) (st .landed)
+  pub addresses-fit : Fill (many 10) (limit 10) (st .addresses)
+  pub stamps-fit : Fill (many 11) (limit 11) (st .stamps)
+  pub offsets-fit : Fill (many 12) (limit 12) (st .offsets)
 
 -- what is decoded from bytes fits
 pub fits-stateOf : (bs : List ℕ) → Bytes bs → Fits (stateOf bs)
-unfolding stateOf numberOf sectionOf stateSections
+unfolding stateOf numberOf sectionOf
 fits-stateOf bs h = record {
-  live-fits = numbers-low 1 1 (sectionAt 0) bs h 0;
-  missing-fits = numbers-low 1 1 (sectionAt 1) bs h 0;
-  stamp-fits = numbers-low 8 1 (sectionAt 2) bs h 0;
-  serial-fits = numbers-low 8 1 (sectionAt 3) bs h 0;
-  opened-fits = numbers-low 4 1 (sectionAt 4) bs h 0;
-  next-fits = numbers-low 4 1 (sectionAt 5) bs h 0;
-  numbers-fit = (length-numbersAt 4 8 (sectionAt 6) bs, numbers-low 4 8 (sectionAt 6) bs h);
-  filled-fit = (length-numbersAt 1 8 (sectionAt 7) bs, numbers-low 1 8 (sectionAt 7) bs h);
-  writes-fit = (length-numbersAt 1 8 (sectionAt 8) bs, numbers-low 1 8 (sectionAt 8) bs h);
-  landed-fit = (length-numbersAt 1 8 (sectionAt 9) bs, numbers-low 1 8 (sectionAt 9) bs h);
-  addresses-fit = (length-numbersAt 8 64 (sectionAt 10) bs, numbers-low 8 64 (sectionAt 10) bs h);
-  stamps-fit = (length-numbersAt 8 64 (sectionAt 11) bs, numbers-low 8 64 (sectionAt 11) bs h);
-  offsets-fit = (length-numbersAt 4 64 (sectionAt 12) bs, numbers-low 4 64 (sectionAt 12) bs h);
+  live-fits = numbers-low (wide 0) (many 0) (sectionAt 0) bs h 0;
+  missing-fits = numbers-low (wide 1) (many 1) (sectionAt 1) bs h 0;
+  stamp-fits = numbers-low (wide 2) (many 2) (sectionAt 2) bs h 0;
+  serial-fits = numbers-low (wide 3) (many 3) (sectionAt 3) bs h 0;
+  opened-fits = numbers-low (wide 4) (many 4) (sectionAt 4) bs h 0;
+  next-fits = numbers-low (wide 5) (many 5) (sectionAt 5) bs h 0;
+  numbers-fit = (length-numbersAt (wide 6) (many 6) (sectionAt 6) bs, numbers-low (wide 6) (many 6) (sectionAt 6) bs h);
+  filled-fit = (length-numbersAt (wide 7) (many 7) (sectionAt 7) bs, numbers-low (wide 7) (many 7) (sectionAt 7) bs h);
+  writes-fit = (length-numbersAt (wide 8) (many 8) (sectionAt 8) bs, numbers-low (wide 8) (many 8) (sectionAt 8) bs h);
+  landed-fit = (length-numbersAt (wide 9) (many 9) (sectionAt 9) bs, numbers-low (wide 9) (many 9) (sectionAt 9) bs h);
+  addresses-fit = (length-numbersAt (wide 10) (many 10) (sectionAt 10) bs, numbers-low (wide 10) (many 10) (sectionAt 10) bs h);
+  stamps-fit = (length-numbersAt (wide 11) (many 11) (sectionAt 11) bs, numbers-low (wide 11) (many 11) (sectionAt 11) bs h);
+  offsets-fit = (length-numbersAt (wide 12) (many 12) (sectionAt 12) bs, numbers-low (wide 12) (many 12) (sectionAt 12) bs h);
 }
 
 -- what is encoded is bytes
@@ -190,89 +194,34 @@ pub bytes-stateBytes : (st : State) → Bytes (stateBytes st)
 unfolding stateBytes
 bytes-stateBytes st = bytes-sections stateSections (stateNumbers st)
 
+-- a section of one number
+single : (m n : ℕ) → n < m → Fill 1 m (n ∷ [])
+single m n h = (refl, go)
+  where
+    go : (k : ℕ) → getD (n ∷ []) k 0 < m
+    go zero = h
+    go (suc k) = omega arith
+
 module _ (st : State) (f : Fits st) where
-  counted : Counted stateSections (stateNumbers st)
+  filled : Filled stateSections (stateNumbers st)
   unfolding stateSections stateNumbers
-  counted = (
-    refl,
-    (
-      refl,
-      (
-        refl,
-        (
-          refl,
-          (
-            refl,
-            (
-              refl,
-              (
-                f .numbers-fit .0,
-                (
-                  f .filled-fit .0,
-                  (
-                    f .writes-fit .0,
-                    (
-                      f .landed-fit .0,
-                      (f .addresses-fit .0, (f .stamps-fit .0, (f .offsets-fit .0, tt))),
-                    ),
-                  ),
-                ),
-              ),
-            ),
-          ),
-        ),
-      ),
-    ),
-  )
-
-  one : (m n k : ℕ) → n < m → k < 1 → getD (n ∷ []) k 0 < m
-  one m n zero h l = h
-  one m n (suc k) h l = absurd (let q : ⊥ = omega arith in q)
-
-  fitting : Fitting stateSections (stateNumbers st)
-  unfolding stateSections stateNumbers
-  fitting = (
-    λ k l. one (256 ^ 1) (st .live) k (f .live-fits) l,
-    (
-      λ k l. one (256 ^ 1) (st .missing) k (f .missing-fits) l,
-      (
-        λ k l. one (256 ^ 8) (st .stamp .0) k (f .stamp-fits) l,
-        (
-          λ k l. one (256 ^ 8) (st .serial .0) k (f .serial-fits) l,
-          (
-            λ k l. one (256 ^ 4) (st .opened) k (f .opened-fits) l,
-            (
-              λ k l. one (256 ^ 4) (st .next) k (f .next-fits) l,
-              (
-                λ k l. f .numbers-fit .1 k,
-                (
-                  λ k l. f .filled-fit .1 k,
-                  (
-                    λ k l. f .writes-fit .1 k,
-                    (
-                      λ k l. f .landed-fit .1 k,
-                      (λ k l. f .addresses-fit .1 k, (λ k l. f .stamps-fit .1 k, (λ k l. f .offsets-fit .1 k, tt))),
-                    ),
-                  ),
-                ),
-              ),
-            ),
-          ),
-        ),
-      ),
-    ),
-  )
+  filled =
+      fills (single (limit 0) (st .live) (f .live-fits)) (fills (single (limit 1) (st .missing) (f .missing-fits))
+      (fills (single (limit 2) (st .stamp .0) (f .stamp-fits)) (fills (single (limit 3) (st .serial .0) (f .serial-fits))
+      (fills (single (limit 4) (st .opened) (f .opened-fits)) (fills (single (limit 5) (st .next) (f .next-fits))
+      (fills (f .numbers-fit) (fills (f .filled-fit) (fills (f .writes-fit) (fills (f .landed-fit)
+      (fills (f .addresses-fit) (fills (f .stamps-fit) (fills (f .offsets-fit) no-more))))))))))))
 
   -- a state that fits has its bytes
   pub length-stateBytes : length (stateBytes st) ≡ stateLen
   unfolding stateBytes stateLen
-  length-stateBytes = length-sections stateSections (stateNumbers st) counted
+  length-stateBytes = length-sections stateSections (stateNumbers st) filled
 
   -- 01, The array: a state in bytes says that state
   pub stateOf-stateBytes : stateOf (stateBytes st) ≡ st
   unfolding stateOf numberOf sectionOf sectionAt stateBytes stateSections stateNumbers
   stateOf-stateBytes =
-      let back : (k : ℕ) → k < 13 → sectionOf (stateBytes st) k ≡ getD (stateNumbers st) k [] = λ k h. sections-back stateSections (stateNumbers st) k h counted fitting in
+      let back : (k : ℕ) → k < 13 → sectionOf (stateBytes st) k ≡ getD (stateNumbers st) k [] = λ k h. sections-back stateSections (stateNumbers st) k h filled in
       let one : (k : ℕ) → k < 13 → numberOf (stateBytes st) k ≡ getD (getD (stateNumbers st) k []) 0 0 = λ k h. ap (λ (l : List ℕ). getD l 0 0) (back k h) in
       λ j.
       mkState (one 0 (lit< tt) j) (one 1 (lit< tt) j) (one 2 (lit< tt) j) (one 3 (lit< tt) j) (one 4 (lit< tt) j) (one 5 (lit< tt) j)

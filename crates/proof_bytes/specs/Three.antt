@@ -41,7 +41,7 @@ use Rattle.tablesay.specs.Tests.{cond-true, cond-false}
 use Rattle.tablesay.specs.Zones.{Bytes}
 use Rattle.proof_bytes.specs.Sections.{Fits, stateOf-zeros}
 use Rattle.proof_bytes.specs.Images.{bytes-splice}
-use Rattle.proof_bytes.specs.Kept.{LentBytes, call-fits, call-bytes, decoded, simulates, state-long}
+use Rattle.proof_bytes.specs.Kept.{LentBytes, call-fits, call-bytes, decoded, state-long, simulates-bytes}
 use Rattle.proof_bytes.specs.Two.{worldOf, short-answer}
 
 -- ---- lent bytes of their length
@@ -55,7 +55,7 @@ module _ (p : Params) (l : Lent) (g : Good l) (c : Call) (b : Bytes (lentBlock c
   good-fits = call-fits p l c (g .bytes) b
 
   good-same : decoded (callBytes p l c) ≡ callDisk p (lentDisk l) (lentMemory l) c
-  good-same = simulates p l c (g .long) good-fits
+  good-same = simulates-bytes p l c (g .bytes) b (g .long)
 
   good-on : Good (callBytes p l c .lent)
   good-on = record { bytes = call-bytes p l c (g .bytes) b .0; long = state-long p l c (g .long) good-fits }
