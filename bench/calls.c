@@ -267,6 +267,40 @@ static void growth(void) {
     }
 }
 
+/* nanoseconds a write and a landing take in the stripes of a fresh segment, but for its last; used: how many zones are taken before */
+static void segment_times(const size_t v[6], size_t used, double *write, double *land) {
+    lend(v);
+    uint64_t *a = some_addresses();
+    *write = *land = 1e18;
+    for (size_t turn = 0; turn < (used > 100 ? 3 : 30); turn++) {
+        double w = 0, l = 0, t;
+        empty();
+        stripes(used * box.s, a);
+        for (size_t s = 0; s + 1 < box.s; s++) {
+            t = now();
+            for (size_t k = 0; k + 1 < box.n; k++) must("write", sorgizhed_write(SORGIZHED_LENT(&box), a[(s * (box.n - 1) + k) % box.l], data, box.b, SORGIZHED_NO_LIMIT), SORGIZHED_SENT);
+            w += now() - t;
+            t = now();
+            for (size_t d = 0; d < box.n; d++) must("land", sorgizhed_land(SORGIZHED_LENT(&box), d, s, SORGIZHED_NO_LIMIT), SORGIZHED_LANDED);
+            l += now() - t;
+        }
+        *write = least(*write, w / (double)((box.s - 1) * (box.n - 1))), *land = least(*land, l / (double)((box.s - 1) * box.n));
+    }
+    free(a);
+}
+
+/* a box in use against a small one: the opening of the segment is in the write's time */
+static void in_use(void) {
+    static const size_t few[6] = {4, 64, 4, 256, 16, 768}, many[6] = {4, 64, 1024, 256, 16, 784128};
+    double w0, l0, w1, l1;
+    segment_times(few, 0, &w0, &l0);
+    segment_times(many, 1020, &w1, &l1);
+    printf("\na box in use (N = 4, B = 64, S = 256; all zones but four are taken)\n");
+    printf("  Z = 4, empty    write %6.0f ns   landing %6.0f ns\n", w0, l0);
+    printf("  Z = 1,024       write %6.0f ns   landing %6.0f ns   write %.2f times as long%s\n", w1, l1, w1 / w0, w1 <= 1.3 * w0 ? "  (target met)" : "  (ABOVE THE TARGET, 1.3)");
+    fflush(stdout);
+}
+
 int main(void) {
     static const size_t large[6] = {4, 4096, 16, 256, 16, 9984}, many[3][6] = {{4, 64, 8, 320, 16, 4800}, {4, 64, 16, 1600, 16, 62400}, {4, 64, 64, 4096, 16, 749568}};
     for (size_t i = 0; i < sizeof data; i++) data[i] = (uint8_t)random_below(256);
@@ -284,5 +318,6 @@ int main(void) {
     reclaims("small box", small);
     reclaims("N 4, B 64", many[2]);
     growth();
+    in_use();
     return 0;
 }
