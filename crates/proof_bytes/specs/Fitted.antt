@@ -27,7 +27,7 @@ use Rattle.defs.specs.Write.{opens, noStamp, noSerial, placed, openedBy, slotFo
 use Rattle.laws.specs.Geometry.{between-high, Ranged, ranged, addresses-all, data-count-high}
 use Rattle.laws.specs.Mask.{only-lt}
 use Rattle.laws.specs.Ranges.{Test, test, and-left, length-below, length-keep}
-use Rattle.laws.specs.Ranges.Test.{yes!, no!}
+use Rattle.laws.specs.Ranges.Test.{yes!, no! }
 use Rattle.plans.specs.Refusals.{state-free}
 use Rattle.tablesay.specs.Checks.{Passes}
 use Rattle.tablesay.specs.Idle.{StateOk, state-of}

@@ -96,7 +96,8 @@ module _ (p : Params) (rg : inRange p ≡ true) (k : Disk) (e : emptyDisk p k �
       let a = checks-of p v (named d) (record { pointers-ok = no-pointer; segments-ok = no-segment gs none-remains }) in
       let six = no-rewrite gs none-remains (eqb (greatestSerial gs) lastCount) in
       let eight = no-rewrite gs none-remains (isNil (freeZones p gs)) in
-      (ap₂ (λ (x : Bool) (y : Bool). not x || not y) rg nm, (ap not lo, image-passes gs (rule 6 (rewrites p (named d) gs && eqb (greatestSerial gs) lastCount) ∷ rule 8 (rewrites p (named d) gs && isNil (freeZones p gs)) ∷ []) a (six, (eight, tt))))
+      let cs = rule 6 (rewrites p (named d) gs && eqb (greatestSerial gs) lastCount) ∷ rule 8 (rewrites p (named d) gs && isNil (freeZones p gs)) ∷ [] in
+      (ap₂ (λ (x : Bool) (y : Bool). not x || not y) rg nm, (ap not lo, image-passes gs cs a (six, (eight, tt))))
     where
       image-passes : (gs : List Segment) (cs : List Check) → Passes (imageChecks p v (named d) gs) → Passes cs → Passes (imageChecks p v (named d) gs ++ cs)
       image-passes gs cs = unfold imageChecks in (λ a c. (a .0, (a .1 .0, c)))
