@@ -3,11 +3,11 @@ use Prim.Native.Nat.{ℕ, _*_, _≤_, _<_}
 use Rattle.counts.specs.Fewest.{takenAs, taken-none, taken-some}
 use Rattle.counts.specs.Live.{liveBelow, Counted, live-all, places-high}
 use Rattle.defs.specs.Counts.{neverPlace}
-use Rattle.defs.specs.Drives.{View}
-use Rattle.defs.specs.Lists.{Opt, any, keep, isNil, firstOr}
+use Rattle.defs.specs.Drives.{View, segmentNumbers, sealedIn}
+use Rattle.defs.specs.Lists.{Opt, any, below, consIf, keep, isNil, firstOr}
 use Rattle.defs.specs.Lists.Opt.{none, some}
 use Rattle.defs.specs.Params.{capacity, placeZone}
-use Rattle.defs.specs.Reclaim.{placesIn, flying, Victim, victimOf, victim, isNone, victimSegment, victimLive, idle}
+use Rattle.defs.specs.Reclaim.{placesIn, flying, Victim, victimOf, fewest, victim, isNone, victimSegment, victimLive, idle}
 use Rattle.defs.specs.declared.Params.{Params}
 use Rattle.defs.specs.declared.State.{State}
 use Rattle.laws.specs.Geometry.{Ranged}
@@ -17,10 +17,11 @@ use Rattle.victim.specs.declared.Idle.{Idle}
 use borrow.Author.Tests.{le-leb, lt-leb, eq-eqb}
 use lib.Dec.{leb, eqb}
 use lib.ListN.{length, getD}
-use mathlib.Core.Bool.{Bool, false, not}
-use mathlib.Core.List.{List}
-use mathlib.Core.Path.{_≡_, sym, ap, _∙_, subst}
+use mathlib.Core.Bool.{Bool, true, false, not, _||_}
+use mathlib.Core.List.{List, [], _∷_, map}
+use mathlib.Core.Path.{_≡_, refl, sym, ap, _∙_, subst}
 use native.Mathlib.Omega.{arith}
+use Rattle.laws.specs.Ranges.{not-both}
 
 -- what r says of the segment that reclaim takes, with the drives v, the address table tb and the state st
 pub record Looked (p : Params) (v : View) (tb : List ℕ) (st : State) (r : Chosen) : Type 0 where
@@ -97,3 +98,19 @@ module _ (p : Params) (v : View) (tb : List ℕ) (st : State) (g : ℕ) (taken :
                 λ o. subst (λ (x : ℕ). isOdd p x ≡ false) e (t .2 (sym (wait .odd) ∙ sym eo ∙ o)),
               );
         }
+
+-- ---- no segment is sealed
+
+pass-none : {A : Type 0} (f : A → Bool) (l : List A) → any f l ≡ false → keep f l ≡ []
+unfolding keep consIf any
+pass-none f [] e = refl
+pass-none {A} f (a ∷ l) e = go (f a) (pass-none f l) e
+  where
+    go : (b : Bool) → (any f l ≡ false → keep f l ≡ []) → (b || any f l) ≡ false → consIf b a (keep f l) ≡ []
+    go true r q = absurd (not-both true refl q)
+    go false r q = r q
+
+-- then none is taken, whatever the table holds
+pub unsealed : (p : Params) (v : View) (tb : List ℕ) → any (sealedIn p v 0) (below (p .Z)) ≡ false → victim p v tb ≡ takenAs p tb (p .Z)
+unfolding victim fewest segmentNumbers
+unsealed p v tb h = ap (λ (l : List ℕ). fewest none (map (victimOf p (placesIn p tb)) l)) (pass-none (sealedIn p v 0) (below (p .Z)) h) ∙ sym (taken-none p tb (p .Z) (omega arith))

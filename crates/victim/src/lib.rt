@@ -5,9 +5,9 @@ ghost use mathlib.Core.List.{List, []};
 ghost use Prim.Native.Nat.{ℕ, _+_, _-_, _*_, _≤_, _<_};
 ghost use lib.Dec.{eqb};
 ghost use lib.ListN.{length};
-ghost use Rattle.defs.specs.Drives.{viewOf, mkDisk, recordAt};
-ghost use Rattle.defs.specs.Lists.{consIf};
-ghost use Rattle.defs.specs.Params.{inRange, capacity, addressesLen, placeBlock, placeZone, placeDrive};
+ghost use Rattle.defs.specs.Drives.{viewOf, mkDisk, recordAt, sealedIn};
+ghost use Rattle.defs.specs.Lists.{consIf, any, below};
+ghost use Rattle.defs.specs.Params.{inRange, capacity, imageLen, pointersLen, addressesLen, placeBlock, placeZone, placeDrive};
 ghost use Rattle.defs.specs.Reclaim.{tableFaults, flying};
 ghost use Rattle.records.specs.Record.{recOf};
 ghost use Rattle.marks.specs.Marks.{Marks};
@@ -327,13 +327,38 @@ fn look_huge(p: Params, image: &[u8], pointers: &[u8], addresses: &[u8], state: 
     look_with(p, image, pointers, addresses, &mut marks, state)
 }
 
-// 01, Reclaim: the sealed segment with fewest live blocks, lowest zone on a tie, and its first live block not in flight.
+// Whether some segment is sealed.
+fn any_sealed(p: Params, pointers: &[u8]) -> bool
+    requires { ⌜ inRange p ≡ true ⌝ }
+    requires { ⌜ length (now pointers) ≡ pointersLen p ⌝ }
+    ensures { λ r. ⌜ ((im : List ℕ) → length im ≡ imageLen p → r ≡ any (sealedIn p (viewOf p im (now (pointers .entry))) 0) (below (p .Z))) ⌝ }
+{
+    let mut g = 0;
+    while g < p.Z {
+        if zones::is_sealed(p, pointers, 0, g) {
+            return true;
+        }
+        g += 1;
+    }
+    false
+}
+
+// 01, Reclaim: the sealed segment with fewest live blocks, lowest zone on a tie, and its first live block not in flight. Where none is sealed
+// the table is not looked at.
 pub fn look(p: Params, image: &[u8], pointers: &[u8], addresses: &[u8], state: State) -> Chosen
     requires { ⌜ inRange p ≡ true ⌝ }
     requires { ⌜ Whole p (mkDisk (now image) (now pointers)) ⌝ }
     requires { ⌜ length (now addresses) ≡ addressesLen p ⌝ }
     ensures { λ r. ⌜ Looked p (viewOf p (now (image .entry)) (now (pointers .entry))) (now (addresses .entry)) state r ⌝ }
 {
+    if !any_sealed(p, pointers) {
+        return Chosen {
+            segment: p.Z,
+            live: 0,
+            first: Place::NEVER,
+            odd: false,
+        };
+    }
     let n = counts::places(p);
     if n <= 65536 {
         return look_small(p, image, pointers, addresses, state);
