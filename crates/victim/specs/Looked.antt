@@ -1,7 +1,7 @@
 -- The segment that reclaim takes, as the code tells it (01, Reclaim). Assumes nothing.
 use Prim.Native.Nat.{ℕ, _*_, _≤_, _<_}
 use Rattle.counts.specs.Fewest.{takenAs, taken-none, taken-some}
-use Rattle.counts.specs.Live.{liveBelow, Counted, live-all, places-high}
+use Rattle.counts.specs.Live.{liveBelow, live-all, places-high}
 use Rattle.defs.specs.Counts.{neverPlace}
 use Rattle.defs.specs.Drives.{View, segmentNumbers, sealedIn}
 use Rattle.defs.specs.Lists.{Opt, any, below, consIf, keep, isNil, firstOr}
@@ -16,7 +16,7 @@ use Rattle.victim.specs.declared.Chosen.{Chosen}
 use Rattle.victim.specs.declared.Idle.{Idle}
 use borrow.Author.Tests.{le-leb, lt-leb, eq-eqb}
 use lib.Dec.{leb, eqb}
-use lib.ListN.{length, getD}
+use lib.ListN.{length}
 use mathlib.Core.Bool.{Bool, true, false, not, _||_}
 use mathlib.Core.List.{List, [], _∷_, map}
 use mathlib.Core.Path.{_≡_, refl, sym, ap, _∙_, subst}
@@ -75,22 +75,22 @@ module _ (p : Params) (v : View) (tb : List ℕ) (st : State) (g : ℕ) (taken :
     its-idle = ap (keep (λ q. not (flying p v st q))) its-live
 
     -- one is
-    pub looked-some : (live : List ℕ) → Counted p tb live all! → (i : Idle) → Waiting p v st tb g all! i → (r : Chosen) → r .segment ≡ g → r .live ≡ getD live g 0
+    pub looked-some : (n : ℕ) → length (liveBelow p tb g all!) ≡ n → (i : Idle) → Waiting p v st tb g all! i → (r : Chosen) → r .segment ≡ g → r .live ≡ n
         → r .first .0 ≡ i .first .0 → r .odd ≡ i .odd → Looked p v tb st r
     unfolding isNone victimSegment victimOf
-    looked-some live so i wait r es el ef eo =
+    looked-some n so i wait r es el ef eo =
         let l = liveBelow p tb g all! in
         let f : ℕ → Bool = λ q. not (flying p v st q) in
         let e : firstOr neverPlace (keep f l) ≡ r .first .0 = sym (wait .first) ∙ sym ef in
         record {
           nobody = ap isNone is-some ∙ sym (lt-leb (p .Z) (r .segment) (omega (arith, es, h)));
           segment = λ _. ap victimSegment is-some ∙ sym es;
-          live = ap length its-live ∙ sym (so g h) ∙ sym el;
+          live = ap length its-live ∙ so ∙ sym el;
           first = ap (firstOr neverPlace) its-idle ∙ e;
           none-idle = ap isNil its-idle ∙ nil-first (keep f l) (waiting-nil p v st tb g all! (omega (arith, places-high p rg))) ∙ ap (λ (x : ℕ). eqb x neverPlace) e;
           odd = ap (any (isOdd p)) its-live ∙ sym (wait .odd) ∙ sym eo;
-          found = λ n.
-              let t = waiting-found p v st tb g all! (λ c. n (sym e ∙ c)) in
+          found = λ m.
+              let t = waiting-found p v st tb g all! (λ c. m (sym e ∙ c)) in
               let z : placeZone p (r .first .0) ≡ g = ap (placeZone p) (sym e) ∙ t .1 in (
                 omega (arith, es, h),
                 subst (λ (x : ℕ). x < all!) e (t .0),

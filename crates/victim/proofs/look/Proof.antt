@@ -1,8 +1,8 @@
-use borrow.Author.Tests.{not-true}
+use borrow.Author.Tests.{not-true, not-false}
 use Rattle.defs.specs.Drives.{viewOf}
 use Rattle.victim.specs.Looked.{looked-none, unsealed}
 use mathlib.Core.Bool.{false}
-use mathlib.Core.Path.{_≡_, refl, sym, _∙_}
+use mathlib.Core.Path.{refl, sym, _∙_}
 use native.Mathlib.Omega.{arith}
 use borrow.Author.Needs.{needs}
 use Rattle.victim.proofs.look.Statement.{statement}
@@ -43,6 +43,18 @@ look-huge-requires c κs = search needs
 returns-4 : tie.Need-returns-4
 returns-4 c = search needs
 
+look-by-records-requires : tie.Need-look-by-records-requires
+look-by-records-requires c κs = search needs
+
+look-huge-requires-2 : tie.Need-look-huge-requires-2
+look-huge-requires-2 c κs = search needs
+
+returns-5 : tie.Need-returns-5
+returns-5 c = search needs
+
+returns-6 : tie.Need-returns-6
+returns-6 c = c .before .before .before .look-by-records .ensures (not-false (c .before .before .before .look-by-records .result .sure) (c .before .if5 .left))
+
 pub look-spec : {M : Type 1} → statement M
 look-spec =
     tie.close
@@ -55,4 +67,8 @@ look-spec =
     look-large-requires
     returns-3
     look-huge-requires
-    returns-4)
+    returns-4
+    look-by-records-requires
+    look-huge-requires-2
+    returns-5
+    returns-6)
