@@ -71,7 +71,7 @@ unfolding below
 below-add a b = upFrom-add 0 a b ∙ ap (λ (x : ℕ). upFrom 0 a ++ upFrom x b) (zero-add a)
 
 -- the number after t, counted from 0 to Z - 1 again and again
-mod-next : (Z t : ℕ) → 0 < Z → (t + 1) % Z ≡ cond (eqb (t % Z + 1) Z) 0 (t % Z + 1)
+pub mod-next : (Z t : ℕ) → 0 < Z → (t + 1) % Z ≡ cond (eqb (t % Z + 1) Z) 0 (t % Z + 1)
 mod-next Z t h = go (test (eqb (t % Z + 1) Z))
   where
     u : ℕ

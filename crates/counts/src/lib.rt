@@ -6,6 +6,7 @@ ghost use Prim.Native.Nat.{ℕ, _+_, _*_, min, max, _≤_, _<_};
 ghost use lib.Dec.{eqb};
 ghost use lib.ListN.{length, getD};
 ghost use Rattle.counts.specs.Fewest.{pickOf, takenAs};
+ghost use Rattle.counts.specs.Least.{Least};
 ghost use Rattle.counts.specs.Live.{Counted};
 ghost use Rattle.defs.specs.Drives.{viewOf, sealedIn};
 ghost use Rattle.defs.specs.Params.{inRange, capacity, imageLen, pointersLen, addressesLen};
@@ -113,6 +114,7 @@ pub fn fewest(p: Params, pointers: &[u8], live: &[usize]) -> usize
     requires { ⌜ inRange p ≡ true ⌝ }
     requires { ⌜ (length (now pointers) ≡ pointersLen p) × (p .Z ≤ length (now live)) ⌝ }
     ensures { λ r. ⌜ ((im tb : List ℕ) → length im ≡ imageLen p → Counted p tb (now (live .entry)) (p .N * p .Z * capacity p) → victim p (viewOf p im (now (pointers .entry))) tb ≡ takenAs p tb r) ⌝ }
+    ensures { λ r. ⌜ ((im : List ℕ) → length im ≡ imageLen p → Least p (viewOf p im (now (pointers .entry))) (now (live .entry)) (p .Z) r) ⌝ }
 {
     let mut best = p.Z;
     let mut g = 0;

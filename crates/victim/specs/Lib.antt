@@ -1,3 +1,4 @@
 pub mod Looked
 pub mod Waiting
 pub mod Outside
+pub mod Vouched

@@ -1,13 +1,13 @@
 -- The segment that reclaim takes, as the code tells it (01, Reclaim). Assumes nothing.
 use Prim.Native.Nat.{ℕ, _*_, _≤_, _<_}
 use Rattle.counts.specs.Fewest.{takenAs, taken-none, taken-some}
-use Rattle.counts.specs.Live.{liveBelow, Counted, live-all, places-high}
+use Rattle.counts.specs.Live.{liveBelow, live-all, places-high}
 use Rattle.defs.specs.Counts.{neverPlace}
-use Rattle.defs.specs.Drives.{View}
-use Rattle.defs.specs.Lists.{Opt, any, keep, isNil, firstOr}
+use Rattle.defs.specs.Drives.{View, segmentNumbers, sealedIn}
+use Rattle.defs.specs.Lists.{Opt, any, below, consIf, keep, isNil, firstOr}
 use Rattle.defs.specs.Lists.Opt.{none, some}
 use Rattle.defs.specs.Params.{capacity, placeZone}
-use Rattle.defs.specs.Reclaim.{placesIn, flying, Victim, victimOf, victim, isNone, victimSegment, victimLive, idle}
+use Rattle.defs.specs.Reclaim.{placesIn, flying, Victim, victimOf, fewest, victim, isNone, victimSegment, victimLive, idle}
 use Rattle.defs.specs.declared.Params.{Params}
 use Rattle.defs.specs.declared.State.{State}
 use Rattle.laws.specs.Geometry.{Ranged}
@@ -16,11 +16,12 @@ use Rattle.victim.specs.declared.Chosen.{Chosen}
 use Rattle.victim.specs.declared.Idle.{Idle}
 use borrow.Author.Tests.{le-leb, lt-leb, eq-eqb}
 use lib.Dec.{leb, eqb}
-use lib.ListN.{length, getD}
-use mathlib.Core.Bool.{Bool, false, not}
-use mathlib.Core.List.{List}
-use mathlib.Core.Path.{_≡_, sym, ap, _∙_, subst}
+use lib.ListN.{length}
+use mathlib.Core.Bool.{Bool, true, false, not, _||_}
+use mathlib.Core.List.{List, [], _∷_, map}
+use mathlib.Core.Path.{_≡_, refl, sym, ap, _∙_, subst}
 use native.Mathlib.Omega.{arith}
+use Rattle.laws.specs.Ranges.{not-both}
 
 -- what r says of the segment that reclaim takes, with the drives v, the address table tb and the state st
 pub record Looked (p : Params) (v : View) (tb : List ℕ) (st : State) (r : Chosen) : Type 0 where
@@ -74,22 +75,22 @@ module _ (p : Params) (v : View) (tb : List ℕ) (st : State) (g : ℕ) (taken :
     its-idle = ap (keep (λ q. not (flying p v st q))) its-live
 
     -- one is
-    pub looked-some : (live : List ℕ) → Counted p tb live all! → (i : Idle) → Waiting p v st tb g all! i → (r : Chosen) → r .segment ≡ g → r .live ≡ getD live g 0
+    pub looked-some : (n : ℕ) → length (liveBelow p tb g all!) ≡ n → (i : Idle) → Waiting p v st tb g all! i → (r : Chosen) → r .segment ≡ g → r .live ≡ n
         → r .first .0 ≡ i .first .0 → r .odd ≡ i .odd → Looked p v tb st r
     unfolding isNone victimSegment victimOf
-    looked-some live so i wait r es el ef eo =
+    looked-some n so i wait r es el ef eo =
         let l = liveBelow p tb g all! in
         let f : ℕ → Bool = λ q. not (flying p v st q) in
         let e : firstOr neverPlace (keep f l) ≡ r .first .0 = sym (wait .first) ∙ sym ef in
         record {
           nobody = ap isNone is-some ∙ sym (lt-leb (p .Z) (r .segment) (omega (arith, es, h)));
           segment = λ _. ap victimSegment is-some ∙ sym es;
-          live = ap length its-live ∙ sym (so g h) ∙ sym el;
+          live = ap length its-live ∙ so ∙ sym el;
           first = ap (firstOr neverPlace) its-idle ∙ e;
           none-idle = ap isNil its-idle ∙ nil-first (keep f l) (waiting-nil p v st tb g all! (omega (arith, places-high p rg))) ∙ ap (λ (x : ℕ). eqb x neverPlace) e;
           odd = ap (any (isOdd p)) its-live ∙ sym (wait .odd) ∙ sym eo;
-          found = λ n.
-              let t = waiting-found p v st tb g all! (λ c. n (sym e ∙ c)) in
+          found = λ m.
+              let t = waiting-found p v st tb g all! (λ c. m (sym e ∙ c)) in
               let z : placeZone p (r .first .0) ≡ g = ap (placeZone p) (sym e) ∙ t .1 in (
                 omega (arith, es, h),
                 subst (λ (x : ℕ). x < all!) e (t .0),
@@ -97,3 +98,19 @@ module _ (p : Params) (v : View) (tb : List ℕ) (st : State) (g : ℕ) (taken :
                 λ o. subst (λ (x : ℕ). isOdd p x ≡ false) e (t .2 (sym (wait .odd) ∙ sym eo ∙ o)),
               );
         }
+
+-- ---- no segment is sealed
+
+pass-none : {A : Type 0} (f : A → Bool) (l : List A) → any f l ≡ false → keep f l ≡ []
+unfolding keep consIf any
+pass-none f [] e = refl
+pass-none {A} f (a ∷ l) e = go (f a) (pass-none f l) e
+  where
+    go : (b : Bool) → (any f l ≡ false → keep f l ≡ []) → (b || any f l) ≡ false → consIf b a (keep f l) ≡ []
+    go true r q = absurd (not-both true refl q)
+    go false r q = r q
+
+-- then none is taken, whatever the table holds
+pub unsealed : (p : Params) (v : View) (tb : List ℕ) → any (sealedIn p v 0) (below (p .Z)) ≡ false → victim p v tb ≡ takenAs p tb (p .Z)
+unfolding victim fewest segmentNumbers
+unsealed p v tb h = ap (λ (l : List ℕ). fewest none (map (victimOf p (placesIn p tb)) l)) (pass-none (sealedIn p v 0) (below (p .Z)) h) ∙ sym (taken-none p tb (p .Z) (omega arith))

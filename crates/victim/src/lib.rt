@@ -5,13 +5,14 @@ ghost use mathlib.Core.List.{List, []};
 ghost use Prim.Native.Nat.{ℕ, _+_, _-_, _*_, _≤_, _<_};
 ghost use lib.Dec.{eqb};
 ghost use lib.ListN.{length};
-ghost use Rattle.defs.specs.Drives.{viewOf, mkDisk, recordAt};
-ghost use Rattle.defs.specs.Lists.{consIf};
-ghost use Rattle.defs.specs.Params.{inRange, capacity, addressesLen, placeBlock, placeZone, placeDrive};
+ghost use Rattle.defs.specs.Drives.{viewOf, mkDisk, recordAt, sealedIn};
+ghost use Rattle.defs.specs.Lists.{consIf, any, below};
+ghost use Rattle.defs.specs.Params.{inRange, capacity, imageLen, pointersLen, addressesLen, placeOf, placeBlock, placeZone, placeDrive};
 ghost use Rattle.defs.specs.Reclaim.{tableFaults, flying};
 ghost use Rattle.records.specs.Record.{recOf};
 ghost use Rattle.marks.specs.Marks.{Marks};
 ghost use Rattle.victim.specs.Looked.{Looked};
+ghost use Rattle.victim.specs.Vouched.{Vouched, Sees, chosenOf};
 ghost use Rattle.victim.specs.Waiting.{isOdd, orElse, Stepped, Waiting};
 ghost use Rattle.views.specs.Views.{Whole};
 use defs::Params;
@@ -294,6 +295,159 @@ fn look_with(
     }
 }
 
+// ---- the segment by its records
+
+// Live blocks of a segment that its records tell: how many, and the first of them that is not in flight, NEVER if there is none.
+pub struct Seen {
+    pub live: usize,
+    pub first: Place,
+}
+
+// The data block at offset o, the place at + o, if the table has it at the address of its record.
+fn see_block(
+    p: Params,
+    image: &[u8],
+    pointers: &[u8],
+    addresses: &[u8],
+    state: State,
+    drive: usize,
+    g: usize,
+    at: usize,
+    o: usize,
+    seen: Seen,
+) -> Seen
+    requires { ⌜ inRange p ≡ true ⌝ }
+    requires { ⌜ Whole p (mkDisk (now image) (now pointers)) ⌝ }
+    requires { ⌜ (length (now addresses) ≡ addressesLen p) × (drive < p .N) × (g < p .Z) × (at ≡ placeOf p drive g 1) × (o < p .S) × (seen .live < 4294967296) ⌝ }
+    ensures { λ r. ⌜ r .live ≤ seen .live + 1 ⌝ }
+    ensures { λ r. ⌜ Sees p (viewOf p (now (image .entry)) (now (pointers .entry))) state (now (addresses .entry)) g (at + o) (at + o + 1) seen r ⌝ }
+{
+    let record = stored::record_in(p, image, true, drive, g, o);
+    let address = record.address;
+    let a = vouch::clipped(address.0, p.L);
+    let q = Place((at + o) as u32);
+    let there = tables::place_at(addresses, a);
+    if there.0 != q.0 {
+        return seen;
+    }
+    let first = seen.first;
+    let idle = idle_step(p, image, pointers, state, Idle { first, odd: false }, q);
+    let next = idle.first;
+    Seen {
+        live: seen.live + 1,
+        first: next,
+    }
+}
+
+// The data blocks of a zone.
+fn see_zone(
+    p: Params,
+    image: &[u8],
+    pointers: &[u8],
+    addresses: &[u8],
+    state: State,
+    drive: usize,
+    g: usize,
+    seen: Seen,
+) -> Seen
+    requires { ⌜ inRange p ≡ true ⌝ }
+    requires { ⌜ Whole p (mkDisk (now image) (now pointers)) ⌝ }
+    requires { ⌜ (length (now addresses) ≡ addressesLen p) × (drive < p .N) × (g < p .Z) × (seen .live ≤ 65535 * drive) ⌝ }
+    ensures { λ r. ⌜ r .live ≤ 65535 * (drive + 1) ⌝ }
+    ensures { λ r. ⌜ Sees p (viewOf p (now (image .entry)) (now (pointers .entry))) state (now (addresses .entry)) g (placeOf p drive g 1) (placeOf p drive g 1 + p .S) seen r ⌝ }
+{
+    let at = shape::place_of(p, drive, g, 1).0 as usize;
+    let mut found = seen;
+    let mut o = 0;
+    while o < p.S {
+        found = see_block(p, image, pointers, addresses, state, drive, g, at, o, found);
+        o += 1;
+    }
+    found
+}
+
+// The data blocks of a segment.
+fn see_segment(
+    p: Params,
+    image: &[u8],
+    pointers: &[u8],
+    addresses: &[u8],
+    state: State,
+    g: usize,
+) -> Seen
+    requires { ⌜ inRange p ≡ true ⌝ }
+    requires { ⌜ Whole p (mkDisk (now image) (now pointers)) ⌝ }
+    requires { ⌜ (length (now addresses) ≡ addressesLen p) × (g < p .Z) ⌝ }
+    ensures { λ r. ⌜ Vouched p (viewOf p (now (image .entry)) (now (pointers .entry))) state (now (addresses .entry)) g (p .N * p .Z * capacity p) r ⌝ }
+{
+    let mut found = Seen {
+        live: 0,
+        first: Place::NEVER,
+    };
+    let mut d = 0;
+    while d < p.N {
+        found = see_zone(p, image, pointers, addresses, state, d, g, found);
+        d += 1;
+    }
+    found
+}
+
+// A segment, the count of its live blocks and the first not in flight; whether it is sure that reclaim takes it, and that none of them is a
+// header or footer block.
+pub struct Told {
+    pub sure: bool,
+    pub segment: usize,
+    pub live: usize,
+    pub first: Place,
+}
+
+// The sealed segment with fewest entries in the table, if each of its entries is a live block by its record, and the others have as many.
+fn look_by_records(p: Params, image: &[u8], pointers: &[u8], addresses: &[u8], state: State) -> Told
+    requires { ⌜ inRange p ≡ true ⌝ }
+    requires { ⌜ Whole p (mkDisk (now image) (now pointers)) ⌝ }
+    requires { ⌜ length (now addresses) ≡ addressesLen p ⌝ }
+    ensures { λ r. ⌜ (r .sure ≡ true → Looked p (viewOf p (now (image .entry)) (now (pointers .entry))) (now (addresses .entry)) state (chosenOf r)) ⌝ }
+{
+    let none = Place::NEVER;
+    let mut used = [0usize; 1024];
+    entries::count_entries(p, addresses, &mut used);
+    let g = counts::fewest(p, pointers, &used);
+    if p.Z <= g {
+        return Told {
+            sure: false,
+            segment: g,
+            live: 0,
+            first: none,
+        };
+    }
+    let n = used[g];
+    if n == 0 {
+        return Told {
+            sure: true,
+            segment: g,
+            live: 0,
+            first: none,
+        };
+    }
+    let seen = see_segment(p, image, pointers, addresses, state, g);
+    let first = seen.first;
+    if seen.live != n {
+        return Told {
+            sure: false,
+            segment: g,
+            live: 0,
+            first,
+        };
+    }
+    let sure = vouch::is_fewest(p, image, pointers, addresses, g, n);
+    Told {
+        sure,
+        segment: g,
+        live: n,
+        first,
+    }
+}
+
 // With marks for 65,536 places.
 fn look_small(p: Params, image: &[u8], pointers: &[u8], addresses: &[u8], state: State) -> Chosen
     requires { ⌜ inRange p ≡ true ⌝ }
@@ -327,13 +481,38 @@ fn look_huge(p: Params, image: &[u8], pointers: &[u8], addresses: &[u8], state: 
     look_with(p, image, pointers, addresses, &mut marks, state)
 }
 
-// 01, Reclaim: the sealed segment with fewest live blocks, lowest zone on a tie, and its first live block not in flight.
+// Whether some segment is sealed.
+fn any_sealed(p: Params, pointers: &[u8]) -> bool
+    requires { ⌜ inRange p ≡ true ⌝ }
+    requires { ⌜ length (now pointers) ≡ pointersLen p ⌝ }
+    ensures { λ r. ⌜ ((im : List ℕ) → length im ≡ imageLen p → r ≡ any (sealedIn p (viewOf p im (now (pointers .entry))) 0) (below (p .Z))) ⌝ }
+{
+    let mut g = 0;
+    while g < p.Z {
+        if zones::is_sealed(p, pointers, 0, g) {
+            return true;
+        }
+        g += 1;
+    }
+    false
+}
+
+// 01, Reclaim: the sealed segment with fewest live blocks, lowest zone on a tie, and its first live block not in flight. Where none is sealed
+// the table is not looked at.
 pub fn look(p: Params, image: &[u8], pointers: &[u8], addresses: &[u8], state: State) -> Chosen
     requires { ⌜ inRange p ≡ true ⌝ }
     requires { ⌜ Whole p (mkDisk (now image) (now pointers)) ⌝ }
     requires { ⌜ length (now addresses) ≡ addressesLen p ⌝ }
     ensures { λ r. ⌜ Looked p (viewOf p (now (image .entry)) (now (pointers .entry))) (now (addresses .entry)) state r ⌝ }
 {
+    if !any_sealed(p, pointers) {
+        return Chosen {
+            segment: p.Z,
+            live: 0,
+            first: Place::NEVER,
+            odd: false,
+        };
+    }
     let n = counts::places(p);
     if n <= 65536 {
         return look_small(p, image, pointers, addresses, state);
@@ -341,7 +520,20 @@ pub fn look(p: Params, image: &[u8], pointers: &[u8], addresses: &[u8], state: S
     if n <= 524288 {
         return look_large(p, image, pointers, addresses, state);
     }
-    look_huge(p, image, pointers, addresses, state)
+    if n <= 2097152 {
+        return look_huge(p, image, pointers, addresses, state);
+    }
+    let told = look_by_records(p, image, pointers, addresses, state);
+    if !told.sure {
+        return look_huge(p, image, pointers, addresses, state);
+    }
+    let first = told.first;
+    Chosen {
+        segment: told.segment,
+        live: told.live,
+        first,
+        odd: false,
+    }
 }
 
 // 01, Refusals, 9: some place of the table lies outside the image.

@@ -188,22 +188,22 @@ pub fn is_empty(p: Params, pointers: &[u8], segment: usize) -> bool
     true
 }
 
-// 01, Refusals, 8: how many zones are empty on all drives; the search stops at most.
+// 01, Refusals, 8: how many zones are empty on all drives; the search, from the last zone down, stops at most.
 pub fn empty_zones(p: Params, pointers: &[u8], most: usize) -> usize
     requires { ⌜ inRange p ≡ true ⌝ }
     requires { ⌜ length (now pointers) ≡ pointersLen p ⌝ }
     ensures { λ r. ⌜ ((im : List ℕ) → length im ≡ imageLen p → r ≡ min most (length (emptyZones p (viewOf p im (now (pointers .entry)))))) ⌝ }
 {
     let mut n = 0;
-    let mut z = 0;
-    while z < p.Z {
+    let mut z = p.Z;
+    while 0 < z {
         if n == most {
             return n;
         }
+        z -= 1;
         if is_empty(p, pointers, z) {
             n += 1;
         }
-        z += 1;
     }
     n
 }

@@ -1,4 +1,4 @@
-use Prim.Native.Nat.{ℕ, _≤_}
+use Prim.Native.Nat.{ℕ, _≤_, _<_}
 use Rattle.counts.specs.Live.{counted-none}
 use Rattle.defs.specs.Drives.{viewOf}
 use Rattle.defs.specs.Reclaim.{fewest}
@@ -47,7 +47,7 @@ returns c =
     let p = a .p in
     let tb = a .addresses .now in
     let w = c .before .before .before .before .before .before .before .before .before .before .before .before .before .before .pre .1 .0 in
-    looked-none p (viewOf p (a .image .now) (a .pointers .now)) tb (a .state) (c .before .before .fewest .result) (c .before .before .fewest .ensures (a .image .now) tb (w .image-long) (c .before .before .before .before .before .before .before .count-windows .ensures .0)) (c .if1 .taken)
+    looked-none p (viewOf p (a .image .now) (a .pointers .now)) tb (a .state) (c .before .before .fewest .result) (c .before .before .fewest .ensures .0 (a .image .now) tb (w .image-long) (c .before .before .before .before .before .before .before .count-windows .ensures .0)) (c .if1 .taken)
     (record { segment = c .before .before .fewest .result; live = 0; first = record { 0 = 4294967295 }; odd = false }) refl refl refl refl
 
 mul-n : tie.Need-mul-n
@@ -74,9 +74,12 @@ returns-2 c =
     let g = c .before .before .before .before .before .before .before .fewest .result in
     let i = c .before .before .before .idle-of .result in
     let so = c .before .before .before .before .before .before .before .before .before .before .before .before .count-windows .ensures .0 in
-    looked-some p (viewOf p (a .image .now) (a .pointers .now)) tb (a .state) g (c .before .before .before .before .before .before .before .fewest .ensures (a .image .now) tb (w .image-long) so) (ranged p (c .before .before .before .before .before .before .before .before .before .before .before .before .before .before .before .before .before .before .before .pre .0)) (omega (arith, c .before .before .before .before .before .if1 .left))
-    (c .before .before .before .before .before .before .before .before .before .before .before .before .count-windows .last .1 .1 .1 .0) so i (c .before .before .before .idle-of .ensures)
-    (record { segment = g; live = getD (c .before .before .before .before .before .before .before .before .before .before .before .before .count-windows .last .1 .1 .1 .0) g 0; first = i .first; odd = i .odd }) refl refl refl refl
+    let rg = ranged p (c .before .before .before .before .before .before .before .before .before .before .before .before .before .before .before .before .before .before .before .pre .0) in
+    let h : g < p .Z = omega (arith, c .before .before .before .before .before .if1 .left) in
+    let n = getD (c .before .before .before .before .before .before .before .before .before .before .before .before .count-windows .last .1 .1 .1 .0) g 0 in
+    let taken = c .before .before .before .before .before .before .before .fewest .ensures .0 (a .image .now) tb (w .image-long) so in
+    looked-some p (viewOf p (a .image .now) (a .pointers .now)) tb (a .state) g taken rg h n (sym (so g h)) i (c .before .before .before .idle-of .ensures)
+    (record { segment = g; live = n; first = i .first; odd = i .odd }) refl refl refl refl
 
 pub look-with-spec : {M : Type 1} → statement M
 look-with-spec =

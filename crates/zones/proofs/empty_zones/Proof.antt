@@ -1,70 +1,84 @@
 use mathlib.Core.Path.{_≡_, sym, ap, _∙_}
 use mathlib.Core.List.{List}
-use mathlib.Core.Logic.{⊎-elim}
 use Prim.Native.Nat.{ℕ, _+_, _-_, min, _≤_}
 use native.Mathlib.Omega.{arith}
 use lib.ListN.{length}
 use Rattle.defs.specs.Engine.Call.{close}
-use Rattle.defs.specs.Lists.{upFrom, below, keep}
-use Rattle.scans.specs.Scans.{kept-one, kept-none, kept-ended, kept-start}
+use Rattle.defs.specs.Lists.{below, upFrom, keep, tally}
+use Rattle.laws.specs.Ranges.{tally-below-hit, tally-below-miss}
 use Rattle.zones.specs.Empty.{emptyBy, empty-list}
 use Rattle.zones.proofs.empty_zones.Statement.{statement}
 use Rattle.zones.proofs.empty_zones.Tie as tie
 
 abbrev Inv-loop : tie.InvT-loop
-Inv-loop p pointers most n₀ z₀ n z = (z ≤ p .Z) × (n ≤ most) × (n ≤ z) × (min most (n + length (keep (emptyBy p pointers) (upFrom z (p .Z - z)))) ≡ min most (length (keep (emptyBy p pointers) (below (p .Z)))))
+Inv-loop p pointers most n₀ z₀ n z =
+    (z ≤ p .Z) × (n ≤ most) × (n + z ≤ p .Z)
+    × (min most (n + tally (emptyBy p pointers) (below z)) ≡ min most (tally (emptyBy p pointers) (below (p .Z))))
 
 abbrev μ-loop : tie.MeasureT-loop
-μ-loop p pointers most n₀ z₀ n z = p .Z - z
+μ-loop p pointers most n₀ z₀ n z = z
 
 loop-holds : tie.Need-loop-holds Inv-loop μ-loop
-loop-holds c =
-    let a = c .before .args in
-    (omega arith, omega arith, omega arith, ap (min (a .most)) (kept-start (emptyBy (a .p) (a .pointers .now)) (a .p .Z)))
+loop-holds c = (omega arith, omega arith, omega arith, omega arith)
 
 returns : tie.Need-returns Inv-loop μ-loop
+unfolding tally
 returns c =
-    let a = c .before .before .before .before .before .args in
-    let p = a .p in
-    let ps = a .pointers .now in
-    let l = c .before .before .before .loop in
-    let f = emptyBy p ps in
-    λ im h. ((let e : l .n ≡ min (a .most) (l .n + length (keep f (upFrom (l .z) (p .Z - l .z)))) = omega (arith, c .if2 .taken) in e) ∙ l .inv .3) ∙ ap (λ (x : List ℕ). min (a .most) (length x)) (sym (empty-list p im ps h (c .before .before .before .before .before .pre .1)))
+    let a = c .before .before .before .before .args in
+    let l = c .before .before .loop in
+    let f = emptyBy (a .p) (a .pointers .now) in
+    let e : l .n ≡ min (a .most) (l .n + tally f (below (l .z))) = omega (arith, c .if1 .taken) in
+    let long = c .before .before .before .before .pre .1 in
+    λ im h. e ∙ l .inv .3 ∙ ap (λ (x : List ℕ). min (a .most) (length x)) (sym (empty-list (a .p) im (a .pointers .now) h long))
+
+sub-z : tie.Need-sub-z Inv-loop μ-loop
+sub-z c = omega arith
 
 is-empty-requires : tie.Need-is-empty-requires Inv-loop μ-loop
-is-empty-requires c κs = (c .before .before .before .before .before .pre .0, (c .before .before .before .before .before .pre .1, c .before .if1 .taken))
+is-empty-requires c κs = (c .before .before .before .before .pre .0, (c .before .before .before .before .pre .1, omega arith))
 
 add-n : tie.Need-add-n Inv-loop μ-loop
 add-n c = omega arith
-
-add-z : tie.Need-add-z Inv-loop μ-loop
-add-z c = omega arith
 
 loop-less : tie.Need-loop-less Inv-loop μ-loop
 loop-less c = omega arith
 
 loop-again : tie.Need-loop-again Inv-loop μ-loop
 loop-again c =
-    let a = c .before .before .before .before .before .before .before .args in
-    let p = a .p in
-    let ps = a .pointers .now in
-    let l = c .before .before .before .before .before .loop in
-    let f = emptyBy p ps in
-    let b : (z : l .z + 1 ≤ p .Z) × (c .if3 .n ≤ a .most) × (c .if3 .n ≤ l .z + 1) × (min (a .most) (c .if3 .n + length (keep f (upFrom (l .z + 1) (p .Z - (l .z + 1))))) ≡ min (a .most) (length (keep f (below (p .Z))))) =
-    ⊎-elim
-    (λ w. (omega (arith, c .before .before .before .if1 .taken), omega (arith, w .1, c .before .before .if2 .left), omega (arith, w .1), ap (λ (x : ℕ). min (a .most) (x + length (keep f (upFrom (l .z + 1) (p .Z - (l .z + 1)))))) (w .1) ∙ ap (min (a .most)) (sym (kept-one f (l .z) (p .Z) (l .n) (c .before .before .before .if1 .taken) (sym (c .before .is-empty .ensures) ∙ w .0 .taken))) ∙ l .inv .3))
-    (λ w. (omega (arith, c .before .before .before .if1 .taken), omega (arith, w .1), omega (arith, w .1), ap (λ (x : ℕ). min (a .most) (x + length (keep f (upFrom (l .z + 1) (p .Z - (l .z + 1)))))) (w .1) ∙ ap (min (a .most)) (sym (kept-none f (l .z) (p .Z) (l .n) (c .before .before .before .if1 .taken) (sym (c .before .is-empty .ensures) ∙ w .0 .left))) ∙ l .inv .3))
-    (c .if3 .came) in
-    b
+    let a = c .before .before .before .before .before .before .args in
+    let l = c .before .before .before .before .loop in
+    let f = emptyBy (a .p) (a .pointers .now) in
+    let z : l .z ≡ l .z - 1 + 1 = omega arith in
+    let t : tally f (below (l .z)) ≡ tally f (below (l .z - 1)) + 1 =
+    ap (λ (x : ℕ). tally f (below x)) z ∙ tally-below-hit f (l .z - 1) (sym (c .before .is-empty .ensures) ∙ c .if2 .taken) in
+    let e : min (a .most) (l .n + 1 + tally f (below (l .z - 1))) ≡ min (a .most) (l .n + tally f (below (l .z))) = omega (arith, t) in
+    (omega arith, omega arith, omega arith, e ∙ l .inv .3)
+
+loop-less-2 : tie.Need-loop-less-2 Inv-loop μ-loop
+loop-less-2 c = omega arith
+
+loop-again-2 : tie.Need-loop-again-2 Inv-loop μ-loop
+loop-again-2 c =
+    let a = c .before .before .before .before .before .before .args in
+    let l = c .before .before .before .before .loop in
+    let f = emptyBy (a .p) (a .pointers .now) in
+    let z : l .z ≡ l .z - 1 + 1 = omega arith in
+    let t : tally f (below (l .z)) ≡ tally f (below (l .z - 1)) =
+    ap (λ (x : ℕ). tally f (below x)) z ∙ tally-below-miss f (l .z - 1) (sym (c .before .is-empty .ensures) ∙ c .if2 .left) in
+    let e : min (a .most) (l .n + tally f (below (l .z - 1))) ≡ min (a .most) (l .n + tally f (below (l .z))) = omega (arith, t) in
+    (omega arith, omega arith, omega arith, e ∙ l .inv .3)
 
 returns-2 : tie.Need-returns-2 Inv-loop μ-loop
+unfolding tally below upFrom keep
 returns-2 c =
-    let a = c .before .before .before .before .args in
-    let p = a .p in
-    let ps = a .pointers .now in
-    let l = c .before .before .loop in
-    let f = emptyBy p ps in
-    λ im h. ((let e : l .n ≡ min (a .most) (l .n + length (keep f (upFrom (l .z) (p .Z - l .z)))) = omega (arith, l .inv .1, kept-ended f (l .z) (p .Z) (l .n) (omega (arith, c .if1 .left))) in e) ∙ l .inv .3) ∙ ap (λ (x : List ℕ). min (a .most) (length x)) (sym (empty-list p im ps h (c .before .before .before .before .pre .1)))
+    let a = c .before .before .before .args in
+    let l = c .before .loop in
+    let f = emptyBy (a .p) (a .pointers .now) in
+    let z : l .z ≡ 0 = omega arith in
+    let e : l .n ≡ min (a .most) (l .n + tally f (below 0)) = omega (arith, l .inv .1) in
+    let k : l .n ≡ min (a .most) (l .n + tally f (below (l .z))) = e ∙ ap (λ (x : ℕ). min (a .most) (l .n + tally f (below x))) (sym z) in
+    let long = c .before .before .before .pre .1 in
+    λ im h. k ∙ l .inv .3 ∙ ap (λ (x : List ℕ). min (a .most) (length x)) (sym (empty-list (a .p) im (a .pointers .now) h long))
 
 pub empty-zones-spec : {M : Type 1} → statement M
 empty-zones-spec =
@@ -74,9 +88,11 @@ empty-zones-spec =
     μ-loop
     loop-holds
     returns
+    sub-z
     is-empty-requires
     add-n
-    add-z
     loop-less
     loop-again
+    loop-less-2
+    loop-again-2
     returns-2)
