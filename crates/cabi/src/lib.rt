@@ -1,5 +1,5 @@
-// The calls of the host, in C: numbers and byte buffers, the state as bytes (01, The array). Each decodes the state, makes the call and, unless
-// it is refused, encodes the state again.
+// The calls of the host, in C: numbers and byte buffers, the state as bytes (01, The array). Reads look at the state's bytes where they lie; each
+// other call decodes the state, makes the call and, unless it is refused, encodes the state again.
 ghost use mathlib.Core.Path.{_≡_};
 ghost use mathlib.Core.Bool.{cond};
 ghost use mathlib.Core.List.{[]};
@@ -229,7 +229,6 @@ pub extern "C" fn sorgizhed_read(
     if state.len() != codec::state_len() {
         return told::short_of(shape::in_range(p));
     }
-    let before = codec::decode(state);
     let answer = read::find(
         p,
         image,
@@ -237,7 +236,7 @@ pub extern "C" fn sorgizhed_read(
         addresses,
         compact,
         inflight,
-        before,
+        state,
         Address(address),
     );
     told::told_of(answer)
@@ -274,7 +273,6 @@ pub extern "C" fn sorgizhed_fill(
     if state.len() != codec::state_len() {
         return told::short_of(shape::in_range(p));
     }
-    let before = codec::decode(state);
     let answer = read::fill(
         p,
         image,
@@ -282,7 +280,7 @@ pub extern "C" fn sorgizhed_fill(
         addresses,
         compact,
         inflight,
-        before,
+        state,
         Address(address),
         block,
     );

@@ -4,3 +4,4 @@ pub mod Decode
 pub mod Fill
 pub mod Part
 pub mod Ends
+pub mod Sought

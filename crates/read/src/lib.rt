@@ -1,34 +1,39 @@
-// The two read calls (01, Read). They change neither drives nor memory.
+// The two read calls (01, Read). They change neither drives nor memory, and take the state as its bytes: what they ask of it, they read there.
 ghost use mathlib.Core.Path.{_≡_};
 ghost use mathlib.Core.Bool.{true, false, cond, _&&_, not};
-ghost use mathlib.Core.List.{List, []};
+ghost use mathlib.Core.List.{List, [], _∷_};
 ghost use Prim.Native.Nat.{ℕ, _-_, _<_};
 ghost use lib.Dec.{ltb};
 ghost use lib.ListN.{length};
-ghost use Rattle.calls.specs.Left.{checked};
 ghost use Rattle.defs.specs.Bytes.{part, xors};
-ghost use Rattle.defs.specs.Calls.{mkAfter};
+ghost use Rattle.defs.specs.Calls.{firstRefusal, mkAfter};
+ghost use Rattle.defs.specs.Calls.Check.{zones};
 ghost use Rattle.defs.specs.Drives.{viewOf, mkDisk};
 ghost use Rattle.defs.specs.Engine.{callDisk};
 ghost use Rattle.defs.specs.Engine.Call.{read, fill};
 ghost use Rattle.defs.specs.Lists.{any, consIf, isNil, isIn};
-ghost use Rattle.defs.specs.Memory.{mkMemory, shownAt};
+ghost use Rattle.defs.specs.Memory.{mkMemory, stateLen, stateOf, shownAt};
 ghost use Rattle.defs.specs.Params.{inRange, imageLen, pointersLen, compactLen, placeByte};
 ghost use Rattle.defs.specs.Read.Found.{away};
-ghost use Rattle.defs.specs.Read.{foundFaults, shown, decodedAt, readAnswer};
+ghost use Rattle.defs.specs.Read.{lookup, foundFaults, shown, decodedAt, readAnswer};
 ghost use Rattle.lookup.specs.Lies.{foundOf};
 ghost use Rattle.read.specs.Decode.{shownBlock};
 ghost use Rattle.read.specs.Order.{refusal};
 ghost use Rattle.read.specs.Part.{PartOf, partAt, partLen};
+ghost use Rattle.read.specs.Sought.{refusedBy, liesAt};
 ghost use Rattle.read.specs.Fill.{mkFill, filling, Placed, placedAt};
 ghost use Rattle.views.specs.Views.{Whole};
-use calls::Check;
 use defs::Address;
 use defs::Answer;
 use defs::Params;
 use defs::Place;
-use defs::State;
 use lookup::Found;
+
+// 01, Refusals; Read: a refusal, or where the address lies.
+pub enum Sought {
+    Bad(Answer),
+    Lies(Found),
+}
 
 // 01, Refusals, 9: the bad zone of a place to be read; Z where there is none.
 fn found_fault(p: Params, pointers: &[u8], gone: u8, f: Found) -> usize
@@ -43,38 +48,52 @@ fn found_fault(p: Params, pointers: &[u8], gone: u8, f: Found) -> usize
     }
 }
 
-// 01, Refusals: the checks of both reads, in order; len is the lent block's length, B for the first call, which has none.
-fn checks(
+// 01, Refusals, 9: a place is refused where the number is one of a zone.
+fn judged(p: Params, zone: usize, f: Found) -> Sought
+    ensures { λ r. ⌜ refusedBy r ≡ firstRefusal (zones (consIf (ltb zone (p .Z)) zone []) ∷ []) ⌝ }
+    ensures { λ r. ⌜ liesAt r (foundOf f) ⌝ }
+{
+    if zone < p.Z {
+        return Sought::Bad(Answer::BadZone(zone as u64));
+    }
+    Sought::Lies(f)
+}
+
+// 01, Refusals: the checks of both reads, in order, and then where the address lies; len is the lent block's length, B for the first call, which has none.
+fn seek(
     p: Params,
     image: &[u8],
     pointers: &[u8],
     addresses: &[u8],
     compact: &[u8],
     inflight: &[u8],
-    state: State,
+    state: &[u8],
     address: Address,
     len: usize,
-) -> Check
-    ensures { λ r. ⌜ checked r ≡ refusal p (mkDisk (now (image .entry)) (now (pointers .entry))) (mkMemory state (now (addresses .entry)) (now (compact .entry)) (now (inflight .entry))) (address .0) len ⌝ }
+) -> Sought
+    requires { ⌜ length (now state) ≡ stateLen ⌝ }
+    ensures { λ r. ⌜ refusedBy r ≡ refusal p (mkDisk (now (image .entry)) (now (pointers .entry))) (mkMemory (stateOf (now (state .entry))) (now (addresses .entry)) (now (compact .entry)) (now (inflight .entry))) (address .0) len ⌝ }
+    ensures { λ r. ⌜ liesAt r (lookup p (stateOf (now (state .entry)) .missing) (now (addresses .entry)) (address .0)) ⌝ }
 {
     if !shape::in_range(p) {
-        return Check::Fail(Answer::Refused(1));
+        return Sought::Bad(Answer::Refused(1));
     }
     if !calls::lent_ok(p, image, pointers, addresses, compact, inflight) {
-        return Check::Fail(Answer::Refused(2));
+        return Sought::Bad(Answer::Refused(2));
     }
     if len != p.B {
-        return Check::Fail(Answer::Refused(2));
+        return Sought::Bad(Answer::Refused(2));
     }
     if p.L as u64 <= address.0 {
-        return Check::Fail(Answer::Refused(4));
+        return Sought::Bad(Answer::Refused(4));
     }
-    if !memory::state_ok(p, state) {
-        return Check::Fail(Answer::BadZone(0));
+    if !bounds::state_ok(p, state) {
+        return Sought::Bad(Answer::BadZone(0));
     }
-    let f = lookup::lookup(p, state.missing, addresses, address.0 as usize);
-    let zone = found_fault(p, pointers, state.missing, f);
-    lookup::zone_check(p, zone)
+    let gone = bounds::missing(state);
+    let f = lookup::lookup(p, gone, addresses, address.0 as usize);
+    let zone = found_fault(p, pointers, gone, f);
+    judged(p, zone, f)
 }
 
 // 01, Read: the part of the image, never written, or on the missing drive.
@@ -97,13 +116,14 @@ pub fn find(
     addresses: &[u8],
     compact: &[u8],
     inflight: &[u8],
-    state: State,
+    state: &[u8],
     address: Address,
 ) -> Answer
-    ensures { λ r. ⌜ mkAfter r (mkDisk (now (image .entry)) (now (pointers .entry))) (mkMemory state (now (addresses .entry)) (now (compact .entry)) (now (inflight .entry))) [] ≡ callDisk p (mkDisk (now (image .entry)) (now (pointers .entry))) (mkMemory state (now (addresses .entry)) (now (compact .entry)) (now (inflight .entry))) (read (address .0)) ⌝ }
+    requires { ⌜ length (now state) ≡ stateLen ⌝ }
+    ensures { λ r. ⌜ mkAfter r (mkDisk (now (image .entry)) (now (pointers .entry))) (mkMemory (stateOf (now (state .entry))) (now (addresses .entry)) (now (compact .entry)) (now (inflight .entry))) [] ≡ callDisk p (mkDisk (now (image .entry)) (now (pointers .entry))) (mkMemory (stateOf (now (state .entry))) (now (addresses .entry)) (now (compact .entry)) (now (inflight .entry))) (read (address .0)) ⌝ }
 {
     let b = p.B;
-    let c = checks(
+    let sought = seek(
         p,
         image,
         pointers,
@@ -114,11 +134,10 @@ pub fn find(
         address,
         b,
     );
-    if let Check::Fail(answer) = c {
-        return answer;
+    match sought {
+        Sought::Bad(answer) => answer,
+        Sought::Lies(f) => answer_of(p, f),
     }
-    let lies = lookup::lookup(p, state.missing, addresses, address.0 as usize);
-    answer_of(p, lies)
 }
 
 // The first read's part of the lent image, by its place there: the block, or empty where the answer is no part.
@@ -129,10 +148,11 @@ pub fn part<'a>(
     addresses: &[u8],
     compact: &[u8],
     inflight: &[u8],
-    state: State,
+    state: &[u8],
     address: Address,
 ) -> &'a [u8]
-    ensures { λ r. ⌜ PartOf (image .entry) (partAt (callDisk p (mkDisk (now (image .entry)) (now (pointers .entry))) (mkMemory state (now (addresses .entry)) (now (compact .entry)) (now (inflight .entry))) (read (address .0)) .answer)) (partLen p (callDisk p (mkDisk (now (image .entry)) (now (pointers .entry))) (mkMemory state (now (addresses .entry)) (now (compact .entry)) (now (inflight .entry))) (read (address .0)) .answer)) r ⌝ }
+    requires { ⌜ length (now state) ≡ stateLen ⌝ }
+    ensures { λ r. ⌜ PartOf (image .entry) (partAt (callDisk p (mkDisk (now (image .entry)) (now (pointers .entry))) (mkMemory (stateOf (now (state .entry))) (now (addresses .entry)) (now (compact .entry)) (now (inflight .entry))) (read (address .0)) .answer)) (partLen p (callDisk p (mkDisk (now (image .entry)) (now (pointers .entry))) (mkMemory (stateOf (now (state .entry))) (now (addresses .entry)) (now (compact .entry)) (now (inflight .entry))) (read (address .0)) .answer)) r ⌝ }
 {
     let answer = find(
         p,
@@ -317,14 +337,15 @@ pub fn fill(
     addresses: &[u8],
     compact: &[u8],
     inflight: &[u8],
-    state: State,
+    state: &[u8],
     address: Address,
     block: &mut [u8],
 ) -> Answer
-    ensures { λ r. ⌜ mkAfter r (mkDisk (now (image .entry)) (now (pointers .entry))) (mkMemory state (now (addresses .entry)) (now (compact .entry)) (now (inflight .entry))) (now (block .exit)) ≡ callDisk p (mkDisk (now (image .entry)) (now (pointers .entry))) (mkMemory state (now (addresses .entry)) (now (compact .entry)) (now (inflight .entry))) (fill (address .0) (now (block .entry))) ⌝ }
+    requires { ⌜ length (now state) ≡ stateLen ⌝ }
+    ensures { λ r. ⌜ mkAfter r (mkDisk (now (image .entry)) (now (pointers .entry))) (mkMemory (stateOf (now (state .entry))) (now (addresses .entry)) (now (compact .entry)) (now (inflight .entry))) (now (block .exit)) ≡ callDisk p (mkDisk (now (image .entry)) (now (pointers .entry))) (mkMemory (stateOf (now (state .entry))) (now (addresses .entry)) (now (compact .entry)) (now (inflight .entry))) (fill (address .0) (now (block .entry))) ⌝ }
 {
     let n = block.len();
-    let c = checks(
+    let sought = seek(
         p,
         image,
         pointers,
@@ -335,9 +356,11 @@ pub fn fill(
         address,
         n,
     );
-    if let Check::Fail(answer) = c {
-        return answer;
+    match sought {
+        Sought::Bad(answer) => answer,
+        Sought::Lies(f) => {
+            let gone = bounds::missing(state);
+            fill_found(p, image, pointers, gone, compact, f, block)
+        }
     }
-    let source = lookup::lookup(p, state.missing, addresses, address.0 as usize);
-    fill_found(p, image, pointers, state.missing, compact, source, block)
 }

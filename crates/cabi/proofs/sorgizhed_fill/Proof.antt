@@ -2,13 +2,10 @@ use Rattle.told.specs.Told.{toldOf, lending, hears}
 use Rattle.told.specs.Hears.{hears-short, hears-read}
 use Rattle.told.specs.declared.Told.{Told}
 use Rattle.codec.specs.Codec.{stateBytes-stateOf}
-use Rattle.defs.specs.Calls.{mkAfter}
-use Rattle.defs.specs.Engine.{callDisk, Lent, lentDisk, lentMemory}
+use Rattle.defs.specs.Engine.{Lent, lentDisk, lentMemory}
 use Rattle.defs.specs.Engine.Call.{fill}
-use Rattle.defs.specs.Memory.{mkMemory}
 use Rattle.defs.specs.Params.{mkParams, inRange}
 use Rattle.defs.specs.declared.Params.{Params}
-use Rattle.defs.specs.declared.State.{State}
 use Rattle.hosts.specs.Shorts.{shortAnswer, fill-short, fill-keeps}
 use borrow.Author.Needs.{needs}
 use mathlib.Core.Bool.{Bool}
@@ -36,11 +33,8 @@ returns c =
     ap (λ (x : Told). hears x l (a .block .now)) (c .short-of .ensures ∙ ap (λ (x : Bool). toldOf (shortAnswer x)) (c .before .in-range .ensures))
     ∙ hears-short p l (fill (a .address) (a .block .now)) (a .block .now) (λ e. c .before .before .if1 .taken (e ∙ sym (c .before .before .before .state-len .ensures))) (inRange p) (fill-short p d m (a .address) (a .block .now))
 
-decode-requires : tie.Need-decode-requires
-decode-requires c κs = c .if1 .left ∙ c .before .state-len .ensures
-
 fill-requires : tie.Need-fill-requires
-fill-requires c κs = search needs
+fill-requires c κs = c .before .if1 .left ∙ c .before .before .state-len .ensures
 
 told-of-requires : tie.Need-told-of-requires
 told-of-requires c κs = search needs
@@ -51,16 +45,16 @@ same-length c = search needs
 returns-2 : tie.Need-returns-2
 unfolding lentDisk lentMemory
 returns-2 c =
-    let a = c .before .before .before .before .before .before .before .before .before .before .before .before .before .before .before .args in
+    let filled = c .before .before .before in
+    let test = filled .before .before in
+    let s = test .before .before .before .before .before .before .before .before .before in
+    let a = s .args in
     let p : Params = mkParams (a .n) (a .b) (a .z) (a .s) (a .g) (a .l) in
     let l : Lent = lending (a .image .now) (a .pointers .now) (a .addresses .now) (a .compact .now) (a .inflight .now) (a .state .now) in
-    hears-read p l (fill (a .address) (a .block .now)) (a .block .now) (c .before .before .before .before .before .before .if1 .left ∙ c .before .before .before .before .before .before .before .state-len .ensures) (fill-keeps p (lentDisk l) (lentMemory l) (a .address) (a .block .now))
-    (stateBytes-stateOf (a .state .now) (c .before .before .before .before .before .before .if1 .left ∙ c .before .before .before .before .before .before .before .state-len .ensures) (λ k h. omega (arith, c .before .before .before .before .before .before .before .before .before .shared-slice-known6 .given k)))
-    (c .before .before .before .fill .result) (c .before .before .before .fill .last .1 .1 .1 .1 .1 .1 .1 .1 .0) (c .told-of .result)
-    (ap (λ (x : State). mkAfter (c .before .before .before .fill .result) (lentDisk l) (mkMemory x (a .addresses .now) (a .compact .now) (a .inflight .now)) (c .before .before .before .fill .last .1 .1 .1 .1 .1 .1 .1 .1 .0)) (sym (c .before .before .before .before .before .decode .ensures))
-    ∙ c .before .before .before .fill .ensures
-    ∙ ap (λ (x : State). callDisk p (lentDisk l) (mkMemory x (a .addresses .now) (a .compact .now) (a .inflight .now)) (fill (a .address) (a .block .now))) (c .before .before .before .before .before .decode .ensures))
-    (c .told-of .ensures)
+    let long = test .if1 .left ∙ test .before .state-len .ensures in
+    hears-read p l (fill (a .address) (a .block .now)) (a .block .now) long (fill-keeps p (lentDisk l) (lentMemory l) (a .address) (a .block .now))
+    (stateBytes-stateOf (a .state .now) long (λ k h. omega (arith, test .before .before .before .shared-slice-known6 .given k)))
+    (filled .fill .result) (filled .fill .last .1 .1 .1 .1 .1 .1 .1 .1 .0) (c .told-of .result) (filled .fill .ensures) (c .told-of .ensures)
 
 pub sorgizhed-fill-spec : {M : Type 1} → statement M
 sorgizhed-fill-spec =
@@ -70,7 +64,6 @@ sorgizhed-fill-spec =
     in-range-requires
     short-of-requires
     returns
-    decode-requires
     fill-requires
     told-of-requires
     same-length

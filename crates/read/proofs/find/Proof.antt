@@ -1,65 +1,69 @@
-use Rattle.calls.specs.Left.{checked}
 use Rattle.defs.specs.Drives.{Disk, mkDisk}
 use Rattle.defs.specs.Lists.Opt.{none}
-use Rattle.defs.specs.Memory.{Memory, mkMemory}
-use Rattle.defs.specs.Read.{readAnswer}
+use Rattle.defs.specs.Memory.{Memory, mkMemory, stateOf}
+use Rattle.defs.specs.Read.{Found, readAnswer}
 use Rattle.read.specs.Ends.{read-refused, read-done}
-use Rattle.read.specs.Order.{refusal}
+use Rattle.read.specs.Order.{found, refusal}
 use Rattle.read.specs.Ready.{ready}
+use Rattle.read.specs.Sought.{refusedBy, liesAt}
+use Rattle.read.specs.declared.Sought.{Sought}
+use mathlib.Core.Path.{_≡_, sym, ap, _∙_, subst}
 use borrow.Author.Needs.{needs}
-use mathlib.Core.Path.{_≡_, sym, ap, _∙_}
 use Rattle.read.proofs.find.Statement.{statement}
 use Rattle.read.proofs.find.Tie as tie
 
-checks-requires : tie.Need-checks-requires
-checks-requires c κs = search needs
+abbrev disk : tie.Start → Disk
+disk s = mkDisk (s .args .image .now) (s .args .pointers .now)
 
-enum-known-c : tie.Need-enum-known-c
-enum-known-c c = search needs
+abbrev memory : tie.Start → Memory
+memory s = mkMemory (stateOf (s .args .state .now)) (s .args .addresses .now) (s .args .compact .now) (s .args .inflight .now)
 
-returns : tie.Need-returns
-returns c =
-    let a = c .before .before .before .before .before .before .before .before .before .args in
-    let k : Disk = mkDisk (a .image .now) (a .pointers .now) in
-    let m : Memory = mkMemory (a .state) (a .addresses .now) (a .compact .now) (a .inflight .now) in
-    read-refused (a .p) k m (a .address .0) (c .before .c .given .0 .0) (sym (c .before .before .before .checks .ensures) ∙ ap checked (c .before .c .given .1))
+seek-requires : tie.Need-seek-requires
+seek-requires c κs = search needs
 
-enum-told : tie.Need-enum-told
-enum-told c = search needs
+enum-known-sought : tie.Need-enum-known-sought
+enum-known-sought c = search needs
 
-lookup-requires : tie.Need-lookup-requires
-lookup-requires c κs =
-    let a = c .before .before .before .before .before .before .before .before .args in
-    let k : Disk = mkDisk (a .image .now) (a .pointers .now) in
-    let m : Memory = mkMemory (a .state) (a .addresses .now) (a .compact .now) (a .inflight .now) in
-    let none! : refusal (a .p) k m (a .address .0) (a .p .B) ≡ none = sym (c .before .before .checks .ensures) ∙ ap checked (c .enum-told .given .1) in
-    let r = ready (a .p) k m (a .address .0) (a .p .B) none! in
-    (r .ranged, (r .addresses-long, r .address-low))
+enum-known-sought-2 : tie.Need-enum-known-sought-2
+enum-known-sought-2 c = search needs
 
 answer-of-requires : tie.Need-answer-of-requires
 answer-of-requires c κs =
-    let a = c .before .before .before .before .before .before .before .before .before .args in
-    let k : Disk = mkDisk (a .image .now) (a .pointers .now) in
-    let m : Memory = mkMemory (a .state) (a .addresses .now) (a .compact .now) (a .inflight .now) in
-    let none! : refusal (a .p) k m (a .address .0) (a .p .B) ≡ none = sym (c .before .before .before .checks .ensures) ∙ ap checked (c .before .enum-told .given .1) in
-    ready (a .p) k m (a .address .0) (a .p .B) none! .ranged
+    let s = c .before .before .before .before .before .before .before .before .before .before in
+    let p = s .args .p in
+    let k = disk s in
+    let m = memory s in
+    let a = s .args .address .0 in
+    let none! : refusal p k m a (p .B) ≡ none = sym (c .before .before .before .seek .ensures .0) ∙ ap refusedBy (c .before .sought2 .given .1) in
+    ready p k m a (p .B) none! .ranged
+
+returns : tie.Need-returns
+returns c =
+    let s = c .before .before .before .before .before .before .before .before .before .before in
+    let p = s .args .p in
+    let k = disk s in
+    let m = memory s in
+    let a = s .args .address .0 in
+    read-refused p k m a (c .before .sought .given .0 .0) (sym (c .before .before .before .seek .ensures .0) ∙ ap refusedBy (c .before .sought .given .1))
 
 returns-2 : tie.Need-returns-2
 returns-2 c =
-    let a = c .before .before .before .before .before .before .before .before .before .before .args in
-    let k : Disk = mkDisk (a .image .now) (a .pointers .now) in
-    let m : Memory = mkMemory (a .state) (a .addresses .now) (a .compact .now) (a .inflight .now) in
-    let none! : refusal (a .p) k m (a .address .0) (a .p .B) ≡ none = sym (c .before .before .before .before .checks .ensures) ∙ ap checked (c .before .before .enum-told .given .1) in
-    read-done (a .p) k m (a .address .0) (c .answer-of .result) none! (c .answer-of .ensures ∙ ap (readAnswer (a .p)) (c .before .lookup .ensures))
+    let s = c .before .before .before .before .before .before .before .before .before .before .before in
+    let p = s .args .p in
+    let k = disk s in
+    let m = memory s in
+    let a = s .args .address .0 in
+    let none! : refusal p k m a (p .B) ≡ none = sym (c .before .before .before .before .seek .ensures .0) ∙ ap refusedBy (c .before .before .sought2 .given .1) in
+    let e = subst (λ (x : Sought). liesAt x (found p k m a (p .B))) (c .before .before .sought2 .given .1) (c .before .before .before .before .seek .ensures .1) in
+    read-done p k m a (c .answer-of .result) none! (c .answer-of .ensures ∙ ap (readAnswer p) e)
 
 pub find-spec : {M : Type 1} → statement M
 find-spec =
     tie.close
     (tie.spec
-    checks-requires
-    enum-known-c
-    returns
-    enum-told
-    lookup-requires
+    seek-requires
+    enum-known-sought
+    enum-known-sought-2
     answer-of-requires
+    returns
     returns-2)

@@ -6,7 +6,7 @@ use Rattle.defs.specs.Drives.{Disk, mkDisk}
 use Rattle.defs.specs.Engine.{callDisk}
 use Rattle.defs.specs.Engine.Call.{read}
 use Rattle.defs.specs.Lists.{any, isMember}
-use Rattle.defs.specs.Memory.{mkMemory}
+use Rattle.defs.specs.Memory.{mkMemory, stateOf}
 use Rattle.defs.specs.declared.Answer.{Answer}
 use Rattle.defs.specs.declared.Answer.the-variants.{Refused, BadZone, Cut, Sent, Landed, Closed, Copied, Reset, Part, Never, Lost, Filled, Restarted, Rebuilt}
 use Rattle.defs.proofs.Answer.{the-type}
@@ -35,13 +35,13 @@ find-requires c κs = search needs
 enum-known-answer : tie.Need-enum-known-answer
 enum-known-answer c = search needs
 
-answered : (c : tie.After-find) → c .find .result ≡ callDisk (c .before .before .before .before .before .before .args .p) (mkDisk (c .before .before .before .before .before .before .args .image .now) (c .before .before .before .before .before .before .args .pointers .now)) (mkMemory (c .before .before .before .before .before .before .args .state) (c .before .before .before .before .before .before .args .addresses .now) (c .before .before .before .before .before .before .args .compact .now) (c .before .before .before .before .before .before .args .inflight .now)) (read (c .before .before .before .before .before .before .args .address .0)) .answer
+answered : (c : tie.After-find) → c .find .result ≡ callDisk (c .before .before .before .before .before .before .before .args .p) (mkDisk (c .before .before .before .before .before .before .before .args .image .now) (c .before .before .before .before .before .before .before .args .pointers .now)) (mkMemory (stateOf (c .before .before .before .before .before .before .before .args .state .now)) (c .before .before .before .before .before .before .before .args .addresses .now) (c .before .before .before .before .before .before .before .args .compact .now) (c .before .before .before .before .before .before .before .args .inflight .now)) (read (c .before .before .before .before .before .before .before .args .address .0)) .answer
 answered c = ap (λ (x : After Disk). x .answer) (c .find .ensures)
 
-within : (c : tie.After-answer) → c .answer .given .0 .0 + c .before .before .before .before .before .before .before .before .args .p .B ≤ length (c .before .before .before .before .before .before .before .before .args .image .now)
+within : (c : tie.After-answer) → c .answer .given .0 .0 + c .before .before .before .before .before .before .before .before .before .args .p .B ≤ length (c .before .before .before .before .before .before .before .before .before .args .image .now)
 within c =
-    let a = c .before .before .before .before .before .before .before .before .args in
-    part-within (a .p) (mkDisk (a .image .now) (a .pointers .now)) (mkMemory (a .state) (a .addresses .now) (a .compact .now) (a .inflight .now)) (a .address .0) (c .answer .given .0 .0)
+    let a = c .before .before .before .before .before .before .before .before .before .args in
+    part-within (a .p) (mkDisk (a .image .now) (a .pointers .now)) (mkMemory (stateOf (a .state .now)) (a .addresses .now) (a .compact .now) (a .inflight .now)) (a .address .0) (c .answer .given .0 .0)
     (sym (answered (c .before .before)) ∙ c .answer .given .1)
 
 add-e : tie.Need-add-e
@@ -58,7 +58,7 @@ part-result-end c = within (c .before .before)
 
 returns : tie.Need-returns
 returns c =
-    let a = c .before .before .before .before .before .before .before .before .before .before .before .args in
+    let a = c .before .before .before .before .before .before .before .before .before .before .before .before .args in
     let at = c .before .before .before .answer .given .0 .0 in
     let e = sym (answered (c .before .before .before .before .before)) ∙ c .before .before .before .answer .given .1 in
     let e₁ = ap partAt e ∙ part-here (a .p) at .0 in
@@ -106,7 +106,7 @@ no-part Rebuilt h = refl
 
 returns-2 : tie.Need-returns-2
 returns-2 c =
-    let a = c .before .before .before .before .before .before .before .before .args in
+    let a = c .before .before .before .before .before .before .before .before .before .args in
     let e = part-none (a .p) (c .before .before .find .result) (no-part (c .before .before .find .result) (c .before .match .keys2)) in
     let e₁ = e .0 ∙ ap partAt (answered (c .before .before)) in
     let e₂ = e .1 ∙ ap (partLen (a .p)) (answered (c .before .before)) in
