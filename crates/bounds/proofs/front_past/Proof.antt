@@ -25,7 +25,9 @@ wide32-requires : tie.Need-wide32-requires
 wide32-requires c κs = search needs
 
 power-requires : tie.Need-power-requires
-power-requires c κs = omega (arith, ranged (c .before .before .before .before .before .args .p) (c .before .before .before .before .before .pre .0) .drives-high)
+power-requires c κs =
+    let s = c .before .before .before .before .before in
+    omega (arith, ranged (s .args .p) (s .pre .0) .drives-high)
 
 past-requires : tie.Need-past-requires
 past-requires c κs = search needs
@@ -46,10 +48,14 @@ read-le32-requires : tie.Need-read-le32-requires
 read-le32-requires c κs = omega (arith, state-len, c .before .before .before .before .before .before .before .before .before .before .pre .1)
 
 cast-past-2 : tie.Need-cast-past-2
-cast-past-2 c = omega (arith, ranged (c .before .before .before .before .before .before .before .before .before .before .before .before .args .p) (c .before .before .before .before .before .before .before .before .before .before .before .before .pre .0) .zones-high)
+cast-past-2 c =
+    let s = c .before .before .before .before .before .before .before .before .before .before .before .before in
+    omega (arith, ranged (s .args .p) (s .pre .0) .zones-high)
 
 add-past : tie.Need-add-past
-add-past c = omega (arith, ranged (c .before .before .before .before .before .before .before .before .before .before .before .before .args .p) (c .before .before .before .before .before .before .before .before .before .before .before .before .pre .0) .zones-high)
+add-past c =
+    let s = c .before .before .before .before .before .before .before .before .before .before .before .before in
+    omega (arith, ranged (s .args .p) (s .pre .0) .zones-high)
 
 past-requires-3 : tie.Need-past-requires-3
 past-requires-3 c κs = search needs
@@ -58,10 +64,14 @@ read-le32-requires-2 : tie.Need-read-le32-requires-2
 read-le32-requires-2 c κs = omega (arith, state-len, c .before .before .before .before .before .before .before .before .before .before .before .before .before .pre .1)
 
 cast-past-3 : tie.Need-cast-past-3
-cast-past-3 c = omega (arith, ranged (c .before .before .before .before .before .before .before .before .before .before .before .before .before .before .before .args .p) (c .before .before .before .before .before .before .before .before .before .before .before .before .before .before .before .pre .0) .stripes-high)
+cast-past-3 c =
+    let s = c .before .before .before .before .before .before .before .before .before .before .before .before .before .before .before in
+    omega (arith, ranged (s .args .p) (s .pre .0) .stripes-high)
 
 add-past-2 : tie.Need-add-past-2
-add-past-2 c = omega (arith, ranged (c .before .before .before .before .before .before .before .before .before .before .before .before .before .before .before .args .p) (c .before .before .before .before .before .before .before .before .before .before .before .before .before .before .before .pre .0) .stripes-high)
+add-past-2 c =
+    let s = c .before .before .before .before .before .before .before .before .before .before .before .before .before .before .before in
+    omega (arith, ranged (s .args .p) (s .pre .0) .stripes-high)
 
 past-requires-4 : tie.Need-past-requires-4
 past-requires-4 c κs = search needs

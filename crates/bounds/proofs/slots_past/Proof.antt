@@ -10,28 +10,38 @@ use Rattle.bounds.proofs.slots_past.Statement.{statement}
 use Rattle.bounds.proofs.slots_past.Tie as tie
 
 cast-words-past : tie.Need-cast-words-past
-cast-words-past c = let r = ranged (c .before .before .args .p) (c .before .before .pre .0) in omega (arith, r .stripes-high)
+cast-words-past c =
+    let s = c .before .before in
+    omega (arith, ranged (s .args .p) (s .pre .0) .stripes-high)
 
 words-past-requires : tie.Need-words-past-requires
 words-past-requires c κs = (omega (arith, state-len, c .before .before .pre .1), omega arith)
 
 cast-bytes-past : tie.Need-cast-bytes-past
-cast-bytes-past c = let r = ranged (c .before .before .before .before .args .p) (c .before .before .before .before .pre .0) in omega (arith, r .drives-high)
+cast-bytes-past c =
+    let s = c .before .before .before .before in
+    omega (arith, ranged (s .args .p) (s .pre .0) .drives-high)
 
 bytes-past-requires : tie.Need-bytes-past-requires
 bytes-past-requires c κs = omega (arith, state-len, c .before .before .before .before .pre .1)
 
 sub-power : tie.Need-sub-power
-sub-power c = let r = ranged (c .before .before .before .before .before .before .args .p) (c .before .before .before .before .before .before .pre .0) in omega (arith, r .drives-low)
+sub-power c =
+    let s = c .before .before .before .before .before .before in
+    omega (arith, ranged (s .args .p) (s .pre .0) .drives-low)
 
 power-requires : tie.Need-power-requires
-power-requires c κs = let r = ranged (c .before .before .before .before .before .before .args .p) (c .before .before .before .before .before .before .pre .0) in omega (arith, r .drives-high)
+power-requires c κs =
+    let s = c .before .before .before .before .before .before in
+    omega (arith, ranged (s .args .p) (s .pre .0) .drives-high)
 
 bytes-past-requires-2 : tie.Need-bytes-past-requires-2
 bytes-past-requires-2 c κs = omega (arith, state-len, c .before .before .before .before .before .before .before .pre .1)
 
 power-requires-2 : tie.Need-power-requires-2
-power-requires-2 c κs = let r = ranged (c .before .before .before .before .before .before .before .before .args .p) (c .before .before .before .before .before .before .before .before .pre .0) in omega (arith, r .drives-high)
+power-requires-2 c κs =
+    let s = c .before .before .before .before .before .before .before .before in
+    omega (arith, ranged (s .args .p) (s .pre .0) .drives-high)
 
 bytes-past-requires-3 : tie.Need-bytes-past-requires-3
 bytes-past-requires-3 c κs = omega (arith, state-len, c .before .before .before .before .before .before .before .before .before .pre .1)

@@ -61,19 +61,21 @@ same-length c = search needs
 
 returns-2 : tie.Need-returns-2
 returns-2 c =
-    let s = c .before .before .before .before .before .before .before .before .before .before .before .before .before .before .before .before in
+    let filled = c .before .before in
+    let told = filled .before .before .before .before in
+    let sought = told .before .before in
+    let s = sought .before .before .before .before .before .before .before .before in
     let p = s .args .p in
     let k = disk s in
     let m = memory s in
     let a = s .args .address .0 in
     let b = s .args .block .now in
     let n = length b in
-    let none! : refusal p k m a n ≡ none = sym (c .before .before .before .before .before .before .before .before .seek .ensures .0) ∙ ap refusedBy (c .before .before .before .before .before .before .sought2 .given .1) in
+    let none! : refusal p k m a n ≡ none = sym (sought .seek .ensures .0) ∙ ap refusedBy (told .sought2 .given .1) in
     let v = viewOf p (k .image) (k .pointers) in
-    let g = c .before .before .before .before .missing .ensures in
-    let e = subst (λ (x : Sought). liesAt x (found p k m a n)) (c .before .before .before .before .before .before .sought2 .given .1) (c .before .before .before .before .before .before .before .before .seek .ensures .1) in
-    fill-done p k m a b (c .before .before .fill-found .result) _ none!
-    (c .before .before .fill-found .ensures ∙ λ j. filling p v (g j) (m .compact) (e j) b)
+    let g = filled .before .before .missing .ensures in
+    let e = subst (λ (x : Sought). liesAt x (found p k m a n)) (told .sought2 .given .1) (sought .seek .ensures .1) in
+    fill-done p k m a b (filled .fill-found .result) _ none! (filled .fill-found .ensures ∙ λ j. filling p v (g j) (m .compact) (e j) b)
 
 pub fill-spec : {M : Type 1} → statement M
 fill-spec =

@@ -30,13 +30,15 @@ in-range-requires c κs = search needs
 
 returns : tie.Need-returns
 returns c =
-    let s = c .before .before .before .before .before .before .before .before in
+    let one = c in
+    let range = one .before in
+    let s = range .before .before .before .before .before .before .before in
     let p = s .args .p in
     let k = disk s in
     let m = memory s in
     let a = s .args .address .0 in
     let n = s .args .len in
-    let er : inRange p ≡ false = sym (c .before .in-range .ensures) ∙ not-true (c .before .in-range .result) (c .if1 .taken) in
+    let er : inRange p ≡ false = sym (range .in-range .ensures) ∙ not-true (range .in-range .result) (one .if1 .taken) in
     (range-fails p k m a n er, tt)
 
 lent-ok-requires : tie.Need-lent-ok-requires
@@ -44,89 +46,142 @@ lent-ok-requires c κs = sym (c .before .in-range .ensures) ∙ not-false (c .be
 
 returns-2 : tie.Need-returns-2
 returns-2 c =
-    let s = c .before .before .before .before .before .before .before .before .before .before in
+    let two = c in
+    let lent = two .before in
+    let one = lent .before in
+    let range = one .before in
+    let s = range .before .before .before .before .before .before .before in
     let p = s .args .p in
     let k = disk s in
     let m = memory s in
     let a = s .args .address .0 in
     let n = s .args .len in
-    let er : inRange p ≡ true = sym (c .before .before .before .in-range .ensures) ∙ not-false (c .before .before .before .in-range .result) (c .before .before .if1 .left) in
-    let el : lentOk p k m ≡ false = sym (c .before .lent-ok .ensures (m .state)) ∙ not-true (c .before .lent-ok .result) (c .if2 .taken) in
+    let er : inRange p ≡ true = sym (range .in-range .ensures) ∙ not-false (range .in-range .result) (one .if1 .left) in
+    let el : lentOk p k m ≡ false = sym (lent .lent-ok .ensures (m .state)) ∙ not-true (lent .lent-ok .result) (two .if2 .taken) in
     (lengths-fail p k m a n el ∙ range-passes p k m a n er, tt)
 
 returns-3 : tie.Need-returns-3
 returns-3 c =
-    let s = c .before .before .before .before .before .before .before .before .before .before .before .before in
+    let three = c in
+    let two = three .before .before in
+    let lent = two .before in
+    let one = lent .before in
+    let range = one .before in
+    let s = range .before .before .before .before .before .before .before in
     let p = s .args .p in
     let k = disk s in
     let m = memory s in
     let a = s .args .address .0 in
     let n = s .args .len in
-    let er : inRange p ≡ true = sym (c .before .before .before .before .before .in-range .ensures) ∙ not-false (c .before .before .before .before .before .in-range .result) (c .before .before .before .before .if1 .left) in
-    let el : lentOk p k m ≡ true = sym (c .before .before .before .lent-ok .ensures (m .state)) ∙ not-false (c .before .before .before .lent-ok .result) (c .before .before .if2 .left) in
-    (block-fails p k m a n el (c .if3 .taken) ∙ range-passes p k m a n er, tt)
+    let er : inRange p ≡ true = sym (range .in-range .ensures) ∙ not-false (range .in-range .result) (one .if1 .left) in
+    let el : lentOk p k m ≡ true = sym (lent .lent-ok .ensures (m .state)) ∙ not-false (lent .lent-ok .result) (two .if2 .left) in
+    (block-fails p k m a n el (three .if3 .taken) ∙ range-passes p k m a n er, tt)
 
 returns-4 : tie.Need-returns-4
 returns-4 c =
-    let s = c .before .before .before .before .before .before .before .before .before .before .before .before .before .before in
+    let four = c in
+    let three = four .before .before in
+    let two = three .before .before in
+    let lent = two .before in
+    let one = lent .before in
+    let range = one .before in
+    let s = range .before .before .before .before .before .before .before in
     let p = s .args .p in
     let k = disk s in
     let m = memory s in
     let a = s .args .address .0 in
     let n = s .args .len in
-    let er : inRange p ≡ true = sym (c .before .before .before .before .before .before .before .in-range .ensures) ∙ not-false (c .before .before .before .before .before .before .before .in-range .result) (c .before .before .before .before .before .before .if1 .left) in
-    let el : lentOk p k m ≡ true = sym (c .before .before .before .before .before .lent-ok .ensures (m .state)) ∙ not-false (c .before .before .before .before .before .lent-ok .result) (c .before .before .before .before .if2 .left) in
-    (address-fails p k m a n (omega (arith, c .if4 .taken)) ∙ lengths-pass p k m a n el (c .before .before .if3 .left) ∙ range-passes p k m a n er, tt)
+    let er : inRange p ≡ true = sym (range .in-range .ensures) ∙ not-false (range .in-range .result) (one .if1 .left) in
+    let el : lentOk p k m ≡ true = sym (lent .lent-ok .ensures (m .state)) ∙ not-false (lent .lent-ok .result) (two .if2 .left) in
+    (address-fails p k m a n (omega (arith, four .if4 .taken)) ∙ lengths-pass p k m a n el (three .if3 .left) ∙ range-passes p k m a n er, tt)
 
 state-ok-requires : tie.Need-state-ok-requires
 state-ok-requires c κs =
-    let s = c .before .before .before .before .before .before .before .before .before .before .before .before .before .before in
+    let four = c in
+    let three = four .before .before in
+    let two = three .before .before in
+    let lent = two .before in
+    let one = lent .before in
+    let range = one .before in
+    let s = range .before .before .before .before .before .before .before in
     let p = s .args .p in
-    let k = disk s in
-    let m = memory s in
-    let a = s .args .address .0 in
-    let n = s .args .len in
-    let er : inRange p ≡ true = sym (c .before .before .before .before .before .before .before .in-range .ensures) ∙ not-false (c .before .before .before .before .before .before .before .in-range .result) (c .before .before .before .before .before .before .if1 .left) in
+    let er : inRange p ≡ true = sym (range .in-range .ensures) ∙ not-false (range .in-range .result) (one .if1 .left) in
     (er, s .pre)
 
 returns-5 : tie.Need-returns-5
 returns-5 c =
-    let s = c .before .before .before .before .before .before .before .before .before .before .before .before .before .before .before .before in
+    let five = c in
+    let state = five .before in
+    let four = state .before in
+    let three = four .before .before in
+    let two = three .before .before in
+    let lent = two .before in
+    let one = lent .before in
+    let range = one .before in
+    let s = range .before .before .before .before .before .before .before in
     let p = s .args .p in
     let k = disk s in
     let m = memory s in
     let a = s .args .address .0 in
     let n = s .args .len in
-    let er : inRange p ≡ true = sym (c .before .before .before .before .before .before .before .before .before .in-range .ensures) ∙ not-false (c .before .before .before .before .before .before .before .before .before .in-range .result) (c .before .before .before .before .before .before .before .before .if1 .left) in
-    let el : lentOk p k m ≡ true = sym (c .before .before .before .before .before .before .before .lent-ok .ensures (m .state)) ∙ not-false (c .before .before .before .before .before .before .before .lent-ok .result) (c .before .before .before .before .before .before .if2 .left) in
-    let es : stateOk p (m .state) ≡ false = sym (c .before .state-ok .ensures) ∙ not-true (c .before .state-ok .result) (c .if5 .taken) in
-    (state-fails p k m a n es ∙ address-passes p k m a n (omega (arith, c .before .before .if4 .left)) ∙ lengths-pass p k m a n el (c .before .before .before .before .if3 .left) ∙ range-passes p k m a n er, tt)
+    let er : inRange p ≡ true = sym (range .in-range .ensures) ∙ not-false (range .in-range .result) (one .if1 .left) in
+    let el : lentOk p k m ≡ true = sym (lent .lent-ok .ensures (m .state)) ∙ not-false (lent .lent-ok .result) (two .if2 .left) in
+    let es : stateOk p (m .state) ≡ false = sym (state .state-ok .ensures) ∙ not-true (state .state-ok .result) (five .if5 .taken) in (
+      state-fails p k m a n es ∙ address-passes p k m a n (omega (arith, four .if4 .left))
+          ∙ lengths-pass p k m a n el (three .if3 .left) ∙ range-passes p k m a n er,
+      tt,
+    )
 
 missing-requires : tie.Need-missing-requires
-missing-requires c κs = c .before .before .before .before .before .before .before .before .before .before .before .before .before .before .before .before .pre
+missing-requires c κs =
+    let five = c in
+    let state = five .before in
+    let four = state .before in
+    let three = four .before .before in
+    let two = three .before .before in
+    let lent = two .before in
+    let one = lent .before in
+    let range = one .before in
+    let s = range .before .before .before .before .before .before .before in
+    s .pre
 
 lookup-requires : tie.Need-lookup-requires
 lookup-requires c κs =
-    let s = c .before .before .before .before .before .before .before .before .before .before .before .before .before .before .before .before .before in
+    let gone = c in
+    let five = gone .before in
+    let state = five .before in
+    let four = state .before in
+    let three = four .before .before in
+    let two = three .before .before in
+    let lent = two .before in
+    let one = lent .before in
+    let range = one .before in
+    let s = range .before .before .before .before .before .before .before in
     let p = s .args .p in
     let k = disk s in
     let m = memory s in
-    let a = s .args .address .0 in
-    let n = s .args .len in
-    let er : inRange p ≡ true = sym (c .before .before .before .before .before .before .before .before .before .before .in-range .ensures) ∙ not-false (c .before .before .before .before .before .before .before .before .before .before .in-range .result) (c .before .before .before .before .before .before .before .before .before .if1 .left) in
-    let el : lentOk p k m ≡ true = sym (c .before .before .before .before .before .before .before .before .lent-ok .ensures (m .state)) ∙ not-false (c .before .before .before .before .before .before .before .before .lent-ok .result) (c .before .before .before .before .before .before .before .if2 .left) in
-    (er, (lent-long p k m el .2, omega (arith, c .before .before .before .if4 .left)))
+    let er : inRange p ≡ true = sym (range .in-range .ensures) ∙ not-false (range .in-range .result) (one .if1 .left) in
+    let el : lentOk p k m ≡ true = sym (lent .lent-ok .ensures (m .state)) ∙ not-false (lent .lent-ok .result) (two .if2 .left) in
+    (er, (lent-long p k m el .2, omega (arith, four .if4 .left)))
 
 found-fault-requires : tie.Need-found-fault-requires
 found-fault-requires c κs =
-    let s = c .before .before .before .before .before .before .before .before .before .before .before .before .before .before .before .before .before .before in
+    let looked = c in
+    let gone = looked .before in
+    let five = gone .before in
+    let state = five .before in
+    let four = state .before in
+    let three = four .before .before in
+    let two = three .before .before in
+    let lent = two .before in
+    let one = lent .before in
+    let range = one .before in
+    let s = range .before .before .before .before .before .before .before in
     let p = s .args .p in
     let k = disk s in
     let m = memory s in
-    let a = s .args .address .0 in
-    let n = s .args .len in
-    let er : inRange p ≡ true = sym (c .before .before .before .before .before .before .before .before .before .before .before .in-range .ensures) ∙ not-false (c .before .before .before .before .before .before .before .before .before .before .before .in-range .result) (c .before .before .before .before .before .before .before .before .before .before .if1 .left) in
-    let el : lentOk p k m ≡ true = sym (c .before .before .before .before .before .before .before .before .before .lent-ok .ensures (m .state)) ∙ not-false (c .before .before .before .before .before .before .before .before .before .lent-ok .result) (c .before .before .before .before .before .before .before .before .if2 .left) in
+    let er : inRange p ≡ true = sym (range .in-range .ensures) ∙ not-false (range .in-range .result) (one .if1 .left) in
+    let el : lentOk p k m ≡ true = sym (lent .lent-ok .ensures (m .state)) ∙ not-false (lent .lent-ok .result) (two .if2 .left) in
     (er, lent-long p k m el .1)
 
 judged-requires : tie.Need-judged-requires
@@ -134,23 +189,35 @@ judged-requires c κs = search needs
 
 returns-6 : tie.Need-returns-6
 returns-6 c =
-    let s = c .before .before .before .before .before .before .before .before .before .before .before .before .before .before .before .before .before .before .before .before in
+    let zone = c .before in
+    let looked = zone .before in
+    let gone = looked .before in
+    let five = gone .before in
+    let state = five .before in
+    let four = state .before in
+    let three = four .before .before in
+    let two = three .before .before in
+    let lent = two .before in
+    let one = lent .before in
+    let range = one .before in
+    let s = range .before .before .before .before .before .before .before in
     let p = s .args .p in
     let k = disk s in
     let m = memory s in
     let a = s .args .address .0 in
     let n = s .args .len in
-    let er : inRange p ≡ true = sym (c .before .before .before .before .before .before .before .before .before .before .before .before .before .in-range .ensures) ∙ not-false (c .before .before .before .before .before .before .before .before .before .before .before .before .before .in-range .result) (c .before .before .before .before .before .before .before .before .before .before .before .before .if1 .left) in
-    let el : lentOk p k m ≡ true = sym (c .before .before .before .before .before .before .before .before .before .before .before .lent-ok .ensures (m .state)) ∙ not-false (c .before .before .before .before .before .before .before .before .before .before .before .lent-ok .result) (c .before .before .before .before .before .before .before .before .before .before .if2 .left) in
-    let es : stateOk p (m .state) ≡ true = sym (c .before .before .before .before .before .state-ok .ensures) ∙ not-false (c .before .before .before .before .before .state-ok .result) (c .before .before .before .before .if5 .left) in
-    let z = c .before .found-fault .result in
+    let er : inRange p ≡ true = sym (range .in-range .ensures) ∙ not-false (range .in-range .result) (one .if1 .left) in
+    let el : lentOk p k m ≡ true = sym (lent .lent-ok .ensures (m .state)) ∙ not-false (lent .lent-ok .result) (two .if2 .left) in
+    let es : stateOk p (m .state) ≡ true = sym (state .state-ok .ensures) ∙ not-false (state .state-ok .result) (five .if5 .left) in
+    let z = zone .found-fault .result in
     let v = viewOf p (k .image) (k .pointers) in
-    let g : c .before .before .before .missing .result ≡ m .state .missing = c .before .before .before .missing .ensures in
-    let e : foundOf (c .before .before .lookup .result) ≡ found p k m a n = c .before .before .lookup .ensures ∙ ap (λ (x : ℕ). lookup p x (m .addresses) a) g in
+    let g : gone .missing .result ≡ m .state .missing = gone .missing .ensures in
+    let e : foundOf (looked .lookup .result) ≡ found p k m a n = looked .lookup .ensures ∙ ap (λ (x : ℕ). lookup p x (m .addresses) a) g in
     let ef : foundFaults p v (m .state .missing) (found p k m a n) ≡ consIf (ltb z (p .Z)) z [] =
-    (λ j. foundFaults p v (sym g j) (sym e j)) ∙ c .before .found-fault .ensures (k .image) (lent-long p k m el .0) in (
+    (λ j. foundFaults p v (sym g j) (sym e j)) ∙ zone .found-fault .ensures (k .image) (lent-long p k m el .0) in (
       c .judged .ensures .0 ∙ state-passes p k m a n es (consIf (ltb z (p .Z)) z []) ef
-          ∙ address-passes p k m a n (omega (arith, c .before .before .before .before .before .before .if4 .left)) ∙ lengths-pass p k m a n el (c .before .before .before .before .before .before .before .before .if3 .left) ∙ range-passes p k m a n er,
+          ∙ address-passes p k m a n (omega (arith, four .if4 .left)) ∙ lengths-pass p k m a n el (three .if3 .left)
+          ∙ range-passes p k m a n er,
       subst (liesAt (c .judged .result)) e (c .judged .ensures .1),
     )
 
