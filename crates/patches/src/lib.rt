@@ -1,1 +1,0 @@
-// Laws of the state's bytes with some numbers set (specs/): the changes that the calls make, as splices. There is no code here.
