@@ -229,21 +229,20 @@ pub fn xor_into(dst: &mut [u8], src: &[u8])
     xor_part(dst, 0, src);
 }
 
-// Whether a and b are equal.
+// Whether a and b are equal. All bytes are looked at, without a branch, so that many are compared at once.
 pub fn same(a: &[u8], b: &[u8]) -> bool
     ensures { λ r. ⌜ r ≡ sameList (now (a .entry)) (now (b .entry)) ⌝ }
 {
     if a.len() != b.len() {
         return false;
     }
+    let mut off = 0u8;
     let mut i = 0;
     while i < a.len() {
-        if a[i] != b[i] {
-            return false;
-        }
+        off = off | (a[i] ^ b[i]);
         i += 1;
     }
-    true
+    off == 0
 }
 
 // Whether a is all zeros.

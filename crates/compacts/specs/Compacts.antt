@@ -2,8 +2,8 @@
 use mathlib.Core.Path.{_≡_, refl, sym, ap, ap₂, _∙_}
 use mathlib.Core.List.{List, [], _++_, map}
 use mathlib.Core.Bool.{Bool, true, false, cond}
-use Prim.Native.Nat.{ℕ, _+_, _-_, _*_, _≤_, _<_}
-use native.Mathlib.Nat.{add-zero, zero-add, mul-assoc, add-mul, sub-zero}
+use Prim.Native.Nat.{ℕ, _+_, _-_, _*_, _/_, _%_, _≤_, _<_}
+use native.Mathlib.Nat.{add-zero, zero-add, one-mul, mul-assoc, add-mul, sub-zero, div-add-mod', zero-mod, mod-eq-of-lt, add-mul-mod-self-right, mul-add-mod-self-right}
 use native.Mathlib.Omega.{arith}
 use lib.ListN.{length, set, replicate, length-replicate, length-map}
 use lib.Arith.{digits-lt}
@@ -167,3 +167,17 @@ row-both l l′ l″ at n m s h k e f =
     let z : List ℕ = replicate m 0 in
     let b : length z ≡ m = length-replicate m 0 in
     f ∙ ap₂ (λ (x : List ℕ) (a : ℕ). splice x (at + a) z) e (sym k) ∙ splice-next l at s z (omega arith)
+
+-- ---- the entry of a stripe near the first stripe of a group
+
+pub zero-base : (g : ℕ) → 0 % g ≡ 0
+zero-base g = zero-mod g
+
+pub next-base : (g b : ℕ) → b % g ≡ 0 → (b + g) % g ≡ 0
+next-base g b e = ap (λ (x : ℕ). (b + x) % g) (sym (one-mul g)) ∙ add-mul-mod-self-right b 1 g ∙ e
+
+pub near : (p : Params) (b k s : ℕ) → 0 < p .G → b % p .G ≡ 0 → k < p .G → b + k ≡ s → k ≡ compactEntry p s
+unfolding compactEntry
+near p b k s h e l q =
+    let d : b / p .G * p .G ≡ b = sym (add-zero (b / p .G * p .G)) ∙ ap (λ (x : ℕ). b / p .G * p .G + x) (sym e) ∙ div-add-mod' b (p .G) in
+    sym (ap (λ (x : ℕ). x % p .G) (sym q ∙ ap (λ (x : ℕ). x + k) (sym d)) ∙ mul-add-mod-self-right (b / p .G) (p .G) k ∙ mod-eq-of-lt l)

@@ -2,10 +2,11 @@
 ghost use mathlib.Core.Path.{_≡_};
 ghost use mathlib.Core.Bool.{Bool, true};
 ghost use mathlib.Core.List.{List, map};
-ghost use Prim.Native.Nat.{ℕ, _+_, _≤_, _<_};
+ghost use Prim.Native.Nat.{ℕ, _+_, _%_, _≤_, _<_};
 ghost use lib.ListN.{length};
 ghost use Rattle.defs.specs.Bytes.{splice};
 ghost use Rattle.defs.specs.Drives.{viewOf, mkDisk, zoneAt, recordIn};
+ghost use Rattle.defs.specs.Layout.{compactEntry};
 ghost use Rattle.defs.specs.Lists.{below, flat};
 ghost use Rattle.defs.specs.Memory.{compactAt};
 ghost use Rattle.defs.specs.Params.{inRange, imageLen, pointersLen, compactLen};
@@ -14,6 +15,34 @@ ghost use Rattle.remains.specs.Remains.{Keeps};
 ghost use Rattle.views.specs.Views.{Whole};
 ghost use Rattle.compacts.specs.Compacts.{entryOf, rowBytes, driveSaid};
 use defs::Params;
+
+// The first stripe of a group at or behind base, still at or below offset o.
+fn base_at(p: Params, base: usize, o: usize) -> usize
+    requires { ⌜ inRange p ≡ true ⌝ }
+    requires { ⌜ (base ≤ o) × (o < p .S) × (base % p .G ≡ 0) ⌝ }
+    ensures { λ r. ⌜ (r ≤ o) × (r % p .G ≡ 0) ⌝ }
+{
+    if o - base < p.G {
+        return base;
+    }
+    base + p.G
+}
+
+// What the table holds of a stripe, which mostly is of the group from base on: then nothing is divided.
+fn entry_near(p: Params, base: usize, s: usize) -> u8
+    requires { ⌜ inRange p ≡ true ⌝ }
+    requires { ⌜ base % p .G ≡ 0 ⌝ }
+    ensures { λ r. ⌜ r ≡ compactEntry p s ⌝ }
+{
+    if s < base {
+        return shape::compact_entry(p, s);
+    }
+    let k = s - base;
+    if k < p.G {
+        return k as u8;
+    }
+    shape::compact_entry(p, s)
+}
 
 // The entries of the first n data blocks of a zone, from index row of the table on.
 fn entries(
@@ -30,10 +59,12 @@ fn entries(
     requires { ⌜ (length (now image) ≡ imageLen p) × (drive < p .N) × (zone < p .Z) × (n ≤ p .S) × (row + p .S ≤ length (now compact)) ⌝ }
     ensures { λ _. ⌜ ((ps : List ℕ) → length ps ≡ pointersLen p → now (compact .exit) ≡ splice (now (compact .entry)) row (map (entryOf p full (zoneAt (viewOf p (now (image .entry)) ps) drive zone)) (below n))) ⌝ }
 {
+    let mut base = 0;
     let mut o = 0;
     while o < n {
         let r = stored::record_in(p, image, full, drive, zone, o);
-        compact[row + o] = shape::compact_entry(p, r.stripe as usize);
+        base = base_at(p, base, o);
+        compact[row + o] = entry_near(p, base, r.stripe as usize);
         o += 1;
     }
 }

@@ -7,7 +7,7 @@ ghost use lib.Bits.{bitXor};
 ghost use lib.Dec.{leb, ltb, eqb};
 ghost use lib.ListN.{length, getD, set, replicate};
 ghost use Rattle.defs.specs.Bytes.{xors};
-ghost use Rattle.defs.specs.Drives.{viewOf, mkDisk, sealedIn};
+ghost use Rattle.defs.specs.Drives.{viewOf, mkDisk, sealedIn, zoneAt, recordIn};
 ghost use Rattle.defs.specs.Faults.{badRec, storedBad};
 ghost use Rattle.defs.specs.Layout.{Rec};
 ghost use Rattle.defs.specs.declared.Params.{Params};
@@ -57,21 +57,21 @@ pub fn bad_rec(p: Params, r: Record) -> bool
     r.address.0 != Address::PADDING.0
 }
 
-// 01, Refusals, 9: such an address, stored.
+// 01, Refusals, 9: such an address, stored. Whether it is data is asked last: that divides.
 pub fn stored_bad(p: Params, drive: usize, r: Record) -> bool
     requires { ⌜ inRange p ≡ true ⌝ }
     ensures { λ b. ⌜ b ≡ storedBad p drive (recVal r) ⌝ }
 {
-    if !shape::is_data(p, r.stripe as usize, drive) {
+    if !bad_rec(p, r) {
         return false;
     }
-    bad_rec(p, r)
+    shape::is_data(p, r.stripe as usize, drive)
 }
 
 // ---- the index of a group
 
 // Clears a drive's row.
-fn clear_row(p: Params, at: &mut [u16], drive: usize)
+pub fn clear_row(p: Params, at: &mut [u16], drive: usize)
     requires { ⌜ inRange p ≡ true ⌝ }
     requires { ⌜ (length (now at) ≡ 2048) × (drive < p .N) ⌝ }
     ensures { λ _. ⌜ ((k : ℕ) → k < p .G → getD (now (at .exit)) (256 * drive + k) 0 ≡ 0) ⌝ }
@@ -108,7 +108,7 @@ fn enter(p: Params, at: &mut [u16], drive: usize, base: usize, s: usize, v: usiz
 }
 
 // How many data blocks of the group lie below the drive's pointer.
-fn group_stored(p: Params, pointers: &[u8], w: Group, drive: usize) -> usize
+pub fn group_stored(p: Params, pointers: &[u8], w: Group, drive: usize) -> usize
     requires { ⌜ inRange p ≡ true ⌝ }
     requires { ⌜ (length (now pointers) ≡ pointersLen p) × (drive < p .N) × (w .seg < p .Z) × (w .base < p .S) ⌝ }
     ensures { λ r. ⌜ ((im : List ℕ) → length im ≡ imageLen p → isIn (w .gone) drive ≡ false → r ≡ length (groupRecs p (w .base) (recsOn (segmentIn p im (now (pointers .entry)) w) drive))) ⌝ }
@@ -124,6 +124,25 @@ fn group_stored(p: Params, pointers: &[u8], w: Group, drive: usize) -> usize
         return len;
     }
     m
+}
+
+// The record at a data offset, as stored::record_in has it, for the one loop below: what is the same for all records of a zone is worked out
+// before the loop.
+fn record_of(
+    p: Params,
+    image: &[u8],
+    full: bool,
+    drive: usize,
+    zone: usize,
+    offset: usize,
+) -> Record
+    requires { ⌜ inRange p ≡ true ⌝ }
+    requires { ⌜ (length (now image) ≡ imageLen p) × (drive < p .N) × (zone < p .Z) × (offset < p .S) ⌝ }
+    ensures { λ r. ⌜ ((ps : List ℕ) → length ps ≡ pointersLen p → recVal r ≡ recordIn p full (zoneAt (viewOf p (now (image .entry)) ps) drive zone) offset) ⌝ }
+{
+    let at = stored::record_byte(p, full, drive, zone, offset);
+    let end = at + 20;
+    records::read_record(&image[at..end])
 }
 
 // The index of one present drive, whose row is clear. False where a record is outside its group, twice, or has a bad data address.
@@ -149,7 +168,7 @@ fn index_drive(
     let zone = shape::zone_on(w.seg, drive);
     let mut i = 0;
     while i < n {
-        let r = stored::record_in(p, image, w.full, drive, zone, base + i);
+        let r = record_of(p, image, w.full, drive, zone, base + i);
         if stored_bad(p, drive, r) {
             return false;
         }

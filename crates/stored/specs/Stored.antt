@@ -4,7 +4,7 @@ use mathlib.Core.List.{List, []}
 use mathlib.Core.Bool.{Bool, true, false}
 use Prim.Native.Nat.{ℕ, _+_, _-_, _*_, _/_, _%_, min, _≤_, _<_}
 use native.Mathlib.Omega.{arith}
-use native.Mathlib.Nat.{mod-lt, mul-comm, div-add-mod', div-lt-iff-lt-mul}
+use native.Mathlib.Nat.{add-assoc, add-mul, div-one, div-le-self, mod-one, mod-le, mod-lt, mul-comm, div-add-mod', div-lt-iff-lt-mul}
 use lib.ListN.{length, getD, drop, length-drop}
 use lib.Seq.{getD-drop}
 use Rattle.defs.specs.Bytes.{part}
@@ -13,7 +13,7 @@ use Rattle.defs.specs.Faults.{footersStored}
 use Rattle.defs.specs.Layout.{recordOf, footerRecord}
 use Rattle.defs.specs.Params.{spareLen, perFooter, footers, capacity, unitLen, imageLen, pointersLen, placeOf, placeByte}
 use Rattle.defs.specs.declared.Params.{Params}
-use Rattle.laws.specs.Geometry.{Ranged, prod-le, spare-len, per-footer-low, per-footer-high, per-footer-fits, footers-high, capacity-high, image-high, zones-all, data-below, item, block-within, zone-index-lt}
+use Rattle.laws.specs.Geometry.{Ranged, prod-le, spare-len, per-footer-low, per-footer-high, per-footer-fits, footers-low, footers-high, capacity-high, image-high, zones-all, data-below, item, block-within, zone-index-lt}
 use Rattle.laws.specs.Ranges.{getD-map}
 use Rattle.laws.specs.Splice.{part-part}
 use Rattle.views.specs.Views.{Whole, pointer-view, blocks-long, block-view, spare-view}
@@ -22,6 +22,16 @@ use Rattle.views.specs.Views.{Whole, pointer-view, blocks-long, block-view, spa
 unfoldable pub recordByte : Params → Bool → ℕ → ℕ → ℕ → ℕ
 recordByte p true d z o = placeByte p (placeOf p d z (1 + p .S + o / perFooter p)) + spareLen * (o % perFooter p)
 recordByte p false d z o = placeByte p (placeOf p d z (1 + o)) + p .B
+
+-- the byte of the record at data offset 0
+unfoldable pub firstByte : Params → Bool → ℕ → ℕ → ℕ
+firstByte p true d z = placeByte p (placeOf p d z (1 + p .S))
+firstByte p false d z = placeByte p (placeOf p d z 1) + p .B
+
+-- how many records lie side by side before the next block: those of a footer block, or the one in a spare
+unfoldable pub together : Params → Bool → ℕ
+together p true = perFooter p
+together p false = 1
 
 -- ---- the byte at which block b begins, from the records k of a footer block: the numbers on the way, and their bounds
 
@@ -71,6 +81,10 @@ module _ (p : Params) (r : Ranged p) where
   unfolding capacity
   footer-block-below o l = omega (arith, footer-of o l)
 
+  pub first-foot-below : 1 + p .S < capacity p
+  unfolding capacity
+  first-foot-below = omega (arith, footers-low p r)
+
   pub record-fits : (o : ℕ) → spareLen * (o % perFooter p) + spareLen ≤ p .B
   record-fits o =
       let q : o % perFooter p < perFooter p = mod-lt o (omega (arith, per-footer-low p r)) in
@@ -88,6 +102,49 @@ module _ (p : Params) (r : Ranged p) where
   record-within false d z o hd hz ho =
       let b : 1 + o < capacity p = data-below p r (1 + o) (omega arith) in
       omega (arith, block-within p d z (1 + o) hd hz b, spare-len)
+
+  -- the same from the first record's, by quotient and remainder
+  farther : (d z b k : ℕ) → placeByte p (placeOf p d z (b + k)) ≡ placeByte p (placeOf p d z b) + k * (p .B + 20)
+  unfolding placeByte placeOf unitLen
+  farther d z b k =
+      ap (λ (x : ℕ). x * (p .B + spareLen)) (sym (add-assoc ((d * p .Z + z) * capacity p) b k))
+      ∙ add-mul ((d * p .Z + z) * capacity p + b) k (p .B + spareLen)
+      ∙ ap (λ (x : ℕ). ((d * p .Z + z) * capacity p + b) * (p .B + spareLen) + k * (p .B + x)) spare-len
+
+  pub together-some : (f : Bool) → 1 ≤ together p f
+  unfolding together
+  together-some true = omega (arith, per-footer-low p r)
+  together-some false = omega arith
+
+  pub record-from : (f : Bool) (d z o : ℕ) → firstByte p f d z + o / together p f * (p .B + 20) + 20 * (o % together p f) ≡ recordByte p f d z o
+  unfolding recordByte firstByte together
+  record-from true d z o = ap₂ (λ (x y : ℕ). x + y * (o % perFooter p)) (sym (farther d z (1 + p .S) (o / perFooter p))) (sym spare-len)
+  record-from false d z o =
+      let a : o / 1 ≡ o = div-one o in
+      let b : o % 1 ≡ 0 = mod-one o in
+      let c : o / 1 * (p .B + 20) ≡ o * (p .B + 20) = ap (λ (x : ℕ). x * (p .B + 20)) a in
+      omega (arith, b, c, farther d z 1 o)
+
+  -- its numbers on the way, and their bounds
+  pub record Stepping (first per d z o : ℕ) (f : Bool) : Type 0 where
+    pub some : 1 ≤ per
+    pub low : o ≤ 65535
+    pub quotient : o / per ≤ 65535
+    pub rest : o % per ≤ 65535
+    pub byte : first + o / per * (p .B + 20) + 20 * (o % per) ≡ recordByte p f d z o
+    pub within : recordByte p f d z o + 20 ≤ imageLen p
+    pub high : imageLen p ≤ 2946336325632
+
+  pub stepping : (f : Bool) (first per d z o : ℕ) → first ≡ firstByte p f d z → per ≡ together p f → d < p .N → z < p .Z → o < p .S → Stepping first per d z o f
+  stepping f first per d z o e k hd hz ho = record {
+    some = omega (arith, k, together-some f);
+    low = omega (arith, ho, r .stripes-high);
+    quotient = omega (arith, div-le-self o per, ho, r .stripes-high);
+    rest = omega (arith, mod-le o per, ho, r .stripes-high);
+    byte = ap₂ (λ (x y : ℕ). x + o / y * (p .B + 20) + 20 * (o % y)) e k ∙ record-from f d z o;
+    within = record-within f d z o hd hz ho;
+    high = image-high p r;
+  }
 
   module _ (im ps : List ℕ) (hi : length im ≡ imageLen p) (hp : length ps ≡ pointersLen p) (d z : ℕ) (hd : d < p .N) (hz : z < p .Z) where
     whole : Whole p (mkDisk im ps)

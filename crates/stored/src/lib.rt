@@ -9,7 +9,7 @@ ghost use Rattle.defs.specs.Faults.{footersStored};
 ghost use Rattle.defs.specs.Params.{inRange, perFooter, footers, capacity, unitLen, imageLen, pointersLen, placeOf, placeByte};
 ghost use Rattle.records.specs.Record.{recOf};
 ghost use Rattle.views.specs.Views.{Whole};
-ghost use Rattle.stored.specs.Stored.{recordByte};
+ghost use Rattle.stored.specs.Stored.{recordByte, firstByte, together};
 use defs::Params;
 use records::Record;
 
@@ -70,19 +70,41 @@ pub fn footers_stored(p: Params, pointers: &[u8], drive: usize, zone: usize) -> 
     m
 }
 
-// The byte of the record at a data offset: in the footer of a sealed segment, else in the block's spare.
-fn record_byte(p: Params, full: bool, drive: usize, zone: usize, offset: usize) -> usize
+// The byte of the record at data offset 0.
+fn first_byte(p: Params, full: bool, drive: usize, zone: usize) -> usize
+    requires { ⌜ inRange p ≡ true ⌝ }
+    requires { ⌜ (drive < p .N) × (zone < p .Z) ⌝ }
+    ensures { λ r. ⌜ (r ≡ firstByte p full drive zone) × (r ≤ 2946336325632) ⌝ }
+{
+    if full {
+        return shape::block_byte(p, drive, zone, 1 + p.S);
+    }
+    shape::block_byte(p, drive, zone, 1) + p.B
+}
+
+// How many records lie side by side before the next block: those of a footer block, or the one in a spare.
+fn together(p: Params, full: bool) -> u32
+    requires { ⌜ inRange p ≡ true ⌝ }
+    ensures { λ r. ⌜ (r ≡ together p full) × (1 ≤ r) ⌝ }
+{
+    if full {
+        return shape::per_footer(p) as u32;
+    }
+    1
+}
+
+// The byte of the record at a data offset: in the footer of a sealed segment, else in the block's spare. All but the offset's quotient and
+// remainder, in 32 bits, is the same for every record of a zone.
+pub fn record_byte(p: Params, full: bool, drive: usize, zone: usize, offset: usize) -> usize
     requires { ⌜ inRange p ≡ true ⌝ }
     requires { ⌜ (drive < p .N) × (zone < p .Z) × (offset < p .S) ⌝ }
     ensures { λ r. ⌜ (r ≡ recordByte p full drive zone offset) × (r + 20 ≤ imageLen p) × (r ≤ 2946336325632) ⌝ }
 {
-    let per = shape::per_footer(p) as u32;
-    if full {
-        let block = (offset as u32 / per) as usize;
-        let number = (offset as u32 % per) as usize;
-        return begins(p, per, drive, zone, 1 + p.S + block) + 20 * number;
-    }
-    begins(p, per, drive, zone, 1 + offset) + p.B
+    let first = first_byte(p, full, drive, zone);
+    let per = together(p, full);
+    let block = (offset as u32 / per) as usize;
+    let number = (offset as u32 % per) as usize;
+    first + block * (p.B + 20) + 20 * number
 }
 
 // 01, Restart, 3: the record at a data offset of a zone; full: its segment is sealed.

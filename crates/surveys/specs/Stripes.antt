@@ -9,6 +9,7 @@ use native.Mathlib.Omega.{arith}
 use lib.ListN.{length}
 use Rattle.laws.specs.Ranges.{Test, test, not-both, below-snoc, map-append, any-append, any-miss, any-none, any-same, greatest-snoc, keep-below-snoc, tally-below-hit, tally-below-miss}
 use Rattle.laws.specs.Ranges.Test.{yes!, no! }
+use Rattle.laws.specs.Mask.{isIn-empty}
 use Rattle.scans.specs.Scans.{any-keep}
 use Rattle.defs.specs.Segments.{recOf, Segment, segmentOf, recsOn, hasChunk, counts, counted, uncounted, storedRec}
 use Rattle.groups.specs.declared.Group.{Group}
@@ -24,6 +25,7 @@ use Rattle.defs.specs.Lists.{upFrom, below, any, consIf, keep, tally, greatest,
 use Rattle.defs.specs.Params.{pointersLen, drivesOf, present, absent}
 use Rattle.defs.specs.Parity.{parityRec}
 use Rattle.surveys.specs.declared.Tally.{Tally}
+use Rattle.tablesay.specs.Members.{keep-nothing}
 use Rattle.surveys.specs.Tops.{lastOf, topOf, Surveyed, last-le}
 
 -- ---- decoded addresses, by stripe
@@ -222,6 +224,12 @@ pub absent-any : (p : Params) (gone : ℕ) (f : ℕ → Bool) → any f (absent 
 unfolding absent drivesOf
 absent-any p gone f = any-keep (isIn gone) f (below (p .N))
 
+-- no drive is missing
+pub absent-none : (p : Params) (gone : ℕ) (f : ℕ → Bool) → gone ≡ 0 → false ≡ any f (absent p gone)
+unfolding absent drivesOf
+absent-none p gone f e =
+    sym (ap (any f) (keep-nothing (isIn gone) (below (p .N)) (λ d m. ap (λ (x : ℕ). isIn x d) e ∙ isIn-empty d)) ∙ any-none f)
+
 pub lost-none : (p : Params) (gone : ℕ) (g : Segment) (s : ℕ) → any (isData p s) (absent p gone) ≡ false → false ≡ lostBad p gone g s
 unfolding lostBad
 lost-none p gone g s e = sym (ap (λ (b : Bool). b && badRec p (lostRec p gone g s)) e)
@@ -259,6 +267,9 @@ module _ (p : Params) (v : View) (gone seg s n m : ℕ) (en : n ≡ length (keep
       ap₂ (λ (a b : Bool). a && not b)
       (chunks-some p v gone seg s ∙ ap not (ne-eqb (length (keep (hasChunk (segmentOf p v gone seg) s) (drivesOf p))) 0 (λ q. h (en ∙ q))))
       (counts-few e)
+
+  pub loose-counts : counts p gone (segmentOf p v gone seg) s ≡ false → (n ≡ 0 → ⊥) → isLoose p gone (segmentOf p v gone seg) s ≡ true
+  loose-counts e h = loose-some (λ q. absurd (not-both (counts p gone (segmentOf p v gone seg) s) (counts-all q) e)) h
 
 -- ---- from group to group
 

@@ -42,6 +42,9 @@ fn any_lost_data(p: Params, gone: u8, s: usize) -> bool
     requires { ⌜ inRange p ≡ true ⌝ }
     ensures { λ r. ⌜ r ≡ any (isData p s) (absent p gone) ⌝ }
 {
+    if gone == 0 {
+        return false;
+    }
     let mut d = 0;
     while d < p.N {
         if lost_data(p, gone, d, s) {
@@ -124,8 +127,7 @@ fn survey_stripe(p: Params, image: &[u8], w: Group, at: &[u16], k: usize, t: Tal
     ensures { λ r. ⌜ (r .counted ≤ w .base + k + 1) × (r .loose ≤ w .base + k + 1) × (r .bad ≡ false → t .bad ≡ false) ⌝ }
     ensures { λ r. ⌜ ((ps : List ℕ) → Shown p (now (image .entry)) ps w (now (at .entry)) → Tallied p (w .gone) (segmentIn p (now (image .entry)) ps w) (w .base + k) t → Tallied p (w .gone) (segmentIn p (now (image .entry)) ps w) (w .base + k + 1) r) ⌝ }
 {
-    let n = groups::chunks(p, at, k);
-    if n == groups::present(p, w.gone) {
+    if groups::counts(p, w.gone, at, k) {
         if lost_bad(p, image, w, at, k) {
             return bad_tally(t);
         }
@@ -136,7 +138,7 @@ fn survey_stripe(p: Params, image: &[u8], w: Group, at: &[u16], k: usize, t: Tal
             loose: t.loose,
         };
     }
-    if n == 0 {
+    if groups::chunks(p, at, k) == 0 {
         return t;
     }
     Tally {

@@ -1,36 +1,29 @@
-use mathlib.Core.Path.{_≡_, refl, sym, _∙_}
-use Prim.Native.Nat.{_-_, _≤_}
+use mathlib.Core.Path.{_≡_, refl, sym}
+use Prim.Native.Nat.{_-_}
 use native.Mathlib.Omega.{arith}
-use lib.ListN.{length, drop}
-use Rattle.defs.specs.Engine.Call.{close}
-use Rattle.defs.specs.Lists.{sameList}
-use Rattle.laws.specs.Ranges.{sameList-long, same-step, same-stop, same-end}
+use lib.ListN.{length}
+use Rattle.laws.specs.Ranges.{sameList-long}
+use Rattle.blocks.specs.Same.{Comparing, comparing-next, compared}
 use Rattle.blocks.proofs.same.Statement.{statement}
 use Rattle.blocks.proofs.same.Tie as tie
 
 abbrev Inv-loop : tie.InvT-loop
-Inv-loop a b i₀ i = (i ≤ length a) × (length a ≡ length b) × (sameList (drop i a) (drop i b) ≡ sameList a b)
+Inv-loop a b off₀ i₀ off i = Comparing a b off i
 
 abbrev μ-loop : tie.MeasureT-loop
-μ-loop a b i₀ i = length a - i
+μ-loop a b off₀ i₀ off i = length a - i
 
 returns : tie.Need-returns Inv-loop μ-loop
 returns c = sym (sameList-long (c .before .args .a .now) (c .before .args .b .now) (c .if1 .taken))
 
 loop-holds : tie.Need-loop-holds Inv-loop μ-loop
-loop-holds c = (omega arith, c .if1 .left, refl)
+loop-holds c = record { upto = omega arith; long = c .if1 .left; equal = λ e. refl; differ = λ n. absurd (n refl) }
 
-shared-slice-read-if2 : tie.Need-shared-slice-read-if2 Inv-loop μ-loop
-shared-slice-read-if2 c = omega arith
+shared-slice-read-off : tie.Need-shared-slice-read-off Inv-loop μ-loop
+shared-slice-read-off c = omega arith
 
-shared-slice-read-if2-2 : tie.Need-shared-slice-read-if2-2 Inv-loop μ-loop
-shared-slice-read-if2-2 c = omega arith
-
-returns-2 : tie.Need-returns-2 Inv-loop μ-loop
-returns-2 c =
-    let l = c .before .before .before .before .loop in
-    let a = c .before .before .before .before .before .before .args in
-    sym (same-stop (a .a .now) (a .b .now) (l .i) (omega arith) (omega arith) (c .if2 .taken)) ∙ l .inv .2
+shared-slice-read-off-2 : tie.Need-shared-slice-read-off-2 Inv-loop μ-loop
+shared-slice-read-off-2 c = omega (arith, c .before .before .loop-test .taken, c .before .before .before .loop .inv .long)
 
 add-i : tie.Need-add-i Inv-loop μ-loop
 add-i c = omega arith
@@ -40,15 +33,15 @@ loop-less c = omega arith
 
 loop-again : tie.Need-loop-again Inv-loop μ-loop
 loop-again c =
-    let l = c .before .before .before .before .loop in
-    let a = c .before .before .before .before .before .before .args in
-    (omega arith, l .inv .1, sym (same-step (a .a .now) (a .b .now) (l .i) (omega arith) (omega arith) (c .if2 .left)) ∙ l .inv .2)
+    let l = c .before .before .before .loop in
+    let a = c .before .before .before .before .before .args in
+    comparing-next (a .a .now) (a .b .now) (l .off) (l .i) (l .inv) (c .before .before .loop-test .taken)
 
-returns-3 : tie.Need-returns-3 Inv-loop μ-loop
-returns-3 c =
+returns-2 : tie.Need-returns-2 Inv-loop μ-loop
+returns-2 c =
     let l = c .before .loop in
     let a = c .before .before .before .args in
-    sym (same-end (a .a .now) (a .b .now) (l .i) (omega arith) (omega arith)) ∙ l .inv .2
+    compared (a .a .now) (a .b .now) (l .off) (l .i) (l .inv) (omega arith)
 
 pub same-spec : {M : Type 1} → statement M
 same-spec =
@@ -58,10 +51,9 @@ same-spec =
     μ-loop
     returns
     loop-holds
-    shared-slice-read-if2
-    shared-slice-read-if2-2
-    returns-2
+    shared-slice-read-off
+    shared-slice-read-off-2
     add-i
     loop-less
     loop-again
-    returns-3)
+    returns-2)

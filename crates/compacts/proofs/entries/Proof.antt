@@ -1,6 +1,6 @@
 use mathlib.Core.Path.{_≡_, refl, ap, _∙_}
 use mathlib.Core.List.{List, map}
-use Prim.Native.Nat.{ℕ, _+_, _-_, _≤_}
+use Prim.Native.Nat.{ℕ, _+_, _-_, _%_, _≤_}
 use native.Mathlib.Omega.{arith}
 use lib.ListN.{length, set, length-set}
 use Rattle.defs.specs.Bytes.{splice}
@@ -8,39 +8,45 @@ use Rattle.defs.specs.Drives.{Zone, viewOf, zoneAt}
 use Rattle.defs.specs.Layout.{Rec}
 use Rattle.defs.specs.Lists.{below}
 use Rattle.defs.specs.Params.{pointersLen}
-use Rattle.compacts.specs.Compacts.{entryOf, entry-of, entries-turn, entries-none}
+use Rattle.compacts.specs.Compacts.{entryOf, entry-of, entries-turn, entries-none, zero-base}
 use Rattle.compacts.proofs.entries.Statement.{statement}
 use Rattle.compacts.proofs.entries.Tie as tie
 
 abbrev Inv-loop : tie.InvT-loop
-Inv-loop p image compact₀ full drive zone row n o₀ compact o =
-    (o ≤ n) × (length compact ≡ length compact₀)
+Inv-loop p image compact₀ full drive zone row n base₀ o₀ compact base o =
+    (o ≤ n) × (base ≤ o) × (base % p .G ≡ 0) × (length compact ≡ length compact₀)
     × ((ps : List ℕ) → length ps ≡ pointersLen p → compact ≡ splice compact₀ row (map (entryOf p full (zoneAt (viewOf p image ps) drive zone)) (below o)))
 
 abbrev μ-loop : tie.MeasureT-loop
-μ-loop p image compact₀ full drive zone row n o₀ compact o = n - o
+μ-loop p image compact₀ full drive zone row n base₀ o₀ compact base o = n - o
 
 loop-holds : tie.Need-loop-holds Inv-loop μ-loop
 loop-holds c =
     let a = c .before .before .args in
-    (omega arith, refl, λ ps h. entries-none (a .p) (a .full) (zoneAt (viewOf (a .p) (a .image .now) ps) (a .drive) (a .zone)) (a .compact .now) (a .row))
+    (omega arith, omega arith, zero-base (a .p .G), refl, λ ps h. entries-none (a .p) (a .full) (zoneAt (viewOf (a .p) (a .image .now) ps) (a .drive) (a .zone)) (a .compact .now) (a .row))
 
 record-in-requires : tie.Need-record-in-requires Inv-loop μ-loop
 record-in-requires c κs =
     let q = c .before .before .before .before .pre in
     (q .0, (q .1 .0, q .1 .1, q .1 .2, omega (arith, c .loop-test .taken, q .1 .3)))
 
-cast-compact-entry : tie.Need-cast-compact-entry Inv-loop μ-loop
-cast-compact-entry c = omega arith
+base-at-requires : tie.Need-base-at-requires Inv-loop μ-loop
+base-at-requires c κs =
+    let q = c .before .before .before .before .before .pre in
+    let l = c .before .before .loop in
+    (q .0, (l .inv .1, omega (arith, c .before .loop-test .taken, q .1 .3), l .inv .2))
 
-compact-entry-requires : tie.Need-compact-entry-requires Inv-loop μ-loop
-compact-entry-requires c κs = c .before .before .before .before .before .before .pre .0
+cast-entry-near : tie.Need-cast-entry-near Inv-loop μ-loop
+cast-entry-near c = omega arith
+
+entry-near-requires : tie.Need-entry-near-requires Inv-loop μ-loop
+entry-near-requires c κs = (c .before .before .before .before .before .before .before .pre .0, c .before .base-at .ensures .1)
 
 add-compact : tie.Need-add-compact Inv-loop μ-loop
-add-compact c = omega (arith, c .before .before .before .before .before .before .before .pre, c .before .before .before .loop-test)
+add-compact c = omega (arith, c .before .before .before .before .before .before .before .before .pre, c .before .before .before .before .loop-test)
 
 slice-write-compact : tie.Need-slice-write-compact Inv-loop μ-loop
-slice-write-compact c = omega (arith, c .before .before .before .before .before .before .before .pre, c .before .before .before .loop-test)
+slice-write-compact c = omega (arith, c .before .before .before .before .before .before .before .before .pre, c .before .before .before .before .loop-test)
 
 add-o : tie.Need-add-o Inv-loop μ-loop
 add-o c = omega arith
@@ -50,23 +56,28 @@ loop-less c = omega arith
 
 loop-again : tie.Need-loop-again Inv-loop μ-loop
 loop-again c =
-    let l = c .before .before .before .before .loop in
-    let a = c .before .before .before .before .before .before .before .args in
-    let q = c .before .before .before .before .before .before .before .pre in
+    let l = c .before .before .before .before .before .loop in
+    let a = c .before .before .before .before .before .before .before .before .args in
+    let q = c .before .before .before .before .before .before .before .before .pre in
     let v : List ℕ → Zone = λ ps. zoneAt (viewOf (a .p) (a .image .now) ps) (a .drive) (a .zone) in
-    let e : (ps : List ℕ) → length ps ≡ pointersLen (a .p) → c .compact-entry .result ≡ entryOf (a .p) (a .full) (v ps) (l .o) =
-    λ ps h. c .compact-entry .ensures ∙ entry-of (a .p) (a .full) (v ps) (l .o) (c .before .before .record-in .result .stripe) (ap (λ (x : Rec). x .stripe) (c .before .before .record-in .ensures ps h)) in
-    (omega arith, simp length-set (l .inv .1), λ ps h. ap (set (l .compact) (a .row + l .o)) (e ps h) ∙ entries-turn (a .p) (a .full) (v ps) (a .compact .now) (l .compact) (a .row) (l .o) (omega (arith, c .before .before .before .loop-test .taken, q .1 .3, q .1 .4)) (l .inv .2 ps h))
+    let e : (ps : List ℕ) → length ps ≡ pointersLen (a .p) → c .entry-near .result ≡ entryOf (a .p) (a .full) (v ps) (l .o) =
+    λ ps h. c .entry-near .ensures ∙ entry-of (a .p) (a .full) (v ps) (l .o) (c .before .before .before .record-in .result .stripe) (ap (λ (x : Rec). x .stripe) (c .before .before .before .record-in .ensures ps h)) in (
+      omega arith,
+      omega (arith, c .before .before .base-at .ensures .0),
+      c .before .before .base-at .ensures .1,
+      simp length-set (l .inv .3),
+      λ ps h. ap (set (l .compact) (a .row + l .o)) (e ps h) ∙ entries-turn (a .p) (a .full) (v ps) (a .compact .now) (l .compact) (a .row) (l .o) (omega (arith, c .before .before .before .before .loop-test .taken, q .1 .3, q .1 .4)) (l .inv .4 ps h),
+    )
 
 same-length : tie.Need-same-length Inv-loop μ-loop
-same-length c = c .before .loop .inv .1
+same-length c = c .before .loop .inv .3
 
 returns : tie.Need-returns Inv-loop μ-loop
 returns c =
     let l = c .before .loop in
     let a = c .before .before .before .before .args in
     let e : l .o ≡ a .n = omega (arith, c .loop-test .left) in
-    λ ps h. l .inv .2 ps h ∙ ap (λ (x : ℕ). splice (a .compact .now) (a .row) (map (entryOf (a .p) (a .full) (zoneAt (viewOf (a .p) (a .image .now) ps) (a .drive) (a .zone))) (below x))) e
+    λ ps h. l .inv .4 ps h ∙ ap (λ (x : ℕ). splice (a .compact .now) (a .row) (map (entryOf (a .p) (a .full) (zoneAt (viewOf (a .p) (a .image .now) ps) (a .drive) (a .zone))) (below x))) e
 
 pub entries-spec : {M : Type 1} → statement M
 entries-spec =
@@ -76,8 +87,9 @@ entries-spec =
     μ-loop
     loop-holds
     record-in-requires
-    cast-compact-entry
-    compact-entry-requires
+    base-at-requires
+    cast-entry-near
+    entry-near-requires
     add-compact
     slice-write-compact
     add-o

@@ -47,11 +47,11 @@ loop-holds c =
     let n : c .before .group-stored .result ≡ length rs = c .before .group-stored .ensures .0 im (c .before .before .before .before .before .pre .1 .0 .image-long) (q .5) in
     (omega arith, entering-start p d (w .base) rs (a .at .now) (q .0) (c .before .before .before .before .before .pre .1 .1 .1 .1))
 
-add-record-in : tie.Need-add-record-in Inv-loop μ-loop
-add-record-in c = let f = group-len-fits (c .before .before .before .before .before .before .before .args .p) (c .before .before .before .before .before .before .before .args .w .base) (omega (arith, c .before .before .before .before .before .before .before .pre .1 .1 .0 .3)) in omega (arith, f, c .before .before .before .before .before .before .before .pre .1 .1 .0 .3, c .before .before .before .group-stored .ensures .1, c .loop-test .taken, ranged (c .before .before .before .before .before .before .before .args .p) (c .before .before .before .before .before .before .before .pre .0) .stripes-high, ranged (c .before .before .before .before .before .before .before .args .p) (c .before .before .before .before .before .before .before .pre .0) .group-high)
+add-record-of : tie.Need-add-record-of Inv-loop μ-loop
+add-record-of c = let f = group-len-fits (c .before .before .before .before .before .before .before .args .p) (c .before .before .before .before .before .before .before .args .w .base) (omega (arith, c .before .before .before .before .before .before .before .pre .1 .1 .0 .3)) in omega (arith, f, c .before .before .before .before .before .before .before .pre .1 .1 .0 .3, c .before .before .before .group-stored .ensures .1, c .loop-test .taken, ranged (c .before .before .before .before .before .before .before .args .p) (c .before .before .before .before .before .before .before .pre .0) .stripes-high, ranged (c .before .before .before .before .before .before .before .args .p) (c .before .before .before .before .before .before .before .pre .0) .group-high)
 
-record-in-requires : tie.Need-record-in-requires Inv-loop μ-loop
-record-in-requires c κs = (c .before .before .before .before .before .before .before .pre .0, (c .before .before .before .before .before .before .before .pre .1 .0 .image-long, c .before .before .before .before .before .before .before .pre .1 .1 .0 .1, rw (c .before .before .zone-on .ensures) (zone-on-lt (c .before .before .before .before .before .before .before .args .p) (c .before .before .before .before .before .before .before .args .w .seg) (c .before .before .before .before .before .before .before .args .drive) (c .before .before .before .before .before .before .before .pre .1 .1 .0 .2)), (let f = group-len-fits (c .before .before .before .before .before .before .before .args .p) (c .before .before .before .before .before .before .before .args .w .base) (omega (arith, c .before .before .before .before .before .before .before .pre .1 .1 .0 .3)) in omega (arith, f, c .before .before .before .before .before .before .before .pre .1 .1 .0 .3, c .before .before .before .group-stored .ensures .1, c .loop-test .taken, ranged (c .before .before .before .before .before .before .before .args .p) (c .before .before .before .before .before .before .before .pre .0) .stripes-high, ranged (c .before .before .before .before .before .before .before .args .p) (c .before .before .before .before .before .before .before .pre .0) .group-high))))
+record-of-requires : tie.Need-record-of-requires Inv-loop μ-loop
+record-of-requires c κs = (c .before .before .before .before .before .before .before .pre .0, (c .before .before .before .before .before .before .before .pre .1 .0 .image-long, c .before .before .before .before .before .before .before .pre .1 .1 .0 .1, rw (c .before .before .zone-on .ensures) (zone-on-lt (c .before .before .before .before .before .before .before .args .p) (c .before .before .before .before .before .before .before .args .w .seg) (c .before .before .before .before .before .before .before .args .drive) (c .before .before .before .before .before .before .before .pre .1 .1 .0 .2)), (let f = group-len-fits (c .before .before .before .before .before .before .before .args .p) (c .before .before .before .before .before .before .before .args .w .base) (omega (arith, c .before .before .before .before .before .before .before .pre .1 .1 .0 .3)) in omega (arith, f, c .before .before .before .before .before .before .before .pre .1 .1 .0 .3, c .before .before .before .group-stored .ensures .1, c .loop-test .taken, ranged (c .before .before .before .before .before .before .before .args .p) (c .before .before .before .before .before .before .before .pre .0) .stripes-high, ranged (c .before .before .before .before .before .before .before .args .p) (c .before .before .before .before .before .before .before .pre .0) .group-high))))
 
 stored-bad-requires : tie.Need-stored-bad-requires Inv-loop μ-loop
 stored-bad-requires c κs = c .before .before .before .before .before .before .before .before .pre .0
@@ -74,8 +74,8 @@ returns c =
     let i = c .before .before .before .before .loop .i in
     let h : i < length rs = omega (arith, n, c .before .before .before .loop-test .taken) in
     let l : length rs ≤ groupLen p (w .base) = omega (arith, n, c .before .before .before .before .before .before .group-stored .ensures .1) in
-    let r = recVal (c .before .before .record-in .result) in
-    let e : r ≡ getD rs i (mkRec 0 0 0) = c .before .before .record-in .ensures ps (c .before .before .before .before .before .before .before .before .before .before .pre .1 .0 .pointers-long)
+    let r = recVal (c .before .before .record-of .result) in
+    let e : r ≡ getD rs i (mkRec 0 0 0) = c .before .before .record-of .ensures ps (c .before .before .before .before .before .before .before .before .before .before .pre .1 .0 .pointers-long)
     ∙ (λ j. recordIn p (c .before .before .before .before .before .before .before .before .before .before .pre .1 .1 .1 .0 j) (zoneAt v d (c .before .before .before .before .before .zone-on .ensures j)) (w .base + i))
     ∙ group-record p v (w .gone) (w .seg) (w .base) d i (q .1) (q .5) h in
     let g : 0 < p .G = omega (arith, ranged (c .before .before .before .before .before .before .before .before .before .before .args .p) (c .before .before .before .before .before .before .before .before .before .before .pre .0) .group-low) in
@@ -109,14 +109,14 @@ returns-2 c =
     let i = c .before .before .before .before .before .before .before .before .before .before .loop .i in
     let h : i < length rs = omega (arith, n, c .before .before .before .before .before .before .before .before .before .loop-test .taken) in
     let l : length rs ≤ groupLen p (w .base) = omega (arith, n, c .before .before .before .before .before .before .before .before .before .before .before .before .group-stored .ensures .1) in
-    let r = recVal (c .before .before .before .before .before .before .before .before .record-in .result) in
-    let e : r ≡ getD rs i (mkRec 0 0 0) = c .before .before .before .before .before .before .before .before .record-in .ensures ps (c .before .before .before .before .before .before .before .before .before .before .before .before .before .before .before .before .pre .1 .0 .pointers-long)
+    let r = recVal (c .before .before .before .before .before .before .before .before .record-of .result) in
+    let e : r ≡ getD rs i (mkRec 0 0 0) = c .before .before .before .before .before .before .before .before .record-of .ensures ps (c .before .before .before .before .before .before .before .before .before .before .before .before .before .before .before .before .pre .1 .0 .pointers-long)
     ∙ (λ j. recordIn p (c .before .before .before .before .before .before .before .before .before .before .before .before .before .before .before .before .pre .1 .1 .1 .0 j) (zoneAt v d (c .before .before .before .before .before .before .before .before .before .before .before .zone-on .ensures j)) (w .base + i))
     ∙ group-record p v (w .gone) (w .seg) (w .base) d i (q .1) (q .5) h in
     let g : 0 < p .G = omega (arith, ranged (c .before .before .before .before .before .before .before .before .before .before .before .before .before .before .before .before .args .p) (c .before .before .before .before .before .before .before .before .before .before .before .before .before .before .before .before .pre .0) .group-low) in
     let t : c .before .before .before .enter .result ≡ false = not-true (c .before .before .before .enter .result) (c .if2 .taken) in
     let b = entering-bad p d (w .base) rs (a .at .now) (c .before .before .before .before .before .before .before .before .before .before .loop .at) i (c .before .before .before .before .before .before .before .before .before .before .loop .inv .1) h g (q .3) (q .4) l r e (sym (c .before .before .before .enter .ensures .0) ∙ t) in
-    let z : c .before .before .before .enter .last .1 .0 ≡ c .before .before .before .before .before .before .before .before .before .before .loop .at = c .before .before .before .enter .ensures .1 ∙ cond-false (c .before .before .before .enter .result) (set (c .before .before .before .before .before .before .before .before .before .before .loop .at) (256 * d + (c .before .before .before .before .before .before .before .before .record-in .result .stripe - w .base)) (i + 1)) (c .before .before .before .before .before .before .before .before .before .before .loop .at) t in
+    let z : c .before .before .before .enter .last .1 .0 ≡ c .before .before .before .before .before .before .before .before .before .before .loop .at = c .before .before .before .enter .ensures .1 ∙ cond-false (c .before .before .before .enter .result) (set (c .before .before .before .before .before .before .before .before .before .before .loop .at) (256 * d + (c .before .before .before .before .before .before .before .before .record-of .result .stripe - w .base)) (i + 1)) (c .before .before .before .before .before .before .before .before .before .before .loop .at) t in
     (sym (ap not b), ((λ j k. ap (λ (x : List ℕ). getD x j 0) z ∙ c .before .before .before .before .before .before .before .before .before .before .loop .inv .1 .lower j k), λ t. absurd (not-both false t refl)))
 
 add-i : tie.Need-add-i Inv-loop μ-loop
@@ -140,15 +140,15 @@ loop-again c =
     let i = c .before .before .before .before .before .before .before .before .before .before .loop .i in
     let h : i < length rs = omega (arith, n, c .before .before .before .before .before .before .before .before .before .loop-test .taken) in
     let l : length rs ≤ groupLen p (w .base) = omega (arith, n, c .before .before .before .before .before .before .before .before .before .before .before .before .group-stored .ensures .1) in
-    let r = recVal (c .before .before .before .before .before .before .before .before .record-in .result) in
-    let e : r ≡ getD rs i (mkRec 0 0 0) = c .before .before .before .before .before .before .before .before .record-in .ensures ps (c .before .before .before .before .before .before .before .before .before .before .before .before .before .before .before .before .pre .1 .0 .pointers-long)
+    let r = recVal (c .before .before .before .before .before .before .before .before .record-of .result) in
+    let e : r ≡ getD rs i (mkRec 0 0 0) = c .before .before .before .before .before .before .before .before .record-of .ensures ps (c .before .before .before .before .before .before .before .before .before .before .before .before .before .before .before .before .pre .1 .0 .pointers-long)
     ∙ (λ j. recordIn p (c .before .before .before .before .before .before .before .before .before .before .before .before .before .before .before .before .pre .1 .1 .1 .0 j) (zoneAt v d (c .before .before .before .before .before .before .before .before .before .before .before .zone-on .ensures j)) (w .base + i))
     ∙ group-record p v (w .gone) (w .seg) (w .base) d i (q .1) (q .5) h in
     let g : 0 < p .G = omega (arith, ranged (c .before .before .before .before .before .before .before .before .before .before .before .before .before .before .before .before .args .p) (c .before .before .before .before .before .before .before .before .before .before .before .before .before .before .before .before .pre .0) .group-low) in
     let t : c .before .before .before .enter .result ≡ true = not-false (c .before .before .before .enter .result) (c .if2 .left) in
     let f = group-len-le p (w .base) in
     let y = entering-next p d (w .base) rs (a .at .now) (c .before .before .before .before .before .before .before .before .before .before .loop .at) i (c .before .before .before .before .before .before .before .before .before .before .loop .inv .1) h g (q .3) (q .4) l r e (omega (arith, q .1, ranged (c .before .before .before .before .before .before .before .before .before .before .before .before .before .before .before .before .args .p) (c .before .before .before .before .before .before .before .before .before .before .before .before .before .before .before .before .pre .0) .drives-high)) (omega (arith, f, ranged (c .before .before .before .before .before .before .before .before .before .before .before .before .before .before .before .before .args .p) (c .before .before .before .before .before .before .before .before .before .before .before .before .before .before .before .before .pre .0) .group-high)) (sym (c .before .before .before .before .before .before .before .stored-bad .ensures) ∙ c .before .before .before .before .before .before .if1 .left) (sym (c .before .before .before .enter .ensures .0) ∙ t) in
-    let z : c .before .before .before .enter .last .1 .0 ≡ set (c .before .before .before .before .before .before .before .before .before .before .loop .at) (256 * d + (c .before .before .before .before .before .before .before .before .record-in .result .stripe - w .base)) (i + 1) = c .before .before .before .enter .ensures .1 ∙ cond-true (c .before .before .before .enter .result) (set (c .before .before .before .before .before .before .before .before .before .before .loop .at) (256 * d + (c .before .before .before .before .before .before .before .before .record-in .result .stripe - w .base)) (i + 1)) (c .before .before .before .before .before .before .before .before .before .before .loop .at) t in
+    let z : c .before .before .before .enter .last .1 .0 ≡ set (c .before .before .before .before .before .before .before .before .before .before .loop .at) (256 * d + (c .before .before .before .before .before .before .before .before .record-of .result .stripe - w .base)) (i + 1) = c .before .before .before .enter .ensures .1 ∙ cond-true (c .before .before .before .enter .result) (set (c .before .before .before .before .before .before .before .before .before .before .loop .at) (256 * d + (c .before .before .before .before .before .before .before .before .record-of .result .stripe - w .base)) (i + 1)) (c .before .before .before .before .before .before .before .before .before .before .loop .at) t in
     (omega (arith, c .before .before .before .before .before .before .before .before .before .loop-test .taken), subst (λ (x : List ℕ). Entering p d (w .base) rs (a .at .now) x (i + 1)) (sym z) y)
 
 same-length-3 : tie.Need-same-length-3 Inv-loop μ-loop
@@ -178,8 +178,8 @@ index-drive-spec =
     group-stored-requires
     zone-on-requires
     loop-holds
-    add-record-in
-    record-in-requires
+    add-record-of
+    record-of-requires
     stored-bad-requires
     same-length
     returns

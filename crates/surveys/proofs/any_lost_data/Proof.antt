@@ -5,7 +5,7 @@ use native.Mathlib.Omega.{arith}
 use Rattle.defs.specs.Layout.{isData}
 use Rattle.defs.specs.Lists.{upFrom, below, any, isIn}
 use Rattle.scans.specs.Scans.{any-found, any-passed, any-ended, any-start}
-use Rattle.surveys.specs.Stripes.{absent-any}
+use Rattle.surveys.specs.Stripes.{absent-any, absent-none}
 use Rattle.surveys.proofs.any_lost_data.Statement.{statement}
 use Rattle.surveys.proofs.any_lost_data.Tie as tie
 
@@ -17,20 +17,21 @@ abbrev μ-loop : tie.MeasureT-loop
 
 loop-holds : tie.Need-loop-holds Inv-loop μ-loop
 loop-holds c =
-    let a = c .args in
+    let a = c .before .args in
     (omega arith, any-start (λ e. isIn (a .gone) e && isData (a .p) (a .s) e) (a .p .N))
 
 lost-data-requires : tie.Need-lost-data-requires Inv-loop μ-loop
-lost-data-requires c κs =
-    let a = c .before .before .before .args in
-    c .before .before .before .pre
+lost-data-requires c κs = c .before .before .before .before .pre
 
 returns : tie.Need-returns Inv-loop μ-loop
-returns c =
-    let a = c .before .before .before .before .before .args in
+returns c = let a = c .before .args in absent-none (a .p) (a .gone) (isData (a .p) (a .s)) (c .if1 .taken)
+
+returns-2 : tie.Need-returns-2 Inv-loop μ-loop
+returns-2 c =
+    let a = c .before .before .before .before .before .before .args in
     let l = c .before .before .before .before .loop in
     let f : ℕ → Bool = λ e. isIn (a .gone) e && isData (a .p) (a .s) e in
-    (sym (any-found f (l .d) (a .p .N) (c .before .before .if1 .taken) (sym (c .before .lost-data .ensures) ∙ c .if2 .taken)) ∙ l .inv .1) ∙ sym (absent-any (a .p) (a .gone) (isData (a .p) (a .s)))
+    (sym (any-found f (l .d) (a .p .N) (c .before .before .if2 .taken) (sym (c .before .lost-data .ensures) ∙ c .if3 .taken)) ∙ l .inv .1) ∙ sym (absent-any (a .p) (a .gone) (isData (a .p) (a .s)))
 
 add-d : tie.Need-add-d Inv-loop μ-loop
 add-d c = omega arith
@@ -40,17 +41,17 @@ loop-less c = omega arith
 
 loop-again : tie.Need-loop-again Inv-loop μ-loop
 loop-again c =
-    let a = c .before .before .before .before .before .args in
+    let a = c .before .before .before .before .before .before .args in
     let l = c .before .before .before .before .loop in
     let f : ℕ → Bool = λ e. isIn (a .gone) e && isData (a .p) (a .s) e in
-    (omega (arith, c .before .before .if1 .taken), sym (any-passed f (l .d) (a .p .N) (c .before .before .if1 .taken) (sym (c .before .lost-data .ensures) ∙ c .if2 .left)) ∙ l .inv .1)
+    (omega (arith, c .before .before .if2 .taken), sym (any-passed f (l .d) (a .p .N) (c .before .before .if2 .taken) (sym (c .before .lost-data .ensures) ∙ c .if3 .left)) ∙ l .inv .1)
 
-returns-2 : tie.Need-returns-2 Inv-loop μ-loop
-returns-2 c =
-    let a = c .before .before .before .args in
+returns-3 : tie.Need-returns-3 Inv-loop μ-loop
+returns-3 c =
+    let a = c .before .before .before .before .args in
     let l = c .before .before .loop in
     let f : ℕ → Bool = λ e. isIn (a .gone) e && isData (a .p) (a .s) e in
-    (sym (any-ended f (l .d) (a .p .N) (omega (arith, c .if1 .left))) ∙ l .inv .1) ∙ sym (absent-any (a .p) (a .gone) (isData (a .p) (a .s)))
+    (sym (any-ended f (l .d) (a .p .N) (omega (arith, c .if2 .left))) ∙ l .inv .1) ∙ sym (absent-any (a .p) (a .gone) (isData (a .p) (a .s)))
 
 pub any-lost-data-spec : {M : Type 1} → statement M
 any-lost-data-spec =
@@ -58,10 +59,11 @@ any-lost-data-spec =
     (tie.spec
     Inv-loop
     μ-loop
+    returns
     loop-holds
     lost-data-requires
-    returns
+    returns-2
     add-d
     loop-less
     loop-again
-    returns-2)
+    returns-3)

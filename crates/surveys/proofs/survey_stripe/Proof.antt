@@ -3,20 +3,22 @@ use mathlib.Core.Bool.{true, false}
 use mathlib.Core.List.{List}
 use Prim.Native.Nat.{ℕ, _+_, _≤_}
 use native.Mathlib.Omega.{arith}
+use lib.ListN.{length}
+use borrow.Author.Needs.{needs}
 use Rattle.defs.specs.Drives.{viewOf}
+use Rattle.defs.specs.Params.{present}
 use Rattle.defs.specs.Segments.{counts}
 use Rattle.laws.specs.Geometry.{ranged}
 use Rattle.laws.specs.Ranges.{not-both}
 use Rattle.surveys.specs.declared.Tally.{Tally}
 use Rattle.groups.specs.Groups.{segmentIn}
 use Rattle.groups.specs.Bases.{group-len-le}
-use Rattle.surveys.specs.Stripes.{Shown, Tallied, passes-none, passes-loose, passes-counted, passes-bad, counts-all, counts-few, loose-none, loose-some}
-use borrow.Author.Needs.{needs}
+use Rattle.surveys.specs.Stripes.{Shown, Tallied, passes-none, passes-loose, passes-counted, passes-bad, loose-none, loose-counts}
 use Rattle.surveys.proofs.survey_stripe.Statement.{statement}
 use Rattle.surveys.proofs.survey_stripe.Tie as tie
 
-chunks-requires : tie.Need-chunks-requires
-chunks-requires c κs =
+counts-requires : tie.Need-counts-requires
+counts-requires c κs =
     let a = c .before .before .args in
     let p = a .p in
     let w = a .w in
@@ -24,16 +26,13 @@ chunks-requires c κs =
     let h = c .before .before .pre in
     (h .0, (h .1 .0 .1, omega (arith, group-len-le p (w .base), h .1 .0 .4, ranged p (h .0) .group-high)))
 
-present-requires : tie.Need-present-requires
-present-requires c κs = search needs
-
 lost-bad-requires : tie.Need-lost-bad-requires
 lost-bad-requires c κs =
-    let a = c .before .before .before .before .before .args in
+    let a = c .before .before .before .before .args in
     let p = a .p in
     let w = a .w in
     let t = a .t in
-    let h = c .before .before .before .before .before .pre in
+    let h = c .before .before .before .before .pre in
     (h .0, h .1 .0)
 
 bad-tally-requires : tie.Need-bad-tally-requires
@@ -41,13 +40,11 @@ bad-tally-requires c κs = search needs
 
 returns : tie.Need-returns
 returns c =
-    let a = c .before .before .before .before .before .before .before .before .args in
+    let a = c .before .before .before .before .before .before .before .args in
     let p = a .p in
     let w = a .w in
     let t = a .t in
-    let h = c .before .before .before .before .before .before .before .before .pre in
-    let x = c .before .before .before .before .before .chunks in
-    let y = c .before .before .before .before .present in
+    let h = c .before .before .before .before .before .before .before .pre in
     let s = w .base + a .k in
     let z = c .before .before .lost-bad in
     subst (λ (r : Tally). ((r .counted ≤ s + 1) × (r .loose ≤ s + 1) × (r .bad ≡ false → t .bad ≡ false))
@@ -55,9 +52,29 @@ returns c =
     (sym (c .bad-tally .ensures)) (
       (omega (arith, h .1 .1 .0), omega (arith, h .1 .1 .1), λ q. absurd (not-both true refl q)),
       λ ps sh T. passes-bad p (w .gone) (segmentIn p (a .image .now) ps w) s t T (λ rf.
-          let ct : counts p (w .gone) (segmentIn p (a .image .now) ps w) s ≡ true = counts-all p (viewOf p (a .image .now) ps) (w .gone) (w .seg) s (x .result) (y .result) (x .ensures .1 (segmentIn p (a .image .now) ps w) (w .base) (sh .2 rf) (h .1 .0 .4)) (y .ensures .0) (c .before .before .before .if1 .taken) in
+          let ct : counts p (w .gone) (segmentIn p (a .image .now) ps w) s ≡ true = sym (c .before .before .before .before .counts .ensures (segmentIn p (a .image .now) ps w) (w .base) (sh .2 rf) (h .1 .0 .4)) ∙ c .before .before .before .if1 .taken in
           (ct, sym (z .ensures ps sh rf ct) ∙ c .before .if2 .taken)),
     )
+
+add-t9 : tie.Need-add-t9
+add-t9 c =
+    let a = c .before .before .before .before .before .before .before .args in
+    let p = a .p in
+    let w = a .w in
+    let t = a .t in
+    let h = c .before .before .before .before .before .before .before .pre in
+    let r = ranged p (h .0) in
+    omega (arith, r .stripes-high, r .group-high, group-len-le p (w .base), h .1 .0 .3, h .1 .0 .4, h .1 .1 .0, h .1 .1 .1)
+
+add-t10 : tie.Need-add-t10
+add-t10 c =
+    let a = c .before .before .before .before .before .before .before .before .args in
+    let p = a .p in
+    let w = a .w in
+    let t = a .t in
+    let h = c .before .before .before .before .before .before .before .before .pre in
+    let r = ranged p (h .0) in
+    omega (arith, r .stripes-high, r .group-high, group-len-le p (w .base), h .1 .0 .3, h .1 .0 .4, h .1 .1 .0, h .1 .1 .1)
 
 add-t11 : tie.Need-add-t11
 add-t11 c =
@@ -69,42 +86,29 @@ add-t11 c =
     let r = ranged p (h .0) in
     omega (arith, r .stripes-high, r .group-high, group-len-le p (w .base), h .1 .0 .3, h .1 .0 .4, h .1 .1 .0, h .1 .1 .1)
 
-add-t12 : tie.Need-add-t12
-add-t12 c =
-    let a = c .before .before .before .before .before .before .before .before .before .args in
-    let p = a .p in
-    let w = a .w in
-    let t = a .t in
-    let h = c .before .before .before .before .before .before .before .before .before .pre in
-    let r = ranged p (h .0) in
-    omega (arith, r .stripes-high, r .group-high, group-len-le p (w .base), h .1 .0 .3, h .1 .0 .4, h .1 .1 .0, h .1 .1 .1)
-
-add-t13 : tie.Need-add-t13
-add-t13 c =
-    let a = c .before .before .before .before .before .before .before .before .before .args in
-    let p = a .p in
-    let w = a .w in
-    let t = a .t in
-    let h = c .before .before .before .before .before .before .before .before .before .pre in
-    let r = ranged p (h .0) in
-    omega (arith, r .stripes-high, r .group-high, group-len-le p (w .base), h .1 .0 .3, h .1 .0 .4, h .1 .1 .0, h .1 .1 .1)
-
 returns-2 : tie.Need-returns-2
 returns-2 c =
-    let a = c .before .before .before .before .before .before .before .before .before .args in
+    let a = c .before .before .before .before .before .before .before .before .args in
     let p = a .p in
     let w = a .w in
     let t = a .t in
-    let h = c .before .before .before .before .before .before .before .before .before .pre in
-    let x = c .before .before .before .before .before .before .chunks in
-    let y = c .before .before .before .before .before .present in
+    let h = c .before .before .before .before .before .before .before .before .pre in
     let s = w .base + a .k in
     let z = c .before .before .before .lost-bad in (
       (omega (arith, h .1 .1 .0), omega (arith, h .1 .1 .1), λ q. q),
       λ ps sh T. passes-counted p (w .gone) (segmentIn p (a .image .now) ps w) s t T (λ rf.
-          let ct : counts p (w .gone) (segmentIn p (a .image .now) ps w) s ≡ true = counts-all p (viewOf p (a .image .now) ps) (w .gone) (w .seg) s (x .result) (y .result) (x .ensures .1 (segmentIn p (a .image .now) ps w) (w .base) (sh .2 rf) (h .1 .0 .4)) (y .ensures .0) (c .before .before .before .before .if1 .taken) in
+          let ct : counts p (w .gone) (segmentIn p (a .image .now) ps w) s ≡ true = sym (c .before .before .before .before .before .counts .ensures (segmentIn p (a .image .now) ps w) (w .base) (sh .2 rf) (h .1 .0 .4)) ∙ c .before .before .before .before .if1 .taken in
           (ct, sym (z .ensures ps sh rf ct) ∙ c .before .before .if2 .left)),
     )
+
+chunks-requires : tie.Need-chunks-requires
+chunks-requires c κs =
+    let a = c .before .before .before .before .args in
+    let p = a .p in
+    let w = a .w in
+    let t = a .t in
+    let h = c .before .before .before .before .pre in
+    (h .0, (h .1 .0 .1, omega (arith, group-len-le p (w .base), h .1 .0 .4, ranged p (h .0) .group-high)))
 
 returns-3 : tie.Need-returns-3
 returns-3 c =
@@ -113,18 +117,16 @@ returns-3 c =
     let w = a .w in
     let t = a .t in
     let h = c .before .before .before .before .before .before .pre in
-    let x = c .before .before .before .chunks in
-    let y = c .before .before .present in
-    let s = w .base + a .k in (
+    let s = w .base + a .k in
+    let x = c .before .chunks in (
       (omega (arith, h .1 .1 .0), omega (arith, h .1 .1 .1), λ q. q),
-      λ ps sh T. passes-none p (w .gone) (segmentIn p (a .image .now) ps w) s t T (λ rf. (
-        counts-few p (viewOf p (a .image .now) ps) (w .gone) (w .seg) s (x .result) (y .result) (x .ensures .1 (segmentIn p (a .image .now) ps w) (w .base) (sh .2 rf) (h .1 .0 .4)) (y .ensures .0) (c .before .if1 .left),
-        loose-none p (viewOf p (a .image .now) ps) (w .gone) (w .seg) s (x .result) (y .result) (x .ensures .1 (segmentIn p (a .image .now) ps w) (w .base) (sh .2 rf) (h .1 .0 .4)) (y .ensures .0) (c .if3 .taken),
-      )),
+      λ ps sh T. passes-none p (w .gone) (segmentIn p (a .image .now) ps w) s t T (λ rf.
+          let ct : counts p (w .gone) (segmentIn p (a .image .now) ps w) s ≡ false = sym (c .before .before .before .counts .ensures (segmentIn p (a .image .now) ps w) (w .base) (sh .2 rf) (h .1 .0 .4)) ∙ c .before .before .if1 .left in
+          (ct, loose-none p (viewOf p (a .image .now) ps) (w .gone) (w .seg) s (x .result) (length (present p (w .gone))) (x .ensures .1 (segmentIn p (a .image .now) ps w) (w .base) (sh .2 rf) (h .1 .0 .4)) refl (c .if3 .taken))),
     )
 
-add-t8 : tie.Need-add-t8
-add-t8 c =
+add-t12 : tie.Need-add-t12
+add-t12 c =
     let a = c .before .before .before .before .before .before .before .args in
     let p = a .p in
     let w = a .w in
@@ -140,29 +142,27 @@ returns-4 c =
     let w = a .w in
     let t = a .t in
     let h = c .before .before .before .before .before .before .before .pre in
-    let x = c .before .before .before .before .chunks in
-    let y = c .before .before .before .present in
-    let s = w .base + a .k in (
+    let s = w .base + a .k in
+    let x = c .before .before .chunks in (
       (omega (arith, h .1 .1 .0), omega (arith, h .1 .1 .1), λ q. q),
-      λ ps sh T. passes-loose p (w .gone) (segmentIn p (a .image .now) ps w) s t T (λ rf. (
-        counts-few p (viewOf p (a .image .now) ps) (w .gone) (w .seg) s (x .result) (y .result) (x .ensures .1 (segmentIn p (a .image .now) ps w) (w .base) (sh .2 rf) (h .1 .0 .4)) (y .ensures .0) (c .before .before .if1 .left),
-        loose-some p (viewOf p (a .image .now) ps) (w .gone) (w .seg) s (x .result) (y .result) (x .ensures .1 (segmentIn p (a .image .now) ps w) (w .base) (sh .2 rf) (h .1 .0 .4)) (y .ensures .0) (c .before .before .if1 .left) (c .before .if3 .left),
-      )),
+      λ ps sh T. passes-loose p (w .gone) (segmentIn p (a .image .now) ps w) s t T (λ rf.
+          let ct : counts p (w .gone) (segmentIn p (a .image .now) ps w) s ≡ false = sym (c .before .before .before .before .counts .ensures (segmentIn p (a .image .now) ps w) (w .base) (sh .2 rf) (h .1 .0 .4)) ∙ c .before .before .before .if1 .left in
+          (ct, loose-counts p (viewOf p (a .image .now) ps) (w .gone) (w .seg) s (x .result) (length (present p (w .gone))) (x .ensures .1 (segmentIn p (a .image .now) ps w) (w .base) (sh .2 rf) (h .1 .0 .4)) refl ct (c .before .if3 .left))),
     )
 
 pub survey-stripe-spec : {M : Type 1} → statement M
 survey-stripe-spec =
     tie.close
     (tie.spec
-    chunks-requires
-    present-requires
+    counts-requires
     lost-bad-requires
     bad-tally-requires
     returns
+    add-t9
+    add-t10
     add-t11
-    add-t12
-    add-t13
     returns-2
+    chunks-requires
     returns-3
-    add-t8
+    add-t12
     returns-4)

@@ -1,0 +1,51 @@
+use mathlib.Core.Path.{ap, _∙_}
+use Prim.Native.Nat.{ℕ}
+use borrow.Author.Needs.{needs}
+use Rattle.defs.specs.Bytes.{part}
+use Rattle.defs.specs.Layout.{recordOf}
+use Rattle.laws.specs.Geometry.{ranged}
+use Rattle.laws.specs.Splice.{part-lent}
+use Rattle.stored.specs.Stored.{record-by}
+use Rattle.groups.proofs.record_of.Statement.{statement}
+use Rattle.groups.proofs.record_of.Tie as tie
+
+record-byte-requires : tie.Need-record-byte-requires
+record-byte-requires c κs = search needs
+
+add-end : tie.Need-add-end
+add-end c = search needs
+
+sub-read-record : tie.Need-sub-read-record
+sub-read-record c = search needs
+
+part-read-record-start : tie.Need-part-read-record-start
+part-read-record-start c = search needs
+
+part-read-record-end : tie.Need-part-read-record-end
+part-read-record-end c = search needs
+
+read-record-requires : tie.Need-read-record-requires
+read-record-requires c κs = search needs
+
+returns : tie.Need-returns
+returns c = λ ps hp.
+    let a = c .before .before .before .before .args in
+    let p = a .p in
+    let r = ranged p (c .before .before .before .before .pre .0) in
+    let h = c .before .before .before .before .pre .1 in
+    let im = a .image .now in
+    c .read-record .ensures
+    ∙ ap recordOf (part-lent (c .before .before .record-byte .result) 20 im ∙ ap (λ (x : ℕ). part x 20 im) (c .before .before .record-byte .ensures .0))
+    ∙ record-by p r im ps (h .0) hp (a .drive) (a .zone) (h .1) (h .2) (a .full) (a .offset) (h .3)
+
+pub record-of-spec : {M : Type 1} → statement M
+record-of-spec =
+    tie.close
+    (tie.spec
+    record-byte-requires
+    add-end
+    sub-read-record
+    part-read-record-start
+    part-read-record-end
+    read-record-requires
+    returns)
