@@ -401,7 +401,8 @@ pub struct Told {
     pub first: Place,
 }
 
-// The sealed segment with fewest entries in the table, if each of its entries is a live block by its record, and the others have as many.
+// The sealed segment with fewest entries in the table, if each of its entries is a live block by its record, and the others have as many. Where
+// many records would have to be read it is not looked at.
 fn look_by_records(p: Params, image: &[u8], pointers: &[u8], addresses: &[u8], state: State) -> Told
     requires { ⌜ inRange p ≡ true ⌝ }
     requires { ⌜ Whole p (mkDisk (now image) (now pointers)) ⌝ }
@@ -424,6 +425,14 @@ fn look_by_records(p: Params, image: &[u8], pointers: &[u8], addresses: &[u8], s
     if n == 0 {
         return Told {
             sure: true,
+            segment: g,
+            live: 0,
+            first: none,
+        };
+    }
+    if !vouch::is_quick(p, &used, n) {
+        return Told {
+            sure: false,
             segment: g,
             live: 0,
             first: none,

@@ -170,3 +170,31 @@ pub fn is_fewest(
     }
     true
 }
+
+// How many of a segment's records are read until n + 1 of its entries are found, if they lie evenly.
+fn asked(records: usize, n: usize, entries: usize) -> usize
+    requires { ⌜ (records ≤ 524280) × (n ≤ 468378645) ⌝ }
+    ensures { λ r. ⌜ r ≤ 245561556524880 ⌝ }
+{
+    if entries <= n {
+        return records;
+    }
+    records * (n + 1) / entries
+}
+
+// Whether the records are likely to tell that a segment with n entries has fewest live blocks in less time than passes over the table, one for
+// each 2,097,152 places. It is a guess by measure: a record takes as long as some entries.
+pub fn is_quick(p: Params, used: &[usize], n: usize) -> bool
+    requires { ⌜ inRange p ≡ true ⌝ }
+    requires { ⌜ (p .Z ≤ length (now used)) × (n ≤ 468378645) ⌝ }
+{
+    let records = p.N * p.S;
+    let passes = counts::places(p) / 2097152 + 1;
+    let mut t = 0;
+    let mut g = 0;
+    while g < p.Z {
+        t += asked(records, n, used[g]);
+        g += 1;
+    }
+    5 * t <= 2 * passes * p.L
+}
