@@ -1,21 +1,20 @@
 -- A change of the state written into its bytes: the edits of its numbers in front, of an eighth's marks and of its cells (01, The array; Write; Landing). Assumes nothing.
 use mathlib.Core.Path.{_≡_, refl, sym, ap, _∙_}
-use mathlib.Core.List.{List, [], _∷_, _++_, append-nil}
+use mathlib.Core.List.{List, [], _∷_, append-nil}
 use mathlib.Core.Bool.{Bool, cond}
-use Prim.Native.Nat.{ℕ, suc, _+_, _*_, _≤_, _<_}
+use Prim.Native.Nat.{ℕ, _+_, _*_, _≤_, _<_}
 use native.Mathlib.Omega.{arith}
 use native.Mathlib.Nat.{add-zero, one-mul}
 use borrow.Author.Tests.{le-ltb}
 use lib.Dec.{lit<, lit≤}
-use lib.ListN.{length, take, drop, set, replicate, length-set}
-use lib.Seq.{set-split}
+use lib.ListN.{length, set, replicate, length-set}
 use Rattle.defs.specs.Bytes.{toLe, splice}
 use Rattle.defs.specs.Lists.{flat, total, zipped}
 use Rattle.defs.specs.Memory.{mkState, slotCount, cell, idleState, zeroState, sectionLen, stateSections, stateLen, stateNumbers, sectionBytes, stateBytes, stateOf}
 use Rattle.defs.specs.declared.State.{State}
 use Rattle.codec.specs.Codec.{Counted, sectionsBytes, stateOf-counted, stateBytes-stateOf, AllBytes, byte-written}
 use Rattle.codec.specs.Edits.{Edit, edit, AllFit, made, madeAll, writtenAll, edits-bytes, edits-counted}
-use Rattle.rows.specs.Rows.{Sized, RowSized, putRow, putFront, changed, changed-row}
+use Rattle.rows.specs.Rows.{Sized, RowSized, one-set, putRow, putFront, changed, changed-row}
 use Rattle.rows.specs.declared.Change.{Change}
 use Rattle.rows.specs.declared.Row.{Row}
 
@@ -57,12 +56,6 @@ marks-written l i f w m hf hw hm h =
     (mark-written l₁ 66 i w hw n₁ ∙ ap (λ (x : List ℕ). splice x (66 + 1 * i) (flat (toLe 1) (w ∷ []))) (mark-written l 58 i f hf (omega arith)))
 
 -- ---- and the edits make the change
-
-one-set : (ns : List ℕ) (i v : ℕ) → i < length ns → splice ns i (v ∷ []) ≡ set ns i v
-unfolding splice
-one-set ns i v h =
-    let e : i + 1 ≡ suc i = omega arith in
-    ap (λ (x : ℕ). take i ns ++ (v ∷ drop x ns)) e ∙ sym (set-split ns i v h)
 
 module _ (st : State) (c : Change) where
   -- the numbers in front

@@ -2,10 +2,10 @@
 use mathlib.Core.List.{List, [], _∷_, _++_}
 use mathlib.Core.Bool.{Bool, true, false, cond}
 use mathlib.Core.Path.{_≡_, refl, sym, ap, ap₂, _∙_}
-use Prim.Native.Nat.{ℕ, _+_, _*_, _≤_, _<_}
+use Prim.Native.Nat.{ℕ, suc, _+_, _*_, _≤_, _<_}
 use lib.Dec.{ltb}
-use lib.ListN.{length, getD, take, set, replicate, length-set}
-use lib.Seq.{take-all, take-suc-set, set-getD, set-set, getD-set-same}
+use lib.ListN.{length, getD, take, drop, set, replicate, length-set}
+use lib.Seq.{take-all, take-suc-set, set-split, set-getD, set-set, getD-set-same}
 use native.Mathlib.Nat.{add-zero}
 use native.Mathlib.Numerals.{add-one}
 use native.Mathlib.Omega.{arith}
@@ -20,7 +20,7 @@ use Rattle.defs.specs.Bytes.{part, splice}
 use Rattle.defs.specs.Calls.{After, mkAfter}
 use Rattle.defs.specs.Drives.{Disk, mkDisk}
 use Rattle.defs.specs.Memory.{mkMemory, mkState, slotCount, cell, zeroState, stripeIn, filledIn, landedIn}
-use Rattle.laws.specs.Splice.{length-part, length-splice, part-splice, splice-part, splice-again}
+use Rattle.laws.specs.Splice.{length-part, length-splice, part-splice, splice-part, splice-inner, splice-again}
 use Rattle.laws.specs.Turns.{part-more}
 
 -- 01, Write: eighth i of the state
@@ -102,7 +102,7 @@ pub record RowSized (r : Row) : Type 0 where
   pub offsets : length (r .offsets) ≡ 8
 
 -- eight of the 64
-eighth-fits : (i : ℕ) (l : List ℕ) → i < 8 → length l ≡ 64 → cell i 0 + 8 ≤ length l
+pub eighth-fits : (i : ℕ) (l : List ℕ) → i < 8 → length l ≡ 64 → cell i 0 + 8 ≤ length l
 unfolding cell
 eighth-fits i l h e = omega arith
 
@@ -116,6 +116,27 @@ pub row-taken : (a m : List ℕ) (i k : ℕ) → k ≡ 8 → length a ≡ 8 → 
 unfolding cell
 row-taken a m i k h e f =
     sym (take-all k a (omega arith)) ∙ f ∙ ap₂ (λ (x n : ℕ). part x n m) (sym (add-zero (8 * i))) h
+
+-- ---- one number
+
+-- a run of one number
+pub one-set : (ns : List ℕ) (i v : ℕ) → i < length ns → splice ns i (v ∷ []) ≡ set ns i v
+unfolding splice
+one-set ns i v h =
+    let e : i + 1 ≡ suc i = omega arith in
+    ap (λ (x : ℕ). take i ns ++ (v ∷ drop x ns)) e ∙ sym (set-split ns i v h)
+
+-- one cell of an eighth
+pub cell-put : (l : List ℕ) (i k v : ℕ) → i < 8 → k < 8 → length l ≡ 64 → splice l (cell i 0) (set (part (cell i 0) 8 l) k v) ≡ set l (cell i k) v
+unfolding cell
+cell-put l i k v h g e =
+    let at = 8 * i + 0 in
+    let s : List ℕ = part at 8 l in
+    let fit : at + 8 ≤ length l = eighth-fits i l h e in
+    let n : length s ≡ 8 = length-part at 8 l fit in
+    let m : at + k ≡ 8 * i + k = omega arith in
+    ap (splice l at) (sym (one-set s k v (omega arith))) ∙ sym (splice-inner l at s k (v ∷ []) (omega arith) (omega arith))
+    ∙ ap₂ (λ (x : List ℕ) (y : ℕ). splice x y (v ∷ [])) (splice-part l at 8 fit) m ∙ one-set l (8 * i + k) v (omega arith)
 
 -- ---- laws of an eighth
 
