@@ -107,7 +107,7 @@ as-sized st s o n z = record {
   offsets = z .offsets;
 }
 
-row-filled : (st : State) (i : ℕ) → rowOf st i .filled ≡ filledIn st i
+pub row-filled : (st : State) (i : ℕ) → rowOf st i .filled ≡ filledIn st i
 unfolding rowOf
 row-filled st i = refl
 
@@ -199,6 +199,17 @@ module _ (p : Params) (v : View) (st : State) where
         go : (b : Bool) → RowSized (cond b (begunRow (rowOf st (slotFor p st)) (st₁ .next)) (rowOf st (slotFor p st)))
         go true = begun-sized (rowOf st (slotFor p st)) (st₁ .next) (row-sized st (slotFor p st) h sized)
         go false = row-sized st (slotFor p st) h sized
+
+    -- it has room for the block
+    pub start-room : dataCount p < 8 → startRow .filled < 8
+    unfolding begunRow rowOf
+    start-room d = go (test (not (hasFilling p st)))
+      where
+        go : Test (not (hasFilling p st)) → startRow .filled < 8
+        go (yes! e) = subst (λ (x : Bool). cond x (begunRow (rowOf st (slotFor p st)) (st₁ .next)) (rowOf st (slotFor p st)) .filled < 8) (sym e) (omega arith)
+        go (no! e) =
+            subst (λ (x : Bool). cond x (begunRow (rowOf st (slotFor p st)) (st₁ .next)) (rowOf st (slotFor p st)) .filled < 8) (sym e)
+            (omega (arith, slot-fills e h))
 
     slot-free : hasFilling p st ≡ false → freeSlot st ≡ slotFor p st
     unfolding slotFor

@@ -6,7 +6,8 @@ ghost use mathlib.Core.List.{List};
 ghost use Prim.Native.Nat.{ℕ, suc, _*_, _<_};
 ghost use lib.Bits.{bitOr};
 ghost use lib.Dec.{leb, eqb};
-ghost use lib.ListN.{length};
+ghost use lib.ListN.{length, replicate};
+ghost use Rattle.defs.specs.declared.Answer.the-variants.{Cut};
 ghost use Rattle.defs.specs.Lists.{any, only};
 ghost use Rattle.defs.specs.Counts.{lastCount};
 ghost use Rattle.defs.specs.Drives.{viewOf, mkDisk, emptyZones};
@@ -16,12 +17,14 @@ ghost use Rattle.defs.specs.Write.{mustOpen, opens, noStamp, otherGroup, mustWa
 ghost use Rattle.filling.specs.Aims.{aimOf};
 ghost use Rattle.filling.specs.Entries.{addedRow, begunRow, driveFor, entered, placedRow, sentRow};
 ghost use Rattle.filling.specs.Left.{Opening, placedBy, takenBy};
-ghost use Rattle.rows.specs.Rows.{behind};
+ghost use Rattle.rows.specs.Rows.{behind, keptAs};
 ghost use Rattle.views.specs.Views.{Whole};
 use defs::Address;
+use defs::Answer;
 use defs::Params;
 use defs::Serial;
 use defs::Stamp;
+use rows::Change;
 use rows::Front;
 use rows::Row;
 
@@ -266,6 +269,16 @@ pub fn open(p: Params, image: &mut [u8], pointers: &mut [u8], f: Front, a: Aim, 
         opened: (g + 1) as u32,
         next: 0,
     }
+}
+
+// 01, Store count: the tables are all zeros, other buffers as they came.
+pub fn cut(addresses: &mut [u8], compact: &mut [u8], f: Front) -> Change
+    ensures { λ r. ⌜ r ≡ keptAs Cut f ⌝ }
+    ensures { λ _. ⌜ (now (addresses .exit) ≡ replicate (length (now (addresses .entry))) 0) × (now (compact .exit) ≡ replicate (length (now (compact .entry))) 0) ⌝ }
+{
+    blocks::clear(addresses);
+    blocks::clear(compact);
+    rows::kept(Answer::Cut, f)
 }
 
 // ---- a data position filled
