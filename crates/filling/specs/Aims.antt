@@ -34,7 +34,8 @@ room-test p k = go (decLt (k + 1) (p .N))
     go (no h) = le-ltb (k + 1) (p .N) (omega arith) ∙ ap not (sym (le-leb (p .N - 1) k (omega arith)))
 
 module _ (p : Params) (st : State) where
-  has-slot : ltb (fillingSlot p st) 8 ≡ hasFilling p st
+  -- the filling stripe has an eighth
+  pub has-slot : ltb (fillingSlot p st) 8 ≡ hasFilling p st
   unfolding fillingSlot hasFilling
   has-slot = ap (ltb (indexOf (isFilling p st) slots)) (sym length-slots) ∙ indexOf-any (isFilling p st) slots
 
