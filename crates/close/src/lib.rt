@@ -150,16 +150,7 @@ pub fn close(
 {
     let f = rows::front_of(state);
     let i = filling::filling_slot(p, f);
-    let c = checks(
-        p,
-        image,
-        pointers,
-        addresses,
-        compact,
-        inflight,
-        state,
-        i,
-    );
+    let c = checks(p, image, pointers, addresses, compact, inflight, state, i);
     if let Check::Fail(answer) = c {
         return rows::kept(answer, f);
     }

@@ -243,7 +243,14 @@ pub struct Opened {
 }
 
 // 01, Write: where no segment is open, headers in the lowest zone empty on all drives, under the next serial and the store count.
-pub fn open(p: Params, image: &mut [u8], pointers: &mut [u8], f: Front, a: Aim, count: u64) -> Opened
+pub fn open(
+    p: Params,
+    image: &mut [u8],
+    pointers: &mut [u8],
+    f: Front,
+    a: Aim,
+    count: u64,
+) -> Opened
     requires { ⌜ inRange p ≡ true ⌝ }
     requires { ⌜ Whole p (mkDisk (now image) (now pointers)) ⌝ }
     requires { ⌜ a .opens ≡ opens p (behind f) ⌝ }
@@ -310,7 +317,15 @@ fn added(row: Row, address: Address, stamp: Stamp, write: bool) -> Row
 }
 
 // 01, Write: the stripe with a block at its next data position; parity is worked out when the last data block is in.
-pub fn enter(p: Params, inflight: &mut [u8], row: Row, i: usize, address: Address, stamp: Stamp, write: bool) -> Row
+pub fn enter(
+    p: Params,
+    inflight: &mut [u8],
+    row: Row,
+    i: usize,
+    address: Address,
+    stamp: Stamp,
+    write: bool,
+) -> Row
     requires { ⌜ inRange p ≡ true ⌝ }
     requires { ⌜ (i < 8) × (row .filled < dataCount p) × (length (now inflight) ≡ inflightLen p) ⌝ }
     ensures { λ r. ⌜ r ≡ addedRow row (address .0) (stamp .0) (cond write 1 0) ⌝ }

@@ -87,7 +87,16 @@ fn checks(
 }
 
 // 01, Write: the block takes the next stamp; a segment is open for it.
-fn plan(p: Params, inflight: &mut [u8], row: Row, f: Front, a: Aim, o: Opened, address: Address, block: &[u8]) -> Change
+fn plan(
+    p: Params,
+    inflight: &mut [u8],
+    row: Row,
+    f: Front,
+    a: Aim,
+    o: Opened,
+    address: Address,
+    block: &[u8],
+) -> Change
     requires { ⌜ inRange p ≡ true ⌝ }
     requires { ⌜ (a .slot < 8) × (a .begins ≡ false → row .filled < dataCount p) × (o .next < 4294967295) × (f .stamp .0 < lastCount) ⌝ }
     requires { ⌜ (length (now inflight) ≡ inflightLen p) × (length (now block) ≡ p .B) ⌝ }

@@ -81,8 +81,7 @@ pad-all-requires c κs =
     let none! : refusal (s .args .p) (disk s) (memory s) ≡ none = sym (c .before .before .before .before .checks .ensures) ∙ ap checked (c .before .before .enum-told .given .1) in
     let r = ready (s .args .p) (disk s) (memory s) none! in
     let i = c .before .before .before .before .before .before .filling-slot .result in
-    let e : c .before .row-of .result .filled ≡ filledIn (s .args .state) i = ap (λ (x : Row). x .filled) (c .before .row-of .ensures) ∙ row-filled (s .args .state) i in
-    (
+    let e : c .before .row-of .result .filled ≡ filledIn (s .args .state) i = ap (λ (x : Row). x .filled) (c .before .row-of .ensures) ∙ row-filled (s .args .state) i in (
       r .ranged,
       (slot-low (s .args .p) (s .args .state) i (slot-of (c .before .before .before .before .before .before)) (r .filling), omega (arith, e, slot-open (s .args .p) (s .args .state) i (slot-of (c .before .before .before .before .before .before)) (r .filling)), r .inflight-long),
     )

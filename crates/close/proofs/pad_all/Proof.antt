@@ -44,8 +44,7 @@ loop-again : tie.Need-loop-again Inv-loop μ-loop
 loop-again c =
     let a = c .before .before .before .before .before .before .before .before .before .args in
     let l = c .before .before .before .before .before .loop in
-    let r = c .before .before .pad .ensures in
-    (
+    let r = c .before .before .pad .ensures in (
       omega (arith, low (c .before .before .before .before)),
       pad-filled (a .p) (a .i) (l .next) (l .inflight) (l .k) (l .inv .1) ∙ ap (λ (x : Row). x .filled) (sym (r .0)),
       c .before .before .pad .kept .1 .0 ∙ l .inv .2,

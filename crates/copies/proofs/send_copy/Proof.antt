@@ -53,8 +53,7 @@ open-requires : tie.Need-open-requires
 open-requires c κs =
     let s = c .before .before .before .before .before .before .before .before .before .before in
     let r = s .pre .0 in
-    let f = c .before .before .before .front-of in
-    (
+    let f = c .before .before .before .front-of in (
       r .in-range,
       (
         r .whole,

@@ -36,9 +36,11 @@ returns c =
     let a = c .before .before .before .before .before .before .before .before .before .args in
     let h = c .before .before .before .before .before .before .has-room in
     let f : h .result ≡ not (leb (dataCount (a .p)) (suc (a .row .filled))) = h .ensures ∙ ap (λ (x : Row). not (leb (dataCount (a .p)) (x .filled))) (c .before .before .before .before .before .before .before .added .ensures) in
-    let e : leb (dataCount (a .p)) (suc (a .row .filled)) ≡ true = not-false (leb (dataCount (a .p)) (suc (a .row .filled))) (sym f ∙ not-true (h .result) (c .before .before .before .before .before .if1 .taken)) in
-    (c .before .before .before .before .before .before .before .added .ensures, c .before .before .slot-parity .ensures ∙ ap (setSlotParity (a .p) (a .inflight .now) (a .i)) (c .before .before .before .before .whole .ensures)
-    ∙ ap (λ (x : Bool). cond x (setSlotParity (a .p) (a .inflight .now) (a .i) (a .row .number)) (a .inflight .now)) (sym e))
+    let e : leb (dataCount (a .p)) (suc (a .row .filled)) ≡ true = not-false (leb (dataCount (a .p)) (suc (a .row .filled))) (sym f ∙ not-true (h .result) (c .before .before .before .before .before .if1 .taken)) in (
+      c .before .before .before .before .before .before .before .added .ensures,
+      c .before .before .slot-parity .ensures ∙ ap (setSlotParity (a .p) (a .inflight .now) (a .i)) (c .before .before .before .before .whole .ensures)
+          ∙ ap (λ (x : Bool). cond x (setSlotParity (a .p) (a .inflight .now) (a .i) (a .row .number)) (a .inflight .now)) (sym e),
+    )
 
 returns-2 : tie.Need-returns-2
 unfolding entered addedRow

@@ -35,8 +35,7 @@ header-stores-requires c κs =
     let a = s .args in
     let e : a .a .opens ≡ true = not-false (a .a .opens) (c .before .before .before .before .before .if1 .left) in
     let l = c .before .before .before .lowest-empty in
-    let g : l .result ≡ firstOr 0 (emptyZones (a .p) (viewOf (a .p) (a .image .now) (a .pointers .now))) = l .ensures .0 (a .image .now) (s .pre .1 .0 .image-long) in
-    (
+    let g : l .result ≡ firstOr 0 (emptyZones (a .p) (viewOf (a .p) (a .image .now) (a .pointers .now))) = l .ensures .0 (a .image .now) (s .pre .1 .0 .image-long) in (
       s .pre .0,
       (
         s .pre .1 .0,

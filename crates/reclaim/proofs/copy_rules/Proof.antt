@@ -1,53 +1,72 @@
+-- `copy_rules`: the front and the aim are the state's; then the three rules. Assumes nothing.
+use Rattle.defs.specs.Drives.{viewOf}
+use Rattle.defs.specs.Write.{opens, noSerial, mustWait}
+use Rattle.filling.specs.Aims.{aimOf, front-aim, front-serial, front-wait}
+use Rattle.filling.specs.declared.Aim.{Aim}
+use Rattle.reclaim.specs.Choosing.{rules-serial, rules-wait, rules-open, rules-scarce, rules-pass}
 use borrow.Author.Needs.{needs}
+use borrow.Author.Tests.{not-true, not-false}
+use mathlib.Core.Path.{_≡_, sym, ap, _∙_}
 use Rattle.reclaim.proofs.copy_rules.Statement.{statement}
 use Rattle.reclaim.proofs.copy_rules.Tie as tie
-use Rattle.reclaim.proofs.copy_rules.Reads as reads
-use Rattle.reclaim.proofs.copy_rules.Lts as lts
-use Rattle.filling.proofs.aim_of.Reads as aim-of-reads
-use Rattle.filling.proofs.must_wait.Reads as must-wait-reads
-use Rattle.filling.proofs.no_serial.Reads as no-serial-reads
-use Rattle.filling.proofs.scarce.Reads as scarce-reads
-use Rattle.rows.proofs.front_of.Reads as front-of-reads
 
--- src/lib.rt:39:9
+-- what the tests say of the state
+aimed : (c : tie.After-aim-of) → c .aim-of .result ≡ aimOf (c .before .before .before .args .p) (c .before .before .before .args .state)
+aimed c = c .aim-of .ensures ∙ front-aim (c .before .before .before .args .p) (c .before .before .before .args .state) (c .before .front-of .result) (c .before .front-of .ensures)
+
+serial-is : (c : tie.After-no-serial) → noSerial (c .before .before .before .before .args .p) (c .before .before .before .before .args .state) ≡ c .no-serial .result
+serial-is c =
+    sym (front-serial (c .before .before .before .before .args .p) (c .before .before .before .before .args .state) (c .before .before .front-of .result) (c .before .before .front-of .ensures) (c .before .aim-of .result) (aimed (c .before)))
+    ∙ sym (c .no-serial .ensures)
+
+wait-is : (c : tie.After-must-wait) → mustWait (c .before .before .before .before .before .before .args .p) (c .before .before .before .before .before .before .args .state) ≡ c .must-wait .result
+wait-is c = sym (front-wait (c .before .before .before .before .before .before .args .p) (c .before .before .before .before .before .before .args .state) (c .before .before .before .before .front-of .result) (c .before .before .before .before .front-of .ensures)) ∙ sym (c .must-wait .ensures)
+
+opens-is : (c : tie.After-aim-of) → opens (c .before .before .before .args .p) (c .before .before .before .args .state) ≡ c .aim-of .result .opens
+opens-is c = ap (λ (x : Aim). x .opens) (sym (aimed c))
+
 front-of-requires : tie.Need-front-of-requires
 front-of-requires c κs = search needs
 
--- src/lib.rt:40:9
 aim-of-requires : tie.Need-aim-of-requires
 aim-of-requires c κs = search needs
 
--- src/lib.rt:41:8
 no-serial-requires : tie.Need-no-serial-requires
 no-serial-requires c κs = search needs
 
--- src/lib.rt:42:9
 returns : tie.Need-returns
-returns c = ?
+returns c =
+    let a = c .before .before .before .before .before .args in
+    λ im h. rules-serial (a .p) (viewOf (a .p) im (a .pointers .now)) (a .state) (serial-is (c .before) ∙ c .if1 .taken)
 
--- src/lib.rt:44:8
 must-wait-requires : tie.Need-must-wait-requires
-must-wait-requires c κs = search needs
+must-wait-requires c κs = (c .before .before .before .before .before .pre .0, c .before .before .aim-of .ensures)
 
--- src/lib.rt:45:9
 returns-2 : tie.Need-returns-2
-returns-2 c = ?
+returns-2 c =
+    let a = c .before .before .before .before .before .before .before .args in
+    λ im h. rules-wait (a .p) (viewOf (a .p) im (a .pointers .now)) (a .state) (serial-is (c .before .before .before) ∙ c .before .before .if1 .left) (wait-is (c .before) ∙ c .if2 .taken)
 
--- src/lib.rt:48:9
 returns-3 : tie.Need-returns-3
-returns-3 c = ?
+returns-3 c =
+    let a = c .before .before .before .before .before .before .before .before .before .args in
+    λ im h. rules-open (a .p) (viewOf (a .p) im (a .pointers .now)) (a .state) (serial-is (c .before .before .before .before .before) ∙ c .before .before .before .before .if1 .left) (wait-is (c .before .before .before) ∙ c .before .before .if2 .left)
+    (opens-is (c .before .before .before .before .before .before) ∙ not-true (c .before .before .before .before .before .before .aim-of .result .opens) (c .if3 .taken))
 
--- src/lib.rt:50:8
 scarce-requires : tie.Need-scarce-requires
 scarce-requires c κs = search needs
 
--- src/lib.rt:51:9
 returns-4 : tie.Need-returns-4
-returns-4 c = ?
+returns-4 c =
+    let a = c .before .before .before .before .before .before .before .before .before .before .before .args in
+    λ im h. rules-scarce (a .p) (viewOf (a .p) im (a .pointers .now)) (a .state) (serial-is (c .before .before .before .before .before .before .before) ∙ c .before .before .before .before .before .before .if1 .left) (wait-is (c .before .before .before .before .before) ∙ c .before .before .before .before .if2 .left)
+    (opens-is (c .before .before .before .before .before .before .before .before) ∙ not-false (c .before .before .before .before .before .before .before .before .aim-of .result .opens) (c .before .before .if3 .left)) (sym (c .before .scarce .ensures im h) ∙ c .if4 .taken)
 
--- src/lib.rt:34:1
 returns-5 : tie.Need-returns-5
-returns-5 c = ?
+returns-5 c =
+    let a = c .before .before .before .before .before .before .before .before .before .before .before .args in
+    λ im h. rules-pass (a .p) (viewOf (a .p) im (a .pointers .now)) (a .state) (serial-is (c .before .before .before .before .before .before .before) ∙ c .before .before .before .before .before .before .if1 .left) (wait-is (c .before .before .before .before .before) ∙ c .before .before .before .before .if2 .left)
+    (opens-is (c .before .before .before .before .before .before .before .before) ∙ not-false (c .before .before .before .before .before .before .before .before .aim-of .result .opens) (c .before .before .if3 .left)) (sym (c .before .scarce .ensures im h) ∙ c .if4 .left)
 
 pub copy-rules-spec : {M : Type 1} → statement M
 copy-rules-spec =

@@ -1,117 +1,129 @@
+use Rattle.defs.specs.Drives.{viewOf, Disk, mkDisk}
+use Rattle.defs.specs.Lists.Opt.{some}
+use Rattle.defs.specs.Memory.{Memory, mkMemory}
+use Rattle.defs.specs.Reclaim.{victim}
+use Rattle.reclaim.specs.Choosing.{refusal, Chose}
+use Rattle.reclaim.specs.Ends.{lent, copy-ready, reclaim-refused, reclaim-clear, reclaim-copy}
+use Rattle.reclaim.specs.declared.Choice.{Choice}
+use Rattle.rows.specs.declared.Change.{Change}
+use mathlib.Core.Path.{sym, ap, _∙_, subst}
 use borrow.Author.Needs.{needs}
 use Rattle.reclaim.proofs.reclaim.Statement.{statement}
 use Rattle.reclaim.proofs.reclaim.Tie as tie
-use Rattle.reclaim.proofs.reclaim.Reads as reads
-use Rattle.reclaim.proofs.reclaim.Lts as lts
-use Rattle.copies.proofs.copy_block.Reads as copy-block-reads
-use Rattle.reclaim.proofs.choose.Reads as choose-reads
-use Rattle.reclaim.proofs.reset_segment.Reads as reset-segment-reads
-use Rattle.rows.proofs.front_of.Reads as front-of-reads
-use Rattle.rows.proofs.kept.Reads as kept-reads
 
--- src/lib.rt:197:9
 choose-requires : tie.Need-choose-requires
 choose-requires c κs = search needs
 
--- src/lib.rt:199:24
 enum-known-c : tie.Need-enum-known-c
 enum-known-c c = search needs
 
--- src/lib.rt:199:54
 front-of-requires : tie.Need-front-of-requires
 front-of-requires c κs = search needs
 
--- src/lib.rt:199:35
 kept-requires : tie.Need-kept-requires
 kept-requires c κs = search needs
 
--- src/lib.rt:200:23
 enum-known-c-2 : tie.Need-enum-known-c-2
 enum-known-c-2 c = search needs
 
--- src/lib.rt:200:29
 reset-segment-requires : tie.Need-reset-segment-requires
-reset-segment-requires c κs = ?
+reset-segment-requires c κs =
+    let a = c .before .before .before .before .before .before .before .before .before .before .before .before .before .before .before .before .before .args in
+    let k : Disk = mkDisk (a .image .now) (a .pointers .now) in
+    let m : Memory = mkMemory (a .state) (a .addresses .now) (a .compact .now) (a .inflight .now) in
+    let v = viewOf (a .p) (a .image .now) (a .pointers .now) in
+    let q = c .before .before .before .before .c2 .given in
+    let h = subst (λ (x : Choice). Chose (a .p) v (a .state) (victim (a .p) v (a .addresses .now)) (refusal (a .p) k m) x) (q .1) (c .before .before .before .before .before .before .choose .ensures) in
+    let l = lent (a .p) k m (h .0) in
+    (l .in-range, (l .whole .pointers-long, l .addresses-long, l .compact-long, h .3))
 
--- src/lib.rt:201:22
 enum-known-c-3 : tie.Need-enum-known-c-3
 enum-known-c-3 c = search needs
 
--- src/lib.rt:201:28
 copy-block-requires : tie.Need-copy-block-requires
-copy-block-requires c κs = ?
+copy-block-requires c κs =
+    let a = c .before .before .before .before .before .before .before .before .before .before .before .before .before .before .before .before .before .before .before .args in
+    let k : Disk = mkDisk (a .image .now) (a .pointers .now) in
+    let m : Memory = mkMemory (a .state) (a .addresses .now) (a .compact .now) (a .inflight .now) in
+    let v = viewOf (a .p) (a .image .now) (a .pointers .now) in
+    let q = c .before .before .before .before .before .before .c3 .given in
+    let h = subst (λ (x : Choice). Chose (a .p) v (a .state) (victim (a .p) v (a .addresses .now)) (refusal (a .p) k m) x) (q .1) (c .before .before .before .before .before .before .before .before .choose .ensures) in
+    (copy-ready (a .p) k m (h .0) (h .1), (h .3, h .4))
 
--- src/lib.rt:185:1
 same-length : tie.Need-same-length
 same-length c = search needs
 
--- src/lib.rt:185:1
 same-length-2 : tie.Need-same-length-2
 same-length-2 c = search needs
 
--- src/lib.rt:185:1
 same-length-3 : tie.Need-same-length-3
 same-length-3 c = search needs
 
--- src/lib.rt:185:1
 same-length-4 : tie.Need-same-length-4
 same-length-4 c = search needs
 
--- src/lib.rt:185:1
 same-length-5 : tie.Need-same-length-5
 same-length-5 c = search needs
 
--- src/lib.rt:185:1
 returns : tie.Need-returns
-returns c = ?
+returns c =
+    let a = c .before .before .before .before .before .before .before .before .before .before .before .before .before .before .before .before .args in
+    let k : Disk = mkDisk (a .image .now) (a .pointers .now) in
+    let m : Memory = mkMemory (a .state) (a .addresses .now) (a .compact .now) (a .inflight .now) in
+    let v = viewOf (a .p) (a .image .now) (a .pointers .now) in
+    let q = c .before .before .before .c .given in
+    reclaim-refused (a .p) k m (a .count) (c .kept .result)
+    (subst (λ (x : Choice). Chose (a .p) v (a .state) (victim (a .p) v (a .addresses .now)) (refusal (a .p) k m) x) (q .1) (c .before .before .before .before .before .choose .ensures) ∙ ap (λ (x : Change). some (x .answer)) (sym (c .kept .ensures)))
 
--- src/lib.rt:185:1
 same-length-6 : tie.Need-same-length-6
 same-length-6 c = search needs
 
--- src/lib.rt:185:1
 same-length-7 : tie.Need-same-length-7
 same-length-7 c = search needs
 
--- src/lib.rt:185:1
 same-length-8 : tie.Need-same-length-8
 same-length-8 c = search needs
 
--- src/lib.rt:185:1
 same-length-9 : tie.Need-same-length-9
 same-length-9 c = search needs
 
--- src/lib.rt:185:1
 same-length-10 : tie.Need-same-length-10
 same-length-10 c = search needs
 
--- src/lib.rt:185:1
 returns-2 : tie.Need-returns-2
-returns-2 c = ?
+returns-2 c =
+    let a = c .before .before .before .before .before .before .before .before .before .before .before .before .before .before .before .before .before .before .before .before .before .before .before .before .args in
+    let k : Disk = mkDisk (a .image .now) (a .pointers .now) in
+    let m : Memory = mkMemory (a .state) (a .addresses .now) (a .compact .now) (a .inflight .now) in
+    let v = viewOf (a .p) (a .image .now) (a .pointers .now) in
+    let q = c .before .before .before .before .before .before .before .before .before .before .before .c2 .given in
+    let h = subst (λ (x : Choice). Chose (a .p) v (a .state) (victim (a .p) v (a .addresses .now)) (refusal (a .p) k m) x) (q .1) (c .before .before .before .before .before .before .before .before .before .before .before .before .before .choose .ensures) in
+    c .before .before .before .before .before .before .reset-segment .ensures (a .image .now) (a .inflight .now) ∙ reclaim-clear (a .p) k m (a .count) (q .0 .0) (h .0) (h .1) (h .2)
 
--- src/lib.rt:185:1
 same-length-11 : tie.Need-same-length-11
 same-length-11 c = search needs
 
--- src/lib.rt:185:1
 same-length-12 : tie.Need-same-length-12
 same-length-12 c = search needs
 
--- src/lib.rt:185:1
 same-length-13 : tie.Need-same-length-13
 same-length-13 c = search needs
 
--- src/lib.rt:185:1
 same-length-14 : tie.Need-same-length-14
 same-length-14 c = search needs
 
--- src/lib.rt:185:1
 same-length-15 : tie.Need-same-length-15
 same-length-15 c = search needs
 
--- src/lib.rt:185:1
 returns-3 : tie.Need-returns-3
-returns-3 c = ?
+returns-3 c =
+    let a = c .before .before .before .before .before .before .before .before .before .before .before .before .before .before .before .before .before .before .before .before .before .before .before .before .before .before .before .before .before .before .args in
+    let k : Disk = mkDisk (a .image .now) (a .pointers .now) in
+    let m : Memory = mkMemory (a .state) (a .addresses .now) (a .compact .now) (a .inflight .now) in
+    let v = viewOf (a .p) (a .image .now) (a .pointers .now) in
+    let q = c .before .before .before .before .before .before .before .before .before .before .before .before .before .before .before .before .before .c3 .given in
+    let h = subst (λ (x : Choice). Chose (a .p) v (a .state) (victim (a .p) v (a .addresses .now)) (refusal (a .p) k m) x) (q .1) (c .before .before .before .before .before .before .before .before .before .before .before .before .before .before .before .before .before .before .before .choose .ensures) in
+    c .before .before .before .before .before .before .before .before .before .before .copy-block .ensures ∙ reclaim-copy (a .p) k m (a .count) (q .0 .0 .0) (h .0) (h .1) (h .2)
 
 pub reclaim-spec : {M : Type 1} → statement M
 reclaim-spec =

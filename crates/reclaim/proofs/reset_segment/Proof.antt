@@ -1,61 +1,61 @@
+use Rattle.defs.specs.Drives.{mkDisk}
+use Rattle.defs.specs.Memory.{mkMemory}
+use Rattle.defs.specs.declared.Answer.the-variants.{Reset}
+use Rattle.laws.specs.Geometry.{ranged}
+use Rattle.reclaim.specs.Clearing.{reset-cut, reset-done}
+use Rattle.rows.specs.Rows.{keptAs}
+use Rattle.rows.specs.declared.Change.{Change}
+use mathlib.Core.Path.{ap, _∙_}
+use native.Mathlib.Omega.{arith}
 use borrow.Author.Needs.{needs}
 use Rattle.reclaim.proofs.reset_segment.Statement.{statement}
 use Rattle.reclaim.proofs.reset_segment.Tie as tie
-use Rattle.reclaim.proofs.reset_segment.Reads as reads
-use Rattle.reclaim.proofs.reset_segment.Lts as lts
-use Rattle.filling.proofs.cut.Reads as cut-reads
-use Rattle.reclaim.proofs.clear_rows.Reads as clear-rows-reads
-use Rattle.rows.proofs.front_of.Reads as front-of-reads
-use Rattle.rows.proofs.kept.Reads as kept-reads
-use Rattle.zones.proofs.reset_stores.Reads as reset-stores-reads
 
--- src/lib.rt:173:9
 front-of-requires : tie.Need-front-of-requires
 front-of-requires c κs = search needs
 
--- src/lib.rt:174:9
 reset-stores-requires : tie.Need-reset-stores-requires
 reset-stores-requires c κs = search needs
 
--- src/lib.rt:176:9
 cut-requires : tie.Need-cut-requires
 cut-requires c κs = search needs
 
--- src/lib.rt:176:9
 same-length : tie.Need-same-length
 same-length c = search needs
 
--- src/lib.rt:176:9
 same-length-2 : tie.Need-same-length-2
 same-length-2 c = search needs
 
--- src/lib.rt:176:9
 same-length-3 : tie.Need-same-length-3
 same-length-3 c = search needs
 
--- src/lib.rt:176:9
 returns : tie.Need-returns
-returns c = ?
+returns c =
+    let s = c .before .before .before .before .before .before .before .before .before .before .before .before .before .before .before .before in
+    let a = s .args in
+    let r = c .before .before .before .before .before .before .before .before .before .before .reset-stores in
+    let o = c .before .before .before .before .cut in
+    λ im fl. reset-cut (a .p) (a .count) (a .g) (mkDisk im (a .pointers .now)) (mkDisk im (r .last .1 .0)) (mkMemory (a .state) (a .addresses .now) (a .compact .now) fl) (r .result) (r .ensures im) (s .pre .1 .1) (s .pre .1 .2) (c .before .before .before .before .before .before .before .if1 .taken)
+    (o .result) (o .last .0) (o .last .1 .0) (ap (λ (x : Change). x .answer) (o .ensures .0)) (o .ensures .1 .0) (o .ensures .1 .1)
 
--- src/lib.rt:178:5
 clear-rows-requires : tie.Need-clear-rows-requires
 clear-rows-requires c κs = search needs
 
--- src/lib.rt:179:5
 kept-requires : tie.Need-kept-requires
 kept-requires c κs = search needs
 
--- src/lib.rt:160:1
 same-length-4 : tie.Need-same-length-4
 same-length-4 c = search needs
 
--- src/lib.rt:160:1
 same-length-5 : tie.Need-same-length-5
 same-length-5 c = search needs
 
--- src/lib.rt:160:1
 returns-2 : tie.Need-returns-2
-returns-2 c = ?
+returns-2 c =
+    let a = c .before .before .before .before .before .before .before .before .before .before .before .before .before .before .args in
+    let r = c .before .before .before .before .before .before .before .before .reset-stores in
+    λ im fl. reset-done (a .p) (a .count) (a .g) (mkDisk im (a .pointers .now)) (mkDisk im (r .last .1 .0)) (mkMemory (a .state) (a .addresses .now) (a .compact .now) fl) (r .result) (r .ensures im) (c .before .before .before .before .before .if1 .left)
+    (c .kept .result) (c .kept .ensures ∙ ap (keptAs (Reset (a .g))) (c .before .before .before .before .before .before .before .before .before .before .front-of .ensures)) (c .before .before .before .clear-rows .last .1 .0) (c .before .before .before .clear-rows .ensures)
 
 pub reset-segment-spec : {M : Type 1} → statement M
 reset-segment-spec =

@@ -27,8 +27,7 @@ returns c =
     let n = add-one t in
     let s = c .before .before .before .before .before .send in
     let q : record { row = s .result .row; next = s .result .next; inflight = s .last .1 .0; drive = s .result .drive } ≡ sentRow (a .p) (a .row) (a .inflight .now) (a .a .slot) (a .a .begins) (a .o .next) (a .address .0) (suc t) 1 (a .block .now) =
-    s .ensures ∙ ap (λ (x : ℕ). sentRow (a .p) (a .row) (a .inflight .now) (a .a .slot) (a .a .begins) (a .o .next) (a .address .0) x 1 (a .block .now)) n in
-    (
+    s .ensures ∙ ap (λ (x : ℕ). sentRow (a .p) (a .row) (a .inflight .now) (a .a .slot) (a .a .begins) (a .o .next) (a .address .0) x 1 (a .block .now)) n in (
       λ j. record {
         answer = Sent (aStamp (n j)) (q j .row .number) (q j .drive);
         stamp = aStamp (n j);

@@ -97,8 +97,7 @@ open-requires c κs =
     let f = c .before .before .before .before .before .before .before .before .before .before .before .front-of in
     let g = c .before .before .before .before .before .before .before .before .before .before .aim-of in
     let none! : refusal (a .p) (disk s) (memory s) (a .address .0) (a .block .now) ≡ none = sym (c .before .before .before .before .checks .ensures) ∙ ap checked (c .before .before .enum-told .given .1) in
-    let r = ready (a .p) (disk s) (memory s) (a .address .0) (a .block .now) none! in
-    (
+    let r = ready (a .p) (disk s) (memory s) (a .address .0) (a .block .now) none! in (
       r .ranged,
       (
         r .whole,
@@ -160,12 +159,11 @@ plan-requires c κs =
     let o = c .before .before .before .before .before .before .before .«open» in
     let f = c .before .before .before .before .before .before .before .before .before .before .before .before .before .before .before .before .before .before .before .front-of in
     let k′ : Disk = mkDisk (o .last .1 .0) (o .last .1 .1 .0) in
-    let h : Opening (a .p) (a .state) (a .count) (disk s) (o .result) k′ = opening-front (a .p) (a .state) (a .count) (disk s) (o .result) k′ (subst (λ (x : Front). Opening (a .p) (behind x) (a .count) (disk s) (o .result) k′) (f .ensures) (o .ensures)) in
-    (
+    let h : Opening (a .p) (a .state) (a .count) (disk s) (o .result) k′ = opening-front (a .p) (a .state) (a .count) (disk s) (o .result) k′ (subst (λ (x : Front). Opening (a .p) (behind x) (a .count) (disk s) (o .result) k′) (f .ensures) (o .ensures)) in (
       r .ranged,
       (
         plan-asks (a .p) (disk s) (memory s) (a .address .0) (a .block .now) (a .count) none! (o .result) k′ h (f .result) (f .ensures) (c .before .before .before .before .before .before .before .before .before .before .before .before .before .before .before .before .before .before .aim-of .result) (aimed (c .before .before .before .before .before .before .before .before .before .before .before .before .before .before .before .before .before .before))
-        (c .before .row-of .result) (c .before .row-of .ensures) (stamp-fits s),
+            (c .before .row-of .result) (c .before .row-of .ensures) (stamp-fits s),
         (r .inflight-long, r .block-long),
       ),
     )
