@@ -184,7 +184,7 @@ pub extern "C" fn sorgizhed_write(
         return told::short_of(shape::in_range(p));
     }
     let before = codec::decode(state);
-    let done = write::write(
+    let change = write::write(
         p,
         image,
         pointers,
@@ -196,7 +196,7 @@ pub extern "C" fn sorgizhed_write(
         block,
         count,
     );
-    told::finish(state, done)
+    told::apply(state, change)
 }
 
 // The first read of the host: where the block lies in the image.
@@ -317,8 +317,8 @@ pub extern "C" fn sorgizhed_close(
         return told::short_of(shape::in_range(p));
     }
     let before = codec::decode(state);
-    let done = close::close(p, image, pointers, addresses, compact, inflight, before);
-    told::finish(state, done)
+    let change = close::close(p, image, pointers, addresses, compact, inflight, before);
+    told::apply(state, change)
 }
 
 // A landing of the host.
@@ -400,7 +400,7 @@ pub extern "C" fn sorgizhed_reclaim(
         return told::short_of(shape::in_range(p));
     }
     let before = codec::decode(state);
-    let done = reclaim::reclaim(
+    let change = reclaim::reclaim(
         p,
         image,
         pointers,
@@ -410,7 +410,7 @@ pub extern "C" fn sorgizhed_reclaim(
         before,
         count,
     );
-    told::finish(state, done)
+    told::apply(state, change)
 }
 
 // A restart of the host: drive missing is gone; 255 names none.

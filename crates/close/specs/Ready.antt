@@ -2,12 +2,12 @@
 use Rattle.close.specs.Order.{refusal, isLeft}
 use Rattle.plans.specs.Slots.{filling-lt, filling-is, filling-room}
 use Rattle.defs.specs.Calls.{Check}
-use mathlib.Core.Path.{_≡_, refl, sym, subst}
+use mathlib.Core.Path.{_≡_, refl, sym, ap, _∙_, subst}
 use mathlib.Core.List.{List, [], _∷_, _++_}
 use mathlib.Core.Bool.{Bool, true, false, cond, not, _&&_, _||_}
 use Prim.Native.Nat.{ℕ, _≤_, _<_}
 use native.Mathlib.Omega.{arith}
-use lib.Dec.{eqb}
+use lib.Dec.{ltb, eqb}
 use lib.ListN.{length}
 use Rattle.defs.specs.declared.Params.{Params}
 use Rattle.defs.specs.declared.State.{State}
@@ -20,6 +20,7 @@ use Rattle.defs.specs.Memory.{Memory, filledIn, fillingSlot, hasFilling, stateF
 use Rattle.defs.specs.Params.{dataCount, inRange, inflightLen}
 use Rattle.defs.specs.Reclaim.{tableFaults}
 use Rattle.defs.specs.Write.{scarce}
+use Rattle.filling.specs.Aims.{has-slot}
 use Rattle.laws.specs.Ranges.{not-both}
 use Rattle.views.specs.Views.{seen}
 use Rattle.plans.specs.Refusals.{rule-free}
@@ -68,3 +69,7 @@ module _ (p : Params) (st : State) (i : ℕ) (e : i ≡ fillingSlot p st) (h : h
   slot-open =
       let q : filledIn st (fillingSlot p st) < dataCount p = filling-room p st (fillingSlot p st) (filling-is p st (filling-lt p st h)) in
       subst (λ (x : ℕ). filledIn st x ≤ dataCount p) (sym e) (omega (arith, q))
+
+-- whether a stripe is filling
+pub slot-is : (p : Params) (st : State) (i : ℕ) → i ≡ fillingSlot p st → ltb i 8 ≡ hasFilling p st
+slot-is p st i e = ap (λ (x : ℕ). ltb x 8) e ∙ has-slot p st

@@ -3,30 +3,31 @@ ghost use mathlib.Core.Path.{_≡_};
 ghost use mathlib.Core.Bool.{true, not};
 ghost use mathlib.Core.List.{[], _∷_, _++_};
 ghost use Prim.Native.Nat.{ℕ, _-_, _≤_, _<_};
-ghost use lib.ListN.{length, replicate};
-ghost use Rattle.calls.specs.Left.{checked, after};
+ghost use lib.Dec.{ltb};
+ghost use lib.ListN.{length};
+ghost use Rattle.calls.specs.Left.{checked};
 ghost use Rattle.close.specs.Order.{refusal};
+ghost use Rattle.close.specs.Pads.{padOne, paddedRow};
 ghost use Rattle.defs.specs.Calls.{firstRefusal};
 ghost use Rattle.defs.specs.Calls.Check.{rule, zones};
-ghost use Rattle.defs.specs.Closing.{padded};
-ghost use Rattle.defs.specs.Counts.{paddingAddress};
 ghost use Rattle.defs.specs.Drives.{viewOf, mkDisk};
 ghost use Rattle.defs.specs.Engine.{callDisk};
 ghost use Rattle.defs.specs.Engine.Call.{close};
 ghost use Rattle.defs.specs.Lists.{isNil};
-ghost use Rattle.defs.specs.Memory.{mkMemory, filledIn, stateFaults};
+ghost use Rattle.defs.specs.Memory.{mkMemory, fillingSlot, stateFaults};
 ghost use Rattle.defs.specs.Params.{inRange, dataCount, addressesLen, inflightLen};
 ghost use Rattle.defs.specs.Reclaim.{tableFaults, victim, idle};
-ghost use Rattle.defs.specs.Write.{placed};
+ghost use Rattle.rows.specs.Rows.{afterChange};
 ghost use Rattle.views.specs.Views.{Whole};
 use calls::Check;
-use calls::Done;
 use defs::Address;
 use defs::Answer;
 use defs::Params;
 use defs::Place;
 use defs::Stamp;
 use defs::State;
+use rows::Change;
+use rows::Row;
 
 // 01, Refusals, 5: whether the segment that reclaim would take has a live block not in flight.
 fn is_left(p: Params, image: &[u8], pointers: &[u8], addresses: &[u8], state: State) -> bool
@@ -58,7 +59,13 @@ fn scarce_checks(p: Params, image: &[u8], pointers: &[u8], addresses: &[u8], sta
     Check::Pass
 }
 
-// 01, Refusals: the checks of a closing, in order.
+fn is_slot(slot: usize) -> bool
+    ensures { λ r. ⌜ r ≡ ltb slot 8 ⌝ }
+{
+    slot < 8
+}
+
+// 01, Refusals: the checks of a closing, in order; slot: the filling stripe's eighth.
 fn checks(
     p: Params,
     image: &[u8],
@@ -67,7 +74,9 @@ fn checks(
     compact: &[u8],
     inflight: &[u8],
     state: State,
+    slot: usize,
 ) -> Check
+    requires { ⌜ slot ≡ fillingSlot p state ⌝ }
     ensures { λ r. ⌜ checked r ≡ refusal p (mkDisk (now (image .entry)) (now (pointers .entry))) (mkMemory state (now (addresses .entry)) (now (compact .entry)) (now (inflight .entry))) ⌝ }
 {
     if !shape::in_range(p) {
@@ -79,7 +88,7 @@ fn checks(
     if state.missing != 0 {
         return Check::Fail(Answer::Refused(3));
     }
-    if !memory::has_filling(p, state) {
+    if !is_slot(slot) {
         return Check::Fail(Answer::Refused(5));
     }
     if filling::scarce(p, pointers, 1) {
@@ -92,37 +101,34 @@ fn checks(
 }
 
 // 01, Closing: the next open position filled with a zero block at the padding address, stamp 0.
-fn pad(p: Params, inflight: &mut [u8], state: State, i: usize) -> State
+fn pad(p: Params, inflight: &mut [u8], row: Row, i: usize) -> Row
     requires { ⌜ inRange p ≡ true ⌝ }
-    requires { ⌜ (i < 8) × (filledIn state i < dataCount p) × (length (now inflight) ≡ inflightLen p) ⌝ }
-    ensures { λ r. ⌜ r ≡ placed p state (now (inflight .entry)) i paddingAddress 0 0 (replicate (p .B) 0) .state ⌝ }
-    ensures { λ _. ⌜ now (inflight .exit) ≡ placed p state (now (inflight .entry)) i paddingAddress 0 0 (replicate (p .B) 0) .inflight ⌝ }
+    requires { ⌜ (i < 8) × (row .filled < dataCount p) × (length (now inflight) ≡ inflightLen p) ⌝ }
+    ensures { λ r. ⌜ r ≡ padOne p i row (now (inflight .entry)) .row ⌝ }
+    ensures { λ _. ⌜ now (inflight .exit) ≡ padOne p i row (now (inflight .entry)) .inflight ⌝ }
 {
-    let zeros = [0u8; 4096];
-    let b = p.B;
-    let q = filling::placed(
-        p,
-        inflight,
-        state,
-        i,
-        Address::PADDING,
-        Stamp(0),
-        false,
-        &zeros[..b],
-    );
-    q.state
+    let drive = filling::next_drive(p, row);
+    let at = shape::slot_byte(p, i, drive);
+    blocks::clear_part(inflight, at, p.B);
+    filling::enter(p, inflight, row, i, Address::PADDING, Stamp(0), false)
+}
+
+fn wide(b: u8) -> usize
+    ensures { λ r. ⌜ r ≡ b ⌝ }
+{
+    b as usize
 }
 
 // 01, Closing: all open positions of an eighth.
-fn pad_all(p: Params, inflight: &mut [u8], state: State, i: usize) -> State
+fn pad_all(p: Params, inflight: &mut [u8], row: Row, i: usize) -> Row
     requires { ⌜ inRange p ≡ true ⌝ }
-    requires { ⌜ (i < 8) × (filledIn state i ≤ dataCount p) × (length (now inflight) ≡ inflightLen p) ⌝ }
-    ensures { λ r. ⌜ r ≡ padded p i (dataCount p - filledIn state i) state (now (inflight .entry)) .state ⌝ }
-    ensures { λ _. ⌜ now (inflight .exit) ≡ padded p i (dataCount p - filledIn state i) state (now (inflight .entry)) .inflight ⌝ }
+    requires { ⌜ (i < 8) × (row .filled ≤ dataCount p) × (length (now inflight) ≡ inflightLen p) ⌝ }
+    ensures { λ r. ⌜ r ≡ paddedRow p i (dataCount p - row .filled) row (now (inflight .entry)) .row ⌝ }
+    ensures { λ _. ⌜ now (inflight .exit) ≡ paddedRow p i (dataCount p - row .filled) row (now (inflight .entry)) .inflight ⌝ }
 {
     let n = shape::data_count(p);
-    let mut next = state;
-    let mut k = memory::filled_in(state, i);
+    let mut next = row;
+    let mut k = wide(row.filled);
     while k < n {
         next = pad(p, inflight, next, i);
         k += 1;
@@ -139,18 +145,26 @@ pub fn close(
     compact: &[u8],
     inflight: &mut [u8],
     state: State,
-) -> Done
-    ensures { λ r. ⌜ ((n : ℕ) → after r (now (image .entry)) (now (pointers .entry)) (now (addresses .entry)) (now (compact .entry)) (now (inflight .exit)) [] ≡ callDisk p (mkDisk (now (image .entry)) (now (pointers .entry))) (mkMemory state (now (addresses .entry)) (now (compact .entry)) (now (inflight .entry))) (close n)) ⌝ }
+) -> Change
+    ensures { λ r. ⌜ ((n : ℕ) → afterChange state r (now (image .entry)) (now (pointers .entry)) (now (addresses .entry)) (now (compact .entry)) (now (inflight .exit)) [] ≡ callDisk p (mkDisk (now (image .entry)) (now (pointers .entry))) (mkMemory state (now (addresses .entry)) (now (compact .entry)) (now (inflight .entry))) (close n)) ⌝ }
 {
-    let c = checks(p, image, pointers, addresses, compact, inflight, state);
+    let f = rows::front_of(state);
+    let i = filling::filling_slot(p, f);
+    let c = checks(p, image, pointers, addresses, compact, inflight, state, i);
     if let Check::Fail(answer) = c {
-        return Done { answer, state };
+        return rows::kept(answer, f);
     }
-    let i = memory::filling_slot(p, state);
-    let s = memory::stripe_in(state, i);
-    let next = pad_all(p, inflight, state, i);
-    Done {
-        answer: Answer::Closed(s as u64),
-        state: next,
+    let row = rows::row_of(state, i);
+    let next = pad_all(p, inflight, row, i);
+    let stamp = f.stamp;
+    let serial = f.serial;
+    Change {
+        answer: Answer::Closed(row.number as u64),
+        stamp,
+        serial,
+        opened: f.opened,
+        next: f.next,
+        slot: i,
+        row: next,
     }
 }

@@ -1,32 +1,37 @@
 -- A copy: a block sent with its old stamp (01, Reclaim). Assumes nothing.
 use Prim.Native.Nat.{ℕ, _+_, _-_, _*_, _/_, _≤_, _<_}
-use Rattle.calls.specs.Left.{after}
-use Rattle.calls.specs.declared.Done.{Done}
 use Rattle.counts.specs.Live.{drive-low}
 use Rattle.defs.specs.Bytes.{part, splice}
 use Rattle.defs.specs.Calls.{Plan, mkPlan, mkAfter, cutMemory, outcome}
 use Rattle.defs.specs.Calls.Verdict.{due}
 use Rattle.defs.specs.Counts.{lastCount, aStamp}
 use Rattle.defs.specs.Drives.{View, chunkAt, Store, Disk, storeDisk, storeAll, placeSegment, emptyZones, recordAt}
-use Rattle.defs.specs.Memory.{Memory, mkMemory, zeroState}
-use Rattle.defs.specs.Params.{inRange, capacity, addressesLen, compactLen, inflightLen, placeBlock, placeZone, placeDrive, placeByte}
+use Rattle.defs.specs.Answers.{kind, isRefused, isCut}
+use Rattle.defs.specs.Memory.{Memory, mkMemory, hasFilling}
+use Rattle.defs.specs.Params.{inRange, dataCount, capacity, addressesLen, compactLen, inflightLen, placeBlock, placeZone, placeDrive, placeByte}
 use Rattle.defs.specs.Reclaim.{copyPlan}
 use Rattle.defs.specs.Write.{opens, mustWait, Sending, openedBy, slotFor, sending}
 use Rattle.defs.specs.declared.Answer.the-variants.{Cut, Copied}
 use Rattle.defs.specs.declared.Params.{Params}
 use Rattle.defs.specs.declared.State.{State}
+use Rattle.filling.specs.Aims.{aimOf}
+use Rattle.filling.specs.Entries.{SentRow, sentRow, frontAs, row-filled, slot-fills, start-room, sending-row}
 use Rattle.filling.specs.Left.{openStores, Opening}
+use Rattle.filling.specs.declared.Aim.{Aim}
 use Rattle.filling.specs.declared.Opened.{Opened}
-use Rattle.laws.specs.Geometry.{Ranged, ranged, place-again, capacity-low}
+use Rattle.laws.specs.Geometry.{Ranged, ranged, place-again, capacity-low, data-count-high}
 use Rattle.laws.specs.Splice.{length-part, part-splice}
 use Rattle.laws.specs.Stores.{stores-all, done-all, cut-prefix}
-use Rattle.plans.specs.Sends.{sending-opened, opened-none}
-use Rattle.plans.specs.Slots.{slot-lt, opened-slot}
+use Rattle.plans.specs.Slots.{slot-lt}
+use Rattle.rows.specs.Rows.{Sized, rowOf, putRow, putFront, stateAfter, afterChange, frontOf, after-done, changed-row}
+use Rattle.rows.specs.declared.Change.{Change}
+use Rattle.rows.specs.declared.Front.{Front}
+use Rattle.rows.specs.declared.Row.{Row}
 use Rattle.views.specs.Views.{Whole, seen, block-view}
-use Rattle.write.specs.Ends.{opened-next, cut-memory}
+use Rattle.write.specs.Ends.{opened-next, cut-memory, state-cut}
 use borrow.Author.Tests.{ltb-true, ltb-false}
 use lib.ListN.{length, take, replicate}
-use mathlib.Core.Bool.{true, false}
+use mathlib.Core.Bool.{true, false, not}
 use mathlib.Core.List.{List, []}
 use mathlib.Core.Path.{_≡_, refl, sym, ap, _∙_, subst}
 use native.Mathlib.Nat.{mod-lt}
@@ -80,49 +85,93 @@ pub record CopyReady (p : Params) (k : Disk) (m : Memory) : Type 0 where
   pub empties : opens p (m .state) ≡ true → 0 < length (emptyZones p (seen p k))
   pub next-high : m .state .next ≤ p .S
 
--- what a block sent leaves beside the drives and the tables, its segment open
-pub record CopySent (p : Params) (st : State) (fl : List ℕ) (a t : ℕ) (b : List ℕ) (r : Done) (fl′ : List ℕ) : Type 0 where
-  pub answer : r .answer ≡ Copied (aStamp t) (sending p [] st fl a t 0 b .stripe) (sending p [] st fl a t 0 b .drive)
-  pub state : r .state ≡ sending p [] st fl a t 0 b .state
-  pub inflight : fl′ ≡ sending p [] st fl a t 0 b .inflight
+-- what a copy changes, the block sent as q says
+abbrev pub copiedAs : Front → Aim → Opened → ℕ → SentRow → Change
+copiedAs f al o t q = record {
+  answer = Copied (aStamp t) (q .row .number) (q .drive);
+  stamp = f .stamp;
+  serial = o .serial;
+  opened = o .opened;
+  next = q .next;
+  slot = al .slot;
+  row = q .row;
+}
 
 -- ---- the two ends of a copy
 
-module _ (p : Params) (k : Disk) (m : Memory) (a t : ℕ) (b : List ℕ) (n : ℕ) (w : CopyReady p k m) where
-  -- what a block asks of the state with its segment open
-  pub sent-ready : (st : State) → st ≡ openedBy p (seen p k) (m .state) → (opens p st ≡ false) × (slotFor p st < 8) × (st .next < 4294967295)
-  sent-ready st e =
-      let v = seen p k in
-      let x : openedBy p v (m .state) .next < 4294967295 = opened-next p v (m .state) 4294967295 (omega (arith, w .next-high, ranged p (w .in-range) .stripes-high)) in
-      let i : slotFor p (openedBy p v (m .state)) < 8 = omega (arith, opened-slot p v (m .state), slot-lt p (m .state) (w .waits)) in
-      subst (λ (q : State). (opens p q ≡ false) × (slotFor p q < 8) × (q .next < 4294967295)) (sym e) (opened-none p v (m .state) (w .in-range), i, x)
+module _ (p : Params) (k : Disk) (m : Memory) (a t : ℕ) (b : List ℕ) (n : ℕ) (w : CopyReady p k m) (o : Opened) (k′ : Disk) (h : Opening p (m .state) n k o k′) where
+  abbrev st : State
+  st = m .state
+
+  abbrev at : ℕ
+  at = slotFor p st
 
   plan-stores : sentPlan p (seen p k) m a t b .stores ≡ openStores p k (m .state)
   unfolding sentPlan sending
   plan-stores = refl
 
-  module _ (o : Opened) (k′ : Disk) (h : Opening p (m .state) n k o k′) where
-    due-disk : k′ ≡ storeAll (storeDisk p) (take n (sentPlan p (seen p k) m a t b .stores)) k
-    due-disk = h .disk ∙ ap (λ (x : List Store). storeAll (storeDisk p) (take n x) k) (sym plan-stores)
+  due-disk : k′ ≡ storeAll (storeDisk p) (take n (sentPlan p (seen p k) m a t b .stores)) k
+  due-disk = h .disk ∙ ap (λ (x : List Store). storeAll (storeDisk p) (take n x) k) (sym plan-stores)
 
-    pub sent-cut : o .cut ≡ true → (r : Done) (ad co : List ℕ) → r .answer ≡ Cut → r .state ≡ zeroState → ad ≡ replicate (length (m .addresses)) 0
-        → co ≡ replicate (length (m .compact)) 0 → after r (k′ .image) (k′ .pointers) ad co (m .inflight) [] ≡ outcome p (storeDisk p) n k m [] (due (sentPlan p (seen p k) m a t b))
-    sent-cut c r ad co e s f g =
-        let q : mkMemory (r .state) ad co (m .inflight) ≡ cutMemory p m = cut-memory p m (r .state) ad co (w .addresses-long) (w .compact-long) s f g in
-        (λ j. mkAfter (e j) (due-disk j) (q j) [])
-        ∙ sym (cut-prefix p (storeDisk p) n k m [] (sentPlan p (seen p k) m a t b) (subst (λ (x : List Store). n < length x) (sym plan-stores) (ltb-true n (length (openStores p k (m .state))) (sym (h .cut) ∙ c))))
+  pub sent-cut : o .cut ≡ true → (c : Change) (ad co : List ℕ) → c .answer ≡ Cut → ad ≡ replicate (length (m .addresses)) 0 → co ≡ replicate (length (m .compact)) 0
+      → afterChange st c (k′ .image) (k′ .pointers) ad co (m .inflight) [] ≡ outcome p (storeDisk p) n k m [] (due (sentPlan p (seen p k) m a t b))
+  sent-cut c r ad co e f g =
+      let q : mkMemory (stateAfter st r) ad co (m .inflight) ≡ cutMemory p m = cut-memory p m (stateAfter st r) ad co (w .addresses-long) (w .compact-long) (state-cut st r e) f g in
+      (λ j. mkAfter (e j) (due-disk j) (q j) [])
+      ∙ sym (cut-prefix p (storeDisk p) n k m [] (sentPlan p (seen p k) m a t b) (subst (λ (x : List Store). n < length x) (sym plan-stores) (ltb-true n (length (openStores p k (m .state))) (sym (h .cut) ∙ c))))
 
-    pub sent-done : o .cut ≡ false → (r : Done) (fl′ : List ℕ) → CopySent p (o .state) (m .inflight) a t b r fl′
-        → after r (k′ .image) (k′ .pointers) (m .addresses) (m .compact) fl′ [] ≡ outcome p (storeDisk p) n k m [] (due (sentPlan p (seen p k) m a t b))
-    unfolding sentPlan
-    sent-done c r fl′ g =
+  -- the block sent, the next stripe number being x
+  abbrev sentAt : ℕ → SentRow
+  sentAt x = sentRow p (rowOf st at) (m .inflight) at (not (hasFilling p st)) x a t 0 b
+
+  -- the state after a copy, with the numbers in front
+  state-done : stateAfter st (copiedAs (frontOf st) (aimOf p st) o t (sentAt (o .next))) ≡ putRow (frontAs st (o .serial .0) (o .opened) (sentAt (o .next) .next)) at (sentAt (o .next) .row)
+  unfolding isRefused isCut kind putFront
+  state-done =
+      let c = copiedAs (frontOf st) (aimOf p st) o t (sentAt (o .next)) in
+      after-done st c refl refl ∙ changed-row st c (slot-lt p st (w .waits))
+
+  copy-done : Sized st → o .cut ≡ false
+      → afterChange st (copiedAs (frontOf st) (aimOf p st) o t (sentAt (o .next))) (k′ .image) (k′ .pointers) (m .addresses) (m .compact) (sentAt (o .next) .inflight) []
+      ≡ outcome p (storeDisk p) n k m [] (due (sentPlan p (seen p k) m a t b))
+  unfolding sentPlan
+  copy-done sized c =
+      let v = seen p k in
+      let s = slot-lt p st (w .waits) in
+      let d : dataCount p < 8 = omega (arith, data-count-high p (ranged p (w .in-range))) in
+      let ss = openStores p k st in
+      let l : length ss ≤ n = ltb-false n (length ss) (sym (h .cut) ∙ c) in
+      let e : k′ ≡ storeAll (storeDisk p) ss k = h .disk ∙ stores-all (storeDisk p) n ss k l in
+      ap (λ (x : State). mkAfter (Copied (aStamp t) (sentAt (o .next) .row .number) (sentAt (o .next) .drive)) k′ (mkMemory x (m .addresses) (m .compact) (sentAt (o .next) .inflight)) []) state-done
+      ∙ (λ j. let q = sentAt (h .next j) in
+      mkAfter (Copied (aStamp t) (q .row .number) (q .drive)) (e j) (mkMemory (putRow (frontAs st (h .serial j) (h .opened j) (q .next)) at (q .row)) (m .addresses) (m .compact) (q .inflight)) [])
+      ∙ ap (λ (q : Sending). mkAfter (Copied (aStamp t) (q .stripe) (q .drive)) (storeAll (storeDisk p) (q .stores) k) (mkMemory (q .state) (m .addresses) (m .compact) (q .inflight)) [])
+      (sending-row p v st s sized (m .inflight) a t 0 b (start-room p v st s sized d))
+      ∙ sym (done-all p (storeDisk p) n k m [] (sentPlan p v m a t b) (subst (λ (x : List Store). length x ≤ n) (sym plan-stores) l))
+
+  -- the same of the front, the aim and the stripe that the code has
+  module _ (f : Front) (same : f ≡ frontOf (m .state)) (al : Aim) (aimed : al ≡ aimOf p (m .state)) (row : Row) (taken : row ≡ rowOf (m .state) (al .slot)) where
+    row-is : row ≡ rowOf st at
+    row-is = taken ∙ ap (λ (x : Aim). rowOf st (x .slot)) aimed
+
+    -- what a block asks of the state with its segment open
+    pub sent-asks : (al .slot < 8) × (al .begins ≡ false → row .filled < dataCount p) × (o .next < 4294967295)
+    sent-asks =
         let v = seen p k in
-        let st₁ = openedBy p v (m .state) in
-        let ss = openStores p k (m .state) in
-        let l : length ss ≤ n = ltb-false n (length ss) (sym (h .cut) ∙ c) in
-        let g′ : CopySent p st₁ (m .inflight) a t b r fl′ = subst (λ (x : State). CopySent p x (m .inflight) a t b r fl′) (h .state c) g in
-        let d : k′ ≡ storeAll (storeDisk p) ss k = h .disk ∙ stores-all (storeDisk p) n ss k l in
-        (λ j. mkAfter (g′ .answer j) (d j) (mkMemory (g′ .state j) (m .addresses) (m .compact) (g′ .inflight j)) [])
-        ∙ ap (λ (q : Sending). mkAfter (Copied (aStamp t) (q .stripe) (q .drive)) (storeAll (storeDisk p) (q .stores) k) (mkMemory (q .state) (m .addresses) (m .compact) (q .inflight)) [])
-        (sending-opened p v (m .state) (m .inflight) a t 0 b (w .in-range))
-        ∙ sym (done-all p (storeDisk p) n k m [] (sentPlan p v m a t b) (subst (λ (x : List Store). length x ≤ n) (sym plan-stores) l))
+        let s : at < 8 = slot-lt p st (w .waits) in
+        let x : openedBy p v st .next < 4294967295 = opened-next p v st 4294967295 (omega (arith, w .next-high, ranged p (w .in-range) .stripes-high)) in (
+          subst (λ (x : Aim). x .slot < 8) (sym aimed) s,
+          λ e.
+              subst (λ (x : Row). x .filled < dataCount p) (sym row-is)
+              (subst (λ (y : ℕ). y < dataCount p) (sym (row-filled st at)) (slot-fills p v st (ap (λ (x : Aim). x .begins) (sym aimed) ∙ e) s)),
+          omega (arith, h .next, x),
+        )
+
+    pub sent-done : Sized st → o .cut ≡ false → (c : Change) (fl : List ℕ) → c ≡ copiedAs f al o t (sentRow p row (m .inflight) (al .slot) (al .begins) (o .next) a t 0 b)
+        → fl ≡ sentRow p row (m .inflight) (al .slot) (al .begins) (o .next) a t 0 b .inflight
+        → afterChange st c (k′ .image) (k′ .pointers) (m .addresses) (m .compact) fl [] ≡ outcome p (storeDisk p) n k m [] (due (sentPlan p (seen p k) m a t b))
+    sent-done z q c fl e g =
+        (λ j. afterChange st
+        ((e ∙ (λ x. copiedAs (same x) (aimed x) o t (sentRow p (row-is x) (m .inflight) (aimed x .slot) (aimed x .begins) (o .next) a t 0 b))) j) (k′ .image) (k′ .pointers) (m .addresses) (m .compact)
+        ((g ∙ (λ x. sentRow p (row-is x) (m .inflight) (aimed x .slot) (aimed x .begins) (o .next) a t 0 b .inflight)) j) [])
+        ∙ copy-done z q

@@ -4,7 +4,6 @@ ghost use mathlib.Core.Bool.{true, false};
 ghost use mathlib.Core.List.{[]};
 ghost use Prim.Native.Nat.{_*_, _≤_, _<_};
 ghost use lib.ListN.{length};
-ghost use Rattle.calls.specs.Left.{after};
 ghost use Rattle.copies.specs.Copying.{sentPlan, CopyReady};
 ghost use Rattle.defs.specs.Bytes.{part};
 ghost use Rattle.defs.specs.Calls.{outcome};
@@ -13,14 +12,15 @@ ghost use Rattle.defs.specs.Drives.{viewOf, mkDisk, storeDisk};
 ghost use Rattle.defs.specs.Memory.{mkMemory};
 ghost use Rattle.defs.specs.Params.{inRange, capacity, imageLen, placeByte};
 ghost use Rattle.defs.specs.Reclaim.{copyPlan};
+ghost use Rattle.rows.specs.Rows.{afterChange};
 ghost use Rattle.victim.specs.Waiting.{isOdd};
-use calls::Done;
 use defs::Address;
 use defs::Answer;
 use defs::Params;
 use defs::Place;
 use defs::Stamp;
 use defs::State;
+use rows::Change;
 
 // 01, Reclaim: the block goes into the filling stripe with its old stamp, once a segment is open for it.
 fn send_copy(
@@ -35,21 +35,30 @@ fn send_copy(
     stamp: Stamp,
     block: &[u8],
     count: u64,
-) -> Done
+) -> Change
     requires { ⌜ CopyReady p (mkDisk (now image) (now pointers)) (mkMemory state (now addresses) (now compact) (now inflight)) ⌝ }
     requires { ⌜ length (now block) ≡ p .B ⌝ }
-    ensures { λ r. ⌜ after r (now (image .exit)) (now (pointers .exit)) (now (addresses .exit)) (now (compact .exit)) (now (inflight .exit)) [] ≡ outcome p (storeDisk p) count (mkDisk (now (image .entry)) (now (pointers .entry))) (mkMemory state (now (addresses .entry)) (now (compact .entry)) (now (inflight .entry))) [] (due (sentPlan p (viewOf p (now (image .entry)) (now (pointers .entry))) (mkMemory state (now (addresses .entry)) (now (compact .entry)) (now (inflight .entry))) (address .0) (stamp .0) (now (block .entry)))) ⌝ }
+    ensures { λ r. ⌜ afterChange state r (now (image .exit)) (now (pointers .exit)) (now (addresses .exit)) (now (compact .exit)) (now (inflight .exit)) [] ≡ outcome p (storeDisk p) count (mkDisk (now (image .entry)) (now (pointers .entry))) (mkMemory state (now (addresses .entry)) (now (compact .entry)) (now (inflight .entry))) [] (due (sentPlan p (viewOf p (now (image .entry)) (now (pointers .entry))) (mkMemory state (now (addresses .entry)) (now (compact .entry)) (now (inflight .entry))) (address .0) (stamp .0) (now (block .entry)))) ⌝ }
 {
-    let o = filling::open(p, image, pointers, state, count);
+    let f = rows::front_of(state);
+    let a = filling::aim_of(p, f);
+    let o = filling::open(p, image, pointers, f, a, count);
     if o.cut {
-        return calls::cut(addresses, compact);
+        return filling::cut(addresses, compact, f);
     }
-    let opened = o.state;
-    let w = filling::send(p, inflight, opened, address, stamp, false, block);
-    let sent = w.state;
-    Done {
-        answer: Answer::Copied(stamp, w.stripe as u64, w.drive as u64),
-        state: sent,
+    let row = rows::row_of(state, a.slot);
+    let w = filling::send(p, inflight, row, a, o.next, address, stamp, false, block);
+    let last = w.row;
+    let serial = o.serial;
+    let old = f.stamp;
+    Change {
+        answer: Answer::Copied(stamp, last.number as u64, w.drive as u64),
+        stamp: old,
+        serial,
+        opened: o.opened,
+        next: w.next,
+        slot: a.slot,
+        row: last,
     }
 }
 
@@ -75,10 +84,10 @@ pub fn copy_block(
     state: State,
     q: Place,
     count: u64,
-) -> Done
+) -> Change
     requires { ⌜ CopyReady p (mkDisk (now image) (now pointers)) (mkMemory state (now addresses) (now compact) (now inflight)) ⌝ }
     requires { ⌜ (q .0 < p .N * p .Z * capacity p) × (isOdd p (q .0) ≡ false) ⌝ }
-    ensures { λ r. ⌜ after r (now (image .exit)) (now (pointers .exit)) (now (addresses .exit)) (now (compact .exit)) (now (inflight .exit)) [] ≡ outcome p (storeDisk p) count (mkDisk (now (image .entry)) (now (pointers .entry))) (mkMemory state (now (addresses .entry)) (now (compact .entry)) (now (inflight .entry))) [] (due (copyPlan p (viewOf p (now (image .entry)) (now (pointers .entry))) (mkMemory state (now (addresses .entry)) (now (compact .entry)) (now (inflight .entry))) (q .0))) ⌝ }
+    ensures { λ r. ⌜ afterChange state r (now (image .exit)) (now (pointers .exit)) (now (addresses .exit)) (now (compact .exit)) (now (inflight .exit)) [] ≡ outcome p (storeDisk p) count (mkDisk (now (image .entry)) (now (pointers .entry))) (mkMemory state (now (addresses .entry)) (now (compact .entry)) (now (inflight .entry))) [] (due (copyPlan p (viewOf p (now (image .entry)) (now (pointers .entry))) (mkMemory state (now (addresses .entry)) (now (compact .entry)) (now (inflight .entry))) (q .0))) ⌝ }
 {
     let r = victim::record_of(p, image, pointers, q);
     let address = r.address;

@@ -1,1 +1,3 @@
+pub mod Aims
+pub mod Entries
 pub mod Left

@@ -1,13 +1,12 @@
 -- A segment's rows of the compact table zeroed, and its zones reset (01, Reclaim; What a zone holds). Assumes nothing.
 use Prim.Native.Nat.{ℕ, _+_, _-_, _*_, _≤_, _<_}
-use Rattle.calls.specs.Left.{after}
-use Rattle.calls.specs.declared.Done.{Done}
+use Rattle.defs.specs.Answers.{kind, isRefused, isCut}
 use Rattle.defs.specs.Bytes.{splice}
 use Rattle.defs.specs.Calls.{mkAfter, cutMemory, outcome}
 use Rattle.defs.specs.Calls.Verdict.{due}
-use Rattle.defs.specs.Drives.{Disk, mkDisk, storeDisk, zoneOn, resetStores}
+use Rattle.defs.specs.Drives.{Disk, storeDisk, zoneOn, resetStores}
 use Rattle.defs.specs.Lists.{upFrom}
-use Rattle.defs.specs.Memory.{Memory, mkMemory, zeroState, compactAt}
+use Rattle.defs.specs.Memory.{Memory, mkMemory, compactAt}
 use Rattle.defs.specs.Params.{addressesLen, compactLen, drivesOf}
 use Rattle.defs.specs.Reclaim.{clearedRow, cleared, resetPlan}
 use Rattle.defs.specs.declared.Answer.the-variants.{Cut, Reset}
@@ -15,13 +14,15 @@ use Rattle.defs.specs.declared.Params.{Params}
 use Rattle.laws.specs.Geometry.{item, zone-index-lt}
 use Rattle.laws.specs.Ranges.{upFrom-step, upFrom-end, below-start}
 use Rattle.laws.specs.Stores.{done-all, cut-prefix}
-use Rattle.write.specs.Ends.{cut-memory}
+use Rattle.rows.specs.Rows.{stateAfter, afterChange, frontOf, keptAs, after-done, changed-none}
+use Rattle.rows.specs.declared.Change.{Change}
+use Rattle.write.specs.Ends.{cut-memory, state-cut}
 use Rattle.zones.specs.Made.{Storing, storing-cut, storing-done, storing-all}
 use Rattle.zones.specs.declared.Made.{Made}
 use lib.ListN.{length, replicate}
 use mathlib.Core.Bool.{true, false}
 use mathlib.Core.List.{List, []}
-use mathlib.Core.Path.{_≡_, sym, ap, _∙_}
+use mathlib.Core.Path.{_≡_, refl, sym, ap, _∙_}
 use native.Mathlib.Omega.{arith}
 
 module _ (p : Params) (g : ℕ) where
@@ -46,17 +47,23 @@ row-within p d z hd hz = omega (arith, item (d * p .Z + z) (p .N * p .Z) (p .S) 
 -- ---- the two ends of a reset
 
 module _ (p : Params) (n g : ℕ) (k k′ : Disk) (m : Memory) (r : Made) (h : Storing p n (resetStores p g) k r k′) where
-  pub reset-cut : length (m .addresses) ≡ addressesLen p → length (m .compact) ≡ compactLen p → r .cut ≡ true → (o : Done) (ad co : List ℕ) → o .answer ≡ Cut → o .state ≡ zeroState
+  pub reset-cut : length (m .addresses) ≡ addressesLen p → length (m .compact) ≡ compactLen p → r .cut ≡ true → (o : Change) (ad co : List ℕ) → o .answer ≡ Cut
       → ad ≡ replicate (length (m .addresses)) 0 → co ≡ replicate (length (m .compact)) 0
-      → after o (k′ .image) (k′ .pointers) ad co (m .inflight) [] ≡ outcome p (storeDisk p) n k m [] (due (resetPlan p m g))
+      → afterChange (m .state) o (k′ .image) (k′ .pointers) ad co (m .inflight) [] ≡ outcome p (storeDisk p) n k m [] (due (resetPlan p m g))
   unfolding resetPlan
-  reset-cut la lc c o ad co e s f q =
-      let w : mkMemory (o .state) ad co (m .inflight) ≡ cutMemory p m = cut-memory p m (o .state) ad co la lc s f q in
+  reset-cut la lc c o ad co e f q =
+      let w : mkMemory (stateAfter (m .state) o) ad co (m .inflight) ≡ cutMemory p m = cut-memory p m (stateAfter (m .state) o) ad co la lc (state-cut (m .state) o e) f q in
       (λ j. mkAfter (e j) (h .disk j) (w j) []) ∙ sym (cut-prefix p (storeDisk p) n k m [] (resetPlan p m g) (storing-cut p n (resetStores p g) k r k′ h c))
 
-  pub reset-done : r .cut ≡ false → (co : List ℕ) → co ≡ cleared p g (drivesOf p) (m .compact)
-      → mkAfter (Reset g) (mkDisk (k′ .image) (k′ .pointers)) (mkMemory (m .state) (m .addresses) co (m .inflight)) [] ≡ outcome p (storeDisk p) n k m [] (due (resetPlan p m g))
+  -- the state stays
+  state-kept : stateAfter (m .state) (keptAs (Reset g) (frontOf (m .state))) ≡ m .state
+  unfolding isRefused isCut kind
+  state-kept = after-done (m .state) (keptAs (Reset g) (frontOf (m .state))) refl refl ∙ changed-none (m .state) (Reset g)
+
+  pub reset-done : r .cut ≡ false → (o : Change) → o ≡ keptAs (Reset g) (frontOf (m .state)) → (co : List ℕ) → co ≡ cleared p g (drivesOf p) (m .compact)
+      → afterChange (m .state) o (k′ .image) (k′ .pointers) (m .addresses) co (m .inflight) [] ≡ outcome p (storeDisk p) n k m [] (due (resetPlan p m g))
   unfolding resetPlan
-  reset-done c co e =
-      (λ j. mkAfter (Reset g) (storing-all p n (resetStores p g) k r k′ h c j) (mkMemory (m .state) (m .addresses) (e j) (m .inflight)) [])
+  reset-done c o q co e =
+      ap (λ (x : Change). afterChange (m .state) x (k′ .image) (k′ .pointers) (m .addresses) co (m .inflight) []) q
+      ∙ (λ j. mkAfter (Reset g) (storing-all p n (resetStores p g) k r k′ h c j) (mkMemory (state-kept j) (m .addresses) (e j) (m .inflight)) [])
       ∙ sym (done-all p (storeDisk p) n k m [] (resetPlan p m g) (storing-done p n (resetStores p g) k r k′ h c))

@@ -8,16 +8,19 @@ use Rattle.defs.specs.Engine.{storeCount, lentBlock, verdict, lentOk, callOn, c
 use Rattle.defs.specs.Engine.Call.{reclaim}
 use Rattle.defs.specs.Lists.{Opt, keep, isNil, firstOr}
 use Rattle.defs.specs.Lists.Opt.{none, some}
-use Rattle.defs.specs.Memory.{Memory, stateFaults}
+use Rattle.defs.specs.Memory.{Memory, mkMemory, stateFaults}
 use Rattle.defs.specs.Params.{between, inRange, addressesLen, compactLen, inflightLen, placeBlock}
 use Rattle.defs.specs.Reclaim.{tableFaults, Victim, victim, isNone, victimSegment, victimLive, idle, reclaimChecks, resetPlan, copyPlan, reclaimVerdict}
 use Rattle.defs.specs.Write.{opens, noSerial, mustWait, scarce}
-use Rattle.defs.specs.declared.Answer.{Answer}
 use Rattle.defs.specs.declared.Params.{Params}
+use Rattle.defs.specs.declared.State.{State}
 use Rattle.laws.specs.Ranges.{and-both, not-both}
 use Rattle.plans.specs.Refusals.{rule-free, zones-free, state-free, call-refused}
 use Rattle.reclaim.specs.Choosing.{refusal}
 use Rattle.copies.specs.Copying.{CopyReady}
+use Rattle.rows.specs.Refused.{refused-keeps}
+use Rattle.rows.specs.Rows.{afterChange}
+use Rattle.rows.specs.declared.Change.{Change}
 use Rattle.views.specs.Views.{Whole, seen}
 use Rattle.write.specs.Ready.{lent-long, next-low}
 use borrow.Author.Tests.{eq-eqb, leb-false, not-false}
@@ -25,7 +28,7 @@ use lib.Dec.{eqb}
 use lib.ListN.{length, drop}
 use mathlib.Core.Bool.{Bool, true, false, cond, not, _&&_, _||_}
 use mathlib.Core.List.{List, [], _∷_, _++_, map}
-use mathlib.Core.Path.{_≡_, refl, sym, ap}
+use mathlib.Core.Path.{_≡_, refl, sym, ap, _∙_}
 use native.Mathlib.Omega.{arith}
 
 -- 01, Refusals, 8: not scarce
@@ -110,9 +113,12 @@ module _ (p : Params) (k : Disk) (m : Memory) (n : ℕ) where
   both = cond (isNil (victimLive w!)) (resetPlan p m (victimSegment w!)) (copyPlan p (seen p k) m (firstOr 0 (idle p (seen p k) (m .state) w!)))
 
   -- 01, Store count: a refusal changes nothing
-  pub reclaim-refused : (r : Answer) → refusal p k m ≡ some r → mkAfter r k m [] ≡ callDisk p k m (reclaim n)
+  pub reclaim-refused : (c : Change) → refusal p k m ≡ some (c .answer)
+      → afterChange (m .state) c (k .image) (k .pointers) (m .addresses) (m .compact) (m .inflight) [] ≡ callDisk p k m (reclaim n)
   unfolding callDisk callOn storeCount lentBlock verdict reclaimVerdict
-  reclaim-refused r e = sym (call-refused p (storeDisk p) n k m [] (refusal p k m) both r e)
+  reclaim-refused c e =
+      ap (λ (x : State). mkAfter (c .answer) k (mkMemory x (m .addresses) (m .compact) (m .inflight)) []) (refused-keeps (reclaimChecks p (lentOk p k m) (seen p k) m w!) (m .state) c e)
+      ∙ sym (call-refused p (storeDisk p) n k m [] (refusal p k m) both (c .answer) e)
 
   -- 01, Reclaim: with none live it resets its zones
   pub reclaim-clear : (g : ℕ) → refusal p k m ≡ none → isNil (victimLive w!) ≡ true → victimSegment w! ≡ g

@@ -4,7 +4,7 @@ ghost use mathlib.Core.Bool.{true, cond};
 ghost use mathlib.Core.List.{List, [], _∷_, _++_};
 ghost use Prim.Native.Nat.{ℕ, _<_};
 ghost use lib.ListN.{length};
-ghost use Rattle.calls.specs.Left.{checked, after};
+ghost use Rattle.calls.specs.Left.{checked};
 ghost use Rattle.defs.specs.declared.Answer.the-variants.{BadZone};
 ghost use Rattle.defs.specs.Calls.{firstRefusal, outcome};
 ghost use Rattle.defs.specs.Calls.Check.{zones};
@@ -17,14 +17,15 @@ ghost use Rattle.defs.specs.Memory.{mkMemory, stateFaults};
 ghost use Rattle.defs.specs.Params.{inRange, imageLen, pointersLen, addressesLen, compactLen, drivesOf};
 ghost use Rattle.defs.specs.Reclaim.{tableFaults, victim, cleared, resetPlan};
 ghost use Rattle.reclaim.specs.Choosing.{copyRules, laterChecks, Chose, refusal};
+ghost use Rattle.rows.specs.Rows.{afterChange};
 ghost use Rattle.victim.specs.Looked.{Looked};
 ghost use Rattle.views.specs.Views.{Whole};
 use calls::Check;
-use calls::Done;
 use defs::Answer;
 use defs::Params;
 use defs::Place;
 use defs::State;
+use rows::Change;
 use victim::Chosen;
 
 // ---- checks
@@ -35,13 +36,15 @@ fn copy_rules(p: Params, pointers: &[u8], state: State) -> Check
     requires { ⌜ length (now pointers) ≡ pointersLen p ⌝ }
     ensures { λ r. ⌜ ((im : List ℕ) → length im ≡ imageLen p → checked r ≡ firstRefusal (copyRules p (viewOf p im (now (pointers .entry))) state)) ⌝ }
 {
-    if filling::no_serial(p, state) {
+    let f = rows::front_of(state);
+    let a = filling::aim_of(p, f);
+    if filling::no_serial(f, a) {
         return Check::Fail(Answer::Refused(6));
     }
-    if filling::must_wait(p, state) {
+    if filling::must_wait(p, f, a) {
         return Check::Fail(Answer::Refused(7));
     }
-    if !filling::opens(p, state) {
+    if !a.opens {
         return Check::Pass;
     }
     if filling::scarce(p, pointers, 1) {
@@ -162,20 +165,18 @@ fn reset_segment(
     state: State,
     g: usize,
     count: u64,
-) -> Done
+) -> Change
     requires { ⌜ inRange p ≡ true ⌝ }
     requires { ⌜ (length (now pointers) ≡ pointersLen p) × (length (now addresses) ≡ addressesLen p) × (length (now compact) ≡ compactLen p) × (g < p .Z) ⌝ }
-    ensures { λ r. ⌜ ((im fl : List ℕ) → after r im (now (pointers .exit)) (now (addresses .exit)) (now (compact .exit)) fl [] ≡ outcome p (storeDisk p) count (mkDisk im (now (pointers .entry))) (mkMemory state (now (addresses .entry)) (now (compact .entry)) fl) [] (due (resetPlan p (mkMemory state (now (addresses .entry)) (now (compact .entry)) fl) g))) ⌝ }
+    ensures { λ r. ⌜ ((im fl : List ℕ) → afterChange state r im (now (pointers .exit)) (now (addresses .exit)) (now (compact .exit)) fl [] ≡ outcome p (storeDisk p) count (mkDisk im (now (pointers .entry))) (mkMemory state (now (addresses .entry)) (now (compact .entry)) fl) [] (due (resetPlan p (mkMemory state (now (addresses .entry)) (now (compact .entry)) fl) g))) ⌝ }
 {
+    let f = rows::front_of(state);
     let made = zones::reset_stores(p, pointers, g, count);
     if made.cut {
-        return calls::cut(addresses, compact);
+        return filling::cut(addresses, compact, f);
     }
     clear_rows(p, compact, g);
-    Done {
-        answer: Answer::Reset(g as u64),
-        state,
-    }
+    rows::kept(Answer::Reset(g as u64), f)
 }
 
 // ---- the call
@@ -190,12 +191,12 @@ pub fn reclaim(
     inflight: &mut [u8],
     state: State,
     count: u64,
-) -> Done
-    ensures { λ r. ⌜ after r (now (image .exit)) (now (pointers .exit)) (now (addresses .exit)) (now (compact .exit)) (now (inflight .exit)) [] ≡ callDisk p (mkDisk (now (image .entry)) (now (pointers .entry))) (mkMemory state (now (addresses .entry)) (now (compact .entry)) (now (inflight .entry))) (reclaim count) ⌝ }
+) -> Change
+    ensures { λ r. ⌜ afterChange state r (now (image .exit)) (now (pointers .exit)) (now (addresses .exit)) (now (compact .exit)) (now (inflight .exit)) [] ≡ callDisk p (mkDisk (now (image .entry)) (now (pointers .entry))) (mkMemory state (now (addresses .entry)) (now (compact .entry)) (now (inflight .entry))) (reclaim count) ⌝ }
 {
     let c = choose(p, image, pointers, addresses, compact, inflight, state);
     match c {
-        Choice::Refuse(answer) => Done { answer, state },
+        Choice::Refuse(answer) => rows::kept(answer, rows::front_of(state)),
         Choice::Clear(g) => reset_segment(p, pointers, addresses, compact, state, g, count),
         Choice::Copy(q) => copies::copy_block(
             p,

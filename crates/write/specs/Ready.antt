@@ -1,6 +1,5 @@
 -- What is so where no check of a write holds (01, Write; Refusals). Assumes nothing.
 use Prim.Native.Nat.{ℕ, suc, _^_, _≤_, _<_}
-use Rattle.calls.specs.declared.Done.{Done}
 use Rattle.defs.specs.Calls.{Check, firstRefusal}
 use Rattle.defs.specs.Calls.Check.{rule, zones}
 use Rattle.defs.specs.Counts.{lastCount, aStamp}
@@ -8,15 +7,21 @@ use Rattle.defs.specs.Drives.{View, Disk, emptyZones}
 use Rattle.defs.specs.Engine.{lentOk}
 use Rattle.defs.specs.Lists.{Opt, all}
 use Rattle.defs.specs.Lists.Opt.{none}
-use Rattle.defs.specs.Memory.{Memory, slots, slotOk, stateOk, stateFaults, setStamp}
+use Rattle.defs.specs.Memory.{Memory, slots, slotOk, stateOk, stateFaults}
 use Rattle.defs.specs.Params.{inRange, imageLen, pointersLen, addressesLen, compactLen, inflightLen}
-use Rattle.defs.specs.Write.{opens, noStamp, noSerial, mustWait, scarce, sending, writeChecks}
+use Rattle.defs.specs.Write.{opens, noStamp, noSerial, mustWait, scarce, writeChecks}
 use Rattle.defs.specs.declared.Answer.{Answer}
 use Rattle.defs.specs.declared.Answer.the-variants.{Sent}
 use Rattle.defs.specs.declared.Params.{Params}
 use Rattle.defs.specs.declared.State.{State}
+use Rattle.filling.specs.Entries.{SentRow, sentRow}
+use Rattle.filling.specs.declared.Aim.{Aim}
+use Rattle.filling.specs.declared.Opened.{Opened}
 use Rattle.laws.specs.Ranges.{and-left, and-right, and-both, not-both}
 use Rattle.plans.specs.Refusals.{rule-free, zones-free, state-free}
+use Rattle.rows.specs.declared.Change.{Change}
+use Rattle.rows.specs.declared.Front.{Front}
+use Rattle.rows.specs.declared.Row.{Row}
 use Rattle.views.specs.Views.{Whole, seen}
 use borrow.Author.Tests.{leb-true, leb-false, eqb-true, eqb-false, eq-eqb}
 use lib.Count.{ones}
@@ -133,8 +138,18 @@ ready p k m a b e =
       next-high = next-low p st (state-free p st (f₉ .0));
     }
 
--- 01, Write: what a block sent leaves beside the drives and the tables
-pub record Planned (p : Params) (st : State) (fl : List ℕ) (a : ℕ) (b : List ℕ) (r : Done) (fl′ : List ℕ) : Type 0 where
-  pub answer : r .answer ≡ Sent (aStamp (suc (st .stamp .0))) (sending p [] st fl a (suc (st .stamp .0)) 1 b .stripe) (sending p [] st fl a (suc (st .stamp .0)) 1 b .drive)
-  pub state : r .state ≡ setStamp (sending p [] st fl a (suc (st .stamp .0)) 1 b .state) (suc (st .stamp .0))
-  pub inflight : fl′ ≡ sending p [] st fl a (suc (st .stamp .0)) 1 b .inflight
+-- 01, Write: the block sent with the next stamp
+abbrev pub plannedRow : Params → Row → List ℕ → Front → Aim → Opened → ℕ → List ℕ → SentRow
+plannedRow p r fl f a o ad b = sentRow p r fl (a .slot) (a .begins) (o .next) ad (suc (f .stamp .0)) 1 b
+
+-- and what it changes
+abbrev pub planned : Front → Aim → Opened → SentRow → Change
+planned f a o q = record {
+  answer = Sent (aStamp (suc (f .stamp .0))) (q .row .number) (q .drive);
+  stamp = aStamp (suc (f .stamp .0));
+  serial = o .serial;
+  opened = o .opened;
+  next = q .next;
+  slot = a .slot;
+  row = q .row;
+}

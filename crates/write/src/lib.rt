@@ -3,28 +3,33 @@ ghost use mathlib.Core.Path.{_≡_};
 ghost use mathlib.Core.Bool.{true, false, cond};
 ghost use Prim.Native.Nat.{_<_};
 ghost use lib.ListN.{length};
-ghost use Rattle.calls.specs.Left.{checked, after};
+ghost use Rattle.calls.specs.Left.{checked};
 ghost use Rattle.defs.specs.Counts.{lastCount};
 ghost use Rattle.defs.specs.Drives.{mkDisk};
 ghost use Rattle.defs.specs.Engine.{callDisk};
 ghost use Rattle.defs.specs.Engine.Call.{write};
 ghost use Rattle.defs.specs.Memory.{mkMemory};
-ghost use Rattle.defs.specs.Params.{inRange, inflightLen};
-ghost use Rattle.defs.specs.Write.{opens, slotFor};
-ghost use Rattle.write.specs.Ready.{refusal, Planned};
+ghost use Rattle.defs.specs.Params.{inRange, dataCount, inflightLen};
+ghost use Rattle.filling.specs.Aims.{aimOf};
+ghost use Rattle.rows.specs.Rows.{frontOf, afterChange};
+ghost use Rattle.write.specs.Ready.{refusal, planned, plannedRow};
 use calls::Check;
-use calls::Done;
 use defs::Address;
 use defs::Answer;
 use defs::Params;
 use defs::Stamp;
 use defs::State;
+use filling::Aim;
+use filling::Opened;
+use rows::Change;
+use rows::Front;
+use rows::Row;
 
 // 01, Refusals, 8: the zones that must be more than empty.
-fn reserve(p: Params, state: State) -> usize
-    ensures { λ r. ⌜ (r ≡ cond (opens p state) 2 1) × (r < 8) ⌝ }
+fn reserve(a: Aim) -> usize
+    ensures { λ r. ⌜ (r ≡ cond (a .opens) 2 1) × (r < 8) ⌝ }
 {
-    if filling::opens(p, state) {
+    if a.opens {
         return 2;
     }
     1
@@ -39,9 +44,12 @@ fn checks(
     compact: &[u8],
     inflight: &[u8],
     state: State,
+    f: Front,
+    a: Aim,
     address: Address,
     block: &[u8],
 ) -> Check
+    requires { ⌜ (f ≡ frontOf state) × (a ≡ aimOf p state) ⌝ }
     ensures { λ r. ⌜ checked r ≡ refusal p (mkDisk (now (image .entry)) (now (pointers .entry))) (mkMemory state (now (addresses .entry)) (now (compact .entry)) (now (inflight .entry))) (address .0) (now (block .entry)) ⌝ }
 {
     if !shape::in_range(p) {
@@ -59,16 +67,16 @@ fn checks(
     if p.L as u64 <= address.0 {
         return Check::Fail(Answer::Refused(4));
     }
-    if filling::no_stamp(state) {
+    if filling::no_stamp(f) {
         return Check::Fail(Answer::Refused(6));
     }
-    if filling::no_serial(p, state) {
+    if filling::no_serial(f, a) {
         return Check::Fail(Answer::Refused(6));
     }
-    if filling::must_wait(p, state) {
+    if filling::must_wait(p, f, a) {
         return Check::Fail(Answer::Refused(7));
     }
-    let n = reserve(p, state);
+    let n = reserve(a);
     if filling::scarce(p, pointers, n) {
         return Check::Fail(Answer::Refused(8));
     }
@@ -79,19 +87,34 @@ fn checks(
 }
 
 // 01, Write: the block takes the next stamp; a segment is open for it.
-fn plan(p: Params, inflight: &mut [u8], state: State, address: Address, block: &[u8]) -> Done
+fn plan(
+    p: Params,
+    inflight: &mut [u8],
+    row: Row,
+    f: Front,
+    a: Aim,
+    o: Opened,
+    address: Address,
+    block: &[u8],
+) -> Change
     requires { ⌜ inRange p ≡ true ⌝ }
-    requires { ⌜ (opens p state ≡ false) × (slotFor p state < 8) × (state .next < 4294967295) × (state .stamp .0 < lastCount) ⌝ }
+    requires { ⌜ (a .slot < 8) × (a .begins ≡ false → row .filled < dataCount p) × (o .next < 4294967295) × (f .stamp .0 < lastCount) ⌝ }
     requires { ⌜ (length (now inflight) ≡ inflightLen p) × (length (now block) ≡ p .B) ⌝ }
-    ensures { λ r. ⌜ Planned p state (now (inflight .entry)) (address .0) (now (block .entry)) r (now (inflight .exit)) ⌝ }
+    ensures { λ r. ⌜ r ≡ planned f a o (plannedRow p row (now (inflight .entry)) f a o (address .0) (now (block .entry))) ⌝ }
+    ensures { λ _. ⌜ now (inflight .exit) ≡ plannedRow p row (now (inflight .entry)) f a o (address .0) (now (block .entry)) .inflight ⌝ }
 {
-    let stamp = Stamp(state.stamp.0 + 1);
-    let q = filling::send(p, inflight, state, address, stamp, true, block);
-    let sent = q.state;
-    let last = memory::set_stamp(sent, stamp);
-    Done {
-        answer: Answer::Sent(stamp, q.stripe as u64, q.drive as u64),
-        state: last,
+    let stamp = Stamp(f.stamp.0 + 1);
+    let q = filling::send(p, inflight, row, a, o.next, address, stamp, true, block);
+    let last = q.row;
+    let serial = o.serial;
+    Change {
+        answer: Answer::Sent(stamp, last.number as u64, q.drive as u64),
+        stamp,
+        serial,
+        opened: o.opened,
+        next: q.next,
+        slot: a.slot,
+        row: last,
     }
 }
 
@@ -107,9 +130,11 @@ pub fn write(
     address: Address,
     block: &[u8],
     count: u64,
-) -> Done
-    ensures { λ r. ⌜ after r (now (image .exit)) (now (pointers .exit)) (now (addresses .exit)) (now (compact .exit)) (now (inflight .exit)) (now (block .entry)) ≡ callDisk p (mkDisk (now (image .entry)) (now (pointers .entry))) (mkMemory state (now (addresses .entry)) (now (compact .entry)) (now (inflight .entry))) (write (address .0) (now (block .entry)) count) ⌝ }
+) -> Change
+    ensures { λ r. ⌜ afterChange state r (now (image .exit)) (now (pointers .exit)) (now (addresses .exit)) (now (compact .exit)) (now (inflight .exit)) (now (block .entry)) ≡ callDisk p (mkDisk (now (image .entry)) (now (pointers .entry))) (mkMemory state (now (addresses .entry)) (now (compact .entry)) (now (inflight .entry))) (write (address .0) (now (block .entry)) count) ⌝ }
 {
+    let f = rows::front_of(state);
+    let a = filling::aim_of(p, f);
     let c = checks(
         p,
         image,
@@ -118,16 +143,18 @@ pub fn write(
         compact,
         inflight,
         state,
+        f,
+        a,
         address,
         block,
     );
     if let Check::Fail(answer) = c {
-        return Done { answer, state };
+        return rows::kept(answer, f);
     }
-    let o = filling::open(p, image, pointers, state, count);
+    let o = filling::open(p, image, pointers, f, a, count);
     if o.cut {
-        return calls::cut(addresses, compact);
+        return filling::cut(addresses, compact, f);
     }
-    let opened = o.state;
-    plan(p, inflight, opened, address, block)
+    let row = rows::row_of(state, a.slot);
+    plan(p, inflight, row, f, a, o, address, block)
 }

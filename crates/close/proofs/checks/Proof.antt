@@ -4,6 +4,7 @@ use Rattle.defs.specs.Engine.{lentOk}
 use Rattle.defs.specs.Memory.{Memory, mkMemory, hasFilling, stateOk}
 use Rattle.defs.specs.Params.{inRange}
 use Rattle.defs.specs.Write.{scarce}
+use Rattle.close.specs.Ready.{slot-is}
 use Rattle.write.specs.Ready.{lent-long}
 use borrow.Author.Needs.{needs}
 use borrow.Author.Tests.{not-true, not-false}
@@ -45,8 +46,8 @@ returns-3 c =
     let el : lentOk (a .p) k m ≡ true = sym (c .before .before .before .lent-ok .ensures (a .state)) ∙ not-false (c .before .before .before .lent-ok .result) (c .before .before .if2 .left) in
     missing-fails (a .p) k m (c .if3 .taken) ∙ lengths-pass (a .p) k m el ∙ range-passes (a .p) k m er
 
-has-filling-requires : tie.Need-has-filling-requires
-has-filling-requires c κs = search needs
+is-slot-requires : tie.Need-is-slot-requires
+is-slot-requires c κs = search needs
 
 returns-4 : tie.Need-returns-4
 returns-4 c =
@@ -55,7 +56,7 @@ returns-4 c =
     let m : Memory = mkMemory (a .state) (a .addresses .now) (a .compact .now) (a .inflight .now) in
     let er : inRange (a .p) ≡ true = sym (c .before .before .before .before .before .before .before .in-range .ensures) ∙ not-false (c .before .before .before .before .before .before .before .in-range .result) (c .before .before .before .before .before .before .if1 .left) in
     let el : lentOk (a .p) k m ≡ true = sym (c .before .before .before .before .before .lent-ok .ensures (a .state)) ∙ not-false (c .before .before .before .before .before .lent-ok .result) (c .before .before .before .before .if2 .left) in
-    let ef : hasFilling (a .p) (a .state) ≡ false = sym (c .before .has-filling .ensures) ∙ not-true (c .before .has-filling .result) (c .if4 .taken) in
+    let ef : hasFilling (a .p) (a .state) ≡ false = sym (slot-is (a .p) (a .state) (a .slot) (c .before .before .before .before .before .before .before .before .before .before .before .before .before .pre)) ∙ sym (c .before .is-slot .ensures) ∙ not-true (c .before .is-slot .result) (c .if4 .taken) in
     filling-fails (a .p) k m ef ∙ missing-passes (a .p) k m (c .before .before .if3 .left) ∙ lengths-pass (a .p) k m el ∙ range-passes (a .p) k m er
 
 scarce-requires : tie.Need-scarce-requires
@@ -84,7 +85,7 @@ returns-5 c =
     let m : Memory = mkMemory (a .state) (a .addresses .now) (a .compact .now) (a .inflight .now) in
     let er : inRange (a .p) ≡ true = sym (c .before .before .before .before .before .before .before .before .before .before .in-range .ensures) ∙ not-false (c .before .before .before .before .before .before .before .before .before .before .in-range .result) (c .before .before .before .before .before .before .before .before .before .if1 .left) in
     let el : lentOk (a .p) k m ≡ true = sym (c .before .before .before .before .before .before .before .before .lent-ok .ensures (a .state)) ∙ not-false (c .before .before .before .before .before .before .before .before .lent-ok .result) (c .before .before .before .before .before .before .before .if2 .left) in
-    let ef : hasFilling (a .p) (a .state) ≡ true = sym (c .before .before .before .before .has-filling .ensures) ∙ not-false (c .before .before .before .before .has-filling .result) (c .before .before .before .if4 .left) in
+    let ef : hasFilling (a .p) (a .state) ≡ true = sym (slot-is (a .p) (a .state) (a .slot) (c .before .before .before .before .before .before .before .before .before .before .before .before .before .before .before .before .pre)) ∙ sym (c .before .before .before .before .is-slot .ensures) ∙ not-false (c .before .before .before .before .is-slot .result) (c .before .before .before .if4 .left) in
     let es : scarce (a .p) (viewOf (a .p) (a .image .now) (a .pointers .now)) 1 ≡ true = sym (c .before .before .scarce .ensures (a .image .now) (lent-long (a .p) k m el .0)) ∙ c .before .if5 .taken in
     c .scarce-checks .ensures ∙ scarce-last (a .p) k m ef es ∙ missing-passes (a .p) k m (c .before .before .before .before .before .if3 .left) ∙ lengths-pass (a .p) k m el ∙ range-passes (a .p) k m er
 
@@ -98,7 +99,7 @@ returns-6 c =
     let m : Memory = mkMemory (a .state) (a .addresses .now) (a .compact .now) (a .inflight .now) in
     let er : inRange (a .p) ≡ true = sym (c .before .before .before .before .before .before .before .before .before .before .before .in-range .ensures) ∙ not-false (c .before .before .before .before .before .before .before .before .before .before .before .in-range .result) (c .before .before .before .before .before .before .before .before .before .before .if1 .left) in
     let el : lentOk (a .p) k m ≡ true = sym (c .before .before .before .before .before .before .before .before .before .lent-ok .ensures (a .state)) ∙ not-false (c .before .before .before .before .before .before .before .before .before .lent-ok .result) (c .before .before .before .before .before .before .before .before .if2 .left) in
-    let ef : hasFilling (a .p) (a .state) ≡ true = sym (c .before .before .before .before .before .has-filling .ensures) ∙ not-false (c .before .before .before .before .before .has-filling .result) (c .before .before .before .before .if4 .left) in
+    let ef : hasFilling (a .p) (a .state) ≡ true = sym (slot-is (a .p) (a .state) (a .slot) (c .before .before .before .before .before .before .before .before .before .before .before .before .before .before .before .before .before .pre)) ∙ sym (c .before .before .before .before .before .is-slot .ensures) ∙ not-false (c .before .before .before .before .before .is-slot .result) (c .before .before .before .before .if4 .left) in
     let es : scarce (a .p) (viewOf (a .p) (a .image .now) (a .pointers .now)) 1 ≡ false = sym (c .before .before .before .scarce .ensures (a .image .now) (lent-long (a .p) k m el .0)) ∙ c .before .before .if5 .left in
     let eo : stateOk (a .p) (a .state) ≡ false = sym (c .before .state-ok .ensures) ∙ not-true (c .before .state-ok .result) (c .if6 .taken) in
     state-fails (a .p) k m ef es eo ∙ missing-passes (a .p) k m (c .before .before .before .before .before .before .if3 .left) ∙ lengths-pass (a .p) k m el ∙ range-passes (a .p) k m er
@@ -110,7 +111,7 @@ returns-7 c =
     let m : Memory = mkMemory (a .state) (a .addresses .now) (a .compact .now) (a .inflight .now) in
     let er : inRange (a .p) ≡ true = sym (c .before .before .before .before .before .before .before .before .before .before .before .in-range .ensures) ∙ not-false (c .before .before .before .before .before .before .before .before .before .before .before .in-range .result) (c .before .before .before .before .before .before .before .before .before .before .if1 .left) in
     let el : lentOk (a .p) k m ≡ true = sym (c .before .before .before .before .before .before .before .before .before .lent-ok .ensures (a .state)) ∙ not-false (c .before .before .before .before .before .before .before .before .before .lent-ok .result) (c .before .before .before .before .before .before .before .before .if2 .left) in
-    let ef : hasFilling (a .p) (a .state) ≡ true = sym (c .before .before .before .before .before .has-filling .ensures) ∙ not-false (c .before .before .before .before .before .has-filling .result) (c .before .before .before .before .if4 .left) in
+    let ef : hasFilling (a .p) (a .state) ≡ true = sym (slot-is (a .p) (a .state) (a .slot) (c .before .before .before .before .before .before .before .before .before .before .before .before .before .before .before .before .before .pre)) ∙ sym (c .before .before .before .before .before .is-slot .ensures) ∙ not-false (c .before .before .before .before .before .is-slot .result) (c .before .before .before .before .if4 .left) in
     let es : scarce (a .p) (viewOf (a .p) (a .image .now) (a .pointers .now)) 1 ≡ false = sym (c .before .before .before .scarce .ensures (a .image .now) (lent-long (a .p) k m el .0)) ∙ c .before .before .if5 .left in
     let eo : stateOk (a .p) (a .state) ≡ true = sym (c .before .state-ok .ensures) ∙ not-false (c .before .state-ok .result) (c .if6 .left) in
     state-passes (a .p) k m ef es eo ∙ missing-passes (a .p) k m (c .before .before .before .before .before .before .if3 .left) ∙ lengths-pass (a .p) k m el ∙ range-passes (a .p) k m er
@@ -124,7 +125,7 @@ checks-spec =
     lent-ok-requires
     returns-2
     returns-3
-    has-filling-requires
+    is-slot-requires
     returns-4
     scarce-requires
     scarce-checks-requires

@@ -1,77 +1,125 @@
+-- `close`: the front and the filling stripe's eighth are the state's; then refused or done. Assumes nothing.
+use Prim.Native.Nat.{ℕ, _≤_, _<_}
 use Rattle.calls.specs.Left.{checked}
 use Rattle.close.specs.Ends.{close-refused, close-done}
 use Rattle.close.specs.Order.{refusal}
 use Rattle.close.specs.Ready.{ready, slot-low, slot-open}
 use Rattle.defs.specs.Drives.{Disk, mkDisk}
-use Rattle.defs.specs.Lists.Opt.{none}
-use Rattle.defs.specs.Memory.{Memory, mkMemory}
+use Rattle.defs.specs.Lists.Opt.{none, some}
+use Rattle.defs.specs.Memory.{Memory, mkMemory, filledIn, fillingSlot}
+use Rattle.defs.specs.Params.{dataCount}
+use Rattle.filling.specs.Aims.{front-filling}
+use Rattle.filling.specs.Entries.{row-filled}
+use Rattle.laws.specs.Geometry.{ranged, data-count-high}
+use Rattle.rows.specs.Rows.{Sized}
+use Rattle.rows.specs.declared.Change.{Change}
+use Rattle.rows.specs.declared.Row.{Row}
 use borrow.Author.Needs.{needs}
-use mathlib.Core.Path.{_≡_, sym, ap, _∙_}
+use mathlib.Core.Path.{_≡_, refl, sym, ap, _∙_}
+use native.Mathlib.Omega.{arith}
 use Rattle.close.proofs.close.Statement.{statement}
 use Rattle.close.proofs.close.Tie as tie
 
+-- the arrays have their lengths
+sized : (c : tie.Start) → Sized (c .args .state)
+sized c = record {
+  numbers = search needs;
+  filled = search needs;
+  writes = search needs;
+  landed = search needs;
+  addresses = search needs;
+  stamps = search (needs, c .good .1 .1 .1 .1 .1 .1 .0 .1 .1 .1 .1 .1 .1 .1 .1 .1);
+  offsets = search (needs, c .good .1 .1 .1 .1 .1 .1 .0 .1 .1 .1 .1 .1 .1 .1 .1 .1);
+}
+
+abbrev disk : (c : tie.Start) → Disk
+disk c = mkDisk (c .args .image .now) (c .args .pointers .now)
+
+abbrev memory : (c : tie.Start) → Memory
+memory c = mkMemory (c .args .state) (c .args .addresses .now) (c .args .compact .now) (c .args .inflight .now)
+
+-- the eighth is the state's
+slot-of : (c : tie.After-filling-slot) → c .filling-slot .result ≡ fillingSlot (c .before .before .before .before .before .before .before .args .p) (c .before .before .before .before .before .before .before .args .state)
+slot-of c = c .filling-slot .ensures ∙ front-filling (c .before .before .before .before .before .before .before .args .p) (c .before .before .before .before .before .before .before .args .state) (c .before .front-of .result) (c .before .front-of .ensures)
+
+front-of-requires : tie.Need-front-of-requires
+front-of-requires c κs = search needs
+
+filling-slot-requires : tie.Need-filling-slot-requires
+filling-slot-requires c κs = search needs
+
 checks-requires : tie.Need-checks-requires
-checks-requires c κs = search needs
+checks-requires c κs = slot-of (c .before)
 
 enum-known-c : tie.Need-enum-known-c
 enum-known-c c = search needs
+
+kept-requires : tie.Need-kept-requires
+kept-requires c κs = search needs
 
 same-length : tie.Need-same-length
 same-length c = search needs
 
 returns : tie.Need-returns
 returns c =
-    let a = c .before .before .before .before .before .before .before .before .before .before .args in
-    let k : Disk = mkDisk (a .image .now) (a .pointers .now) in
-    let m : Memory = mkMemory (a .state) (a .addresses .now) (a .compact .now) (a .inflight .now) in
-    λ n. close-refused (a .p) k m (c .before .c .given .0 .0) (sym (c .before .before .before .checks .ensures) ∙ ap checked (c .before .c .given .1)) n
+    let s = c .before .before .before .before .before .before .before .before .before .before .before .before .before in
+    let q = c .before .before .c .given in
+    λ n. close-refused (s .args .p) (disk s) (memory s) (c .kept .result) (sym (c .before .before .before .before .checks .ensures) ∙ ap checked (q .1) ∙ ap (λ (x : Change). some (x .answer)) (sym (c .kept .ensures))) n
 
 enum-told : tie.Need-enum-told
 enum-told c = search needs
 
-filling-slot-requires : tie.Need-filling-slot-requires
-filling-slot-requires c κs = search needs
-
-stripe-in-requires : tie.Need-stripe-in-requires
-stripe-in-requires c κs =
-    let a = c .before .before .before .before .before .before .before .before .before .before .args in
-    let k : Disk = mkDisk (a .image .now) (a .pointers .now) in
-    let m : Memory = mkMemory (a .state) (a .addresses .now) (a .compact .now) (a .inflight .now) in
-    let none! : refusal (a .p) k m ≡ none = sym (c .before .before .before .checks .ensures) ∙ ap checked (c .before .enum-told .given .1) in
-    slot-low (a .p) (a .state) (c .filling-slot .result) (c .filling-slot .ensures) (ready (a .p) k m none! .filling)
+row-of-requires : tie.Need-row-of-requires
+row-of-requires c κs =
+    let s = c .before .before .before .before .before .before .before .before .before .before .before in
+    let none! : refusal (s .args .p) (disk s) (memory s) ≡ none = sym (c .before .before .checks .ensures) ∙ ap checked (c .enum-told .given .1) in
+    slot-low (s .args .p) (s .args .state) (c .before .before .before .before .filling-slot .result) (slot-of (c .before .before .before .before)) (ready (s .args .p) (disk s) (memory s) none! .filling)
 
 pad-all-requires : tie.Need-pad-all-requires
 pad-all-requires c κs =
-    let a = c .before .before .before .before .before .before .before .before .before .before .before .before .args in
-    let k : Disk = mkDisk (a .image .now) (a .pointers .now) in
-    let m : Memory = mkMemory (a .state) (a .addresses .now) (a .compact .now) (a .inflight .now) in
-    let none! : refusal (a .p) k m ≡ none = sym (c .before .before .before .before .before .checks .ensures) ∙ ap checked (c .before .before .before .enum-told .given .1) in
-    let r = ready (a .p) k m none! in
-    let i = c .before .before .filling-slot .result in
-    (r .ranged, (slot-low (a .p) (a .state) i (c .before .before .filling-slot .ensures) (r .filling), slot-open (a .p) (a .state) i (c .before .before .filling-slot .ensures) (r .filling), r .inflight-long))
+    let s = c .before .before .before .before .before .before .before .before .before .before .before .before .before in
+    let none! : refusal (s .args .p) (disk s) (memory s) ≡ none = sym (c .before .before .before .before .checks .ensures) ∙ ap checked (c .before .before .enum-told .given .1) in
+    let r = ready (s .args .p) (disk s) (memory s) none! in
+    let i = c .before .before .before .before .before .before .filling-slot .result in
+    let e : c .before .row-of .result .filled ≡ filledIn (s .args .state) i = ap (λ (x : Row). x .filled) (c .before .row-of .ensures) ∙ row-filled (s .args .state) i in (
+      r .ranged,
+      (slot-low (s .args .p) (s .args .state) i (slot-of (c .before .before .before .before .before .before)) (r .filling), omega (arith, e, slot-open (s .args .p) (s .args .state) i (slot-of (c .before .before .before .before .before .before)) (r .filling)), r .inflight-long),
+    )
+
+cast-t20 : tie.Need-cast-t20
+cast-t20 c = search needs
 
 same-length-2 : tie.Need-same-length-2
 same-length-2 c = search needs
 
 returns-2 : tie.Need-returns-2
 returns-2 c =
-    let a = c .before .before .before .before .before .before .before .before .before .before .before .before .before .before .before .args in
-    let k : Disk = mkDisk (a .image .now) (a .pointers .now) in
-    let m : Memory = mkMemory (a .state) (a .addresses .now) (a .compact .now) (a .inflight .now) in
-    let none! : refusal (a .p) k m ≡ none = sym (c .before .before .before .before .before .before .before .before .checks .ensures) ∙ ap checked (c .before .before .before .before .before .before .enum-told .given .1) in
-    λ n. close-done (a .p) k m none! (c .before .before .before .before .before .filling-slot .result) (c .before .before .before .before .stripe-in .result) (c .before .before .pad-all .result) _ (c .before .before .before .before .before .filling-slot .ensures) (c .before .before .before .before .stripe-in .ensures) (c .before .before .pad-all .ensures .0) (c .before .before .pad-all .ensures .1) n
+    let s = c .before .before .before .before .before .before .before .before .before .before .before .before .before .before .before .before .before .before .before in
+    let a = s .args in
+    let none! : refusal (a .p) (disk s) (memory s) ≡ none = sym (c .before .before .before .before .before .before .before .before .before .before .checks .ensures) ∙ ap checked (c .before .before .before .before .before .before .before .before .enum-told .given .1) in
+    let r = ready (a .p) (disk s) (memory s) none! in
+    let at = fillingSlot (a .p) (a .state) in
+    let f = c .before .before .before .before .before .before .before .before .before .before .before .before .before .front-of in
+    let g = c .before .before .before .before .before .before .before .before .before .before .before .before .filling-slot in
+    let q = c .before .before .before .before .before .pad-all in
+    let few : dataCount (a .p) ≤ 8 = omega (arith, data-count-high (a .p) (ranged (a .p) (r .ranged))) in
+    λ n. close-done (a .p) (disk s) (memory s) none! (sized s) (slot-low (a .p) (a .state) at refl (r .filling)) few (slot-open (a .p) (a .state) at refl (r .filling)) (f .result) (f .ensures)
+    (g .result) (slot-of (c .before .before .before .before .before .before .before .before .before .before .before .before)) (c .before .before .before .before .before .before .before .row-of .result) (c .before .before .before .before .before .before .before .row-of .ensures) (q .result) (q .last .1 .0) (q .ensures .0) (q .ensures .1) n
 
 pub close-spec : {M : Type 1} → statement M
 close-spec =
     tie.close
     (tie.spec
+    front-of-requires
+    filling-slot-requires
     checks-requires
     enum-known-c
+    kept-requires
     same-length
     returns
     enum-told
-    filling-slot-requires
-    stripe-in-requires
+    row-of-requires
     pad-all-requires
+    cast-t20
     same-length-2
     returns-2)

@@ -1,38 +1,45 @@
-use Rattle.close.specs.Pads.{zeros-are, zeros-long}
-use Rattle.defs.specs.Counts.{paddingAddress}
-use Rattle.defs.specs.Write.{Placed, placed}
-use Rattle.laws.specs.Geometry.{ranged}
+use Prim.Native.Nat.{ℕ}
+use Rattle.defs.specs.Bytes.{splice}
+use Rattle.defs.specs.Memory.{slotByte, setSlotBlock}
+use Rattle.filling.specs.Entries.{driveFor, entered, placedRow}
+use lib.ListN.{replicate}
+use mathlib.Core.Path.{_≡_, ap, _∙_}
 use borrow.Author.Needs.{needs}
-use mathlib.Core.Path.{sym, ap, _∙_}
-use native.Mathlib.Omega.{arith}
 use Rattle.close.proofs.pad.Statement.{statement}
 use Rattle.close.proofs.pad.Tie as tie
 
-array-share-prefix-zeros : tie.Need-array-share-prefix-zeros
-array-share-prefix-zeros c = omega (arith, ranged (c .before .before .args .p) (c .before .before .pre .0) .block-high)
+next-drive-requires : tie.Need-next-drive-requires
+next-drive-requires c κs = search needs
 
-slice-aggregate-placed : tie.Need-slice-aggregate-placed
-slice-aggregate-placed c = sym (zeros-long (c .before .before .before .args .p .B) 4096 (ranged (c .before .before .before .args .p) (c .before .before .before .pre .0) .block-high))
+slot-byte-requires : tie.Need-slot-byte-requires
+slot-byte-requires c κs = search needs
 
-placed-requires : tie.Need-placed-requires
-placed-requires c κs = (c .before .before .before .pre .0, (c .before .before .before .pre .1 .0, c .before .before .before .pre .1 .1, c .before .before .before .pre .1 .2, zeros-long (c .before .before .before .args .p .B) 4096 (ranged (c .before .before .before .args .p) (c .before .before .before .pre .0) .block-high)))
+clear-part-requires : tie.Need-clear-part-requires
+clear-part-requires c κs = search needs
+
+enter-requires : tie.Need-enter-requires
+enter-requires c κs = search needs
 
 same-length : tie.Need-same-length
 same-length c = search needs
 
 returns : tie.Need-returns
+unfolding placedRow setSlotBlock
 returns c =
-    let a = c .before .before .before .before .before .before .before .args in
-    let z = zeros-are (a .p .B) 4096 (ranged (a .p) (c .before .before .before .before .before .before .before .pre .0) .block-high) in
-    let q = c .before .before .before .placed .ensures ∙ ap (placed (a .p) (a .state) (a .inflight .now) (a .i) paddingAddress 0 0) z in
-    (ap (λ (x : Placed). x .state) q, ap (λ (x : Placed). x .inflight) q)
+    let a = c .before .before .before .before .before .before .before .before .before .before .before .args in
+    let d : c .before .before .before .before .before .before .before .before .before .next-drive .result ≡ driveFor (a .p) (a .row) = c .before .before .before .before .before .before .before .before .before .next-drive .ensures .0 in
+    let b : c .before .before .before .before .before .before .clear-part .last .0 ≡ setSlotBlock (a .p) (a .inflight .now) (a .i) (driveFor (a .p) (a .row)) (replicate (a .p .B) 0) =
+    c .before .before .before .before .before .before .clear-part .ensures ∙ ap (λ (x : ℕ). splice (a .inflight .now) x (replicate (a .p .B) 0)) (c .before .before .before .before .before .before .before .before .slot-byte .ensures .0 ∙ ap (slotByte (a .p) (a .i)) d) in
+    let q = c .before .before .enter in
+    (q .ensures .0, q .ensures .1 ∙ ap (entered (a .p) (a .row) (a .i)) b)
 
 pub pad-spec : {M : Type 1} → statement M
 pad-spec =
     tie.close
     (tie.spec
-    array-share-prefix-zeros
-    slice-aggregate-placed
-    placed-requires
+    next-drive-requires
+    slot-byte-requires
+    clear-part-requires
+    enter-requires
     same-length
     returns)

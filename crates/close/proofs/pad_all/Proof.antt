@@ -1,11 +1,9 @@
 use Prim.Native.Nat.{ℕ, _+_, _-_, _≤_, _<_}
 use Rattle.laws.specs.Geometry.{ranged, data-count-high}
-use Rattle.close.specs.Pads.{pads-turn, pads-end, pad-filled, pad-slots}
-use Rattle.defs.specs.Closing.{padded}
-use Rattle.defs.specs.Memory.{filledIn}
+use Rattle.close.specs.Pads.{paddedRow, pads-turn, pads-end, pad-filled}
 use Rattle.defs.specs.Params.{dataCount}
-use Rattle.defs.specs.Write.{Placed}
-use Rattle.defs.specs.declared.State.{State}
+use Rattle.filling.specs.Entries.{PlacedRow}
+use Rattle.rows.specs.declared.Row.{Row}
 use borrow.Author.Needs.{needs}
 use lib.ListN.{length}
 use mathlib.Core.Path.{_≡_, refl, sym, ap, _∙_}
@@ -13,11 +11,8 @@ use native.Mathlib.Omega.{arith}
 use Rattle.close.proofs.pad_all.Statement.{statement}
 use Rattle.close.proofs.pad_all.Tie as tie
 
--- filling the rest leaves what filling all of them leaves
 abbrev Inv-loop : tie.InvT-loop
-Inv-loop p inflight₀ i n next₀ k₀ inflight next k =
-    (k ≤ dataCount p) × (k ≡ filledIn next i) × (length (next .filled) ≡ 8) × (length inflight ≡ length inflight₀)
-    × (padded p i (dataCount p - k) next inflight ≡ padded p i (dataCount p - k₀) next₀ inflight₀)
+Inv-loop p inflight₀ i n next₀ k₀ inflight next k = (k ≤ dataCount p) × (k ≡ next .filled) × (length inflight ≡ length inflight₀) × (paddedRow p i (dataCount p - k) next inflight ≡ paddedRow p i (dataCount p - k₀) next₀ inflight₀)
 
 abbrev μ-loop : tie.MeasureT-loop
 μ-loop p inflight₀ i n next₀ k₀ inflight next k = dataCount p - k
@@ -25,14 +20,11 @@ abbrev μ-loop : tie.MeasureT-loop
 data-count-requires : tie.Need-data-count-requires Inv-loop μ-loop
 data-count-requires c κs = search needs
 
-filled-in-requires : tie.Need-filled-in-requires Inv-loop μ-loop
-filled-in-requires c κs = c .before .before .pre .1 .0
-
-eight : (c : tie.Start Inv-loop μ-loop) → length (c .args .state .filled) ≡ 8
-eight c = search needs
+wide-requires : tie.Need-wide-requires Inv-loop μ-loop
+wide-requires c κs = search needs
 
 loop-holds : tie.Need-loop-holds Inv-loop μ-loop
-loop-holds c = (omega (arith, c .filled-in .ensures, c .before .before .before .pre .1 .1), c .filled-in .ensures, eight (c .before .before .before), refl, refl)
+loop-holds c = (omega (arith, c .wide .ensures, c .before .before .before .pre .1 .1), c .wide .ensures, refl, refl)
 
 low : (c : tie.In-loop Inv-loop μ-loop) → c .before .loop .k < dataCount (c .before .before .before .before .before .args .p)
 low c = omega (arith, c .loop-test .taken, c .before .before .before .data-count .ensures .0)
@@ -40,7 +32,7 @@ low c = omega (arith, c .loop-test .taken, c .before .before .before .data-count
 pad-requires : tie.Need-pad-requires Inv-loop μ-loop
 pad-requires c κs =
     let l = c .before .before .loop in
-    (c .before .before .before .before .before .before .pre .0, (c .before .before .before .before .before .before .pre .1 .0, omega (arith, low (c .before), l .inv .1), l .inv .3 ∙ c .before .before .before .before .before .before .pre .1 .2))
+    (c .before .before .before .before .before .before .pre .0, (c .before .before .before .before .before .before .pre .1 .0, omega (arith, low (c .before), l .inv .1), l .inv .2 ∙ c .before .before .before .before .before .before .pre .1 .2))
 
 add-k : tie.Need-add-k Inv-loop μ-loop
 add-k c = omega (arith, low (c .before .before .before .before), data-count-high (c .before .before .before .before .before .before .before .before .before .args .p) (ranged (c .before .before .before .before .before .before .before .before .before .args .p) (c .before .before .before .before .before .before .before .before .before .pre .0)))
@@ -54,22 +46,21 @@ loop-again c =
     let l = c .before .before .before .before .before .loop in
     let r = c .before .before .pad .ensures in (
       omega (arith, low (c .before .before .before .before)),
-      pad-filled (a .p) (a .i) (l .next) (l .inflight) (l .k) (l .inv .2) (c .before .before .before .before .before .before .before .before .before .pre .1 .0) (l .inv .1) ∙ ap (λ (x : State). filledIn x (a .i)) (sym (r .0)),
-      ap (λ (x : State). length (x .filled)) (r .0) ∙ pad-slots (a .p) (a .i) (l .next) (l .inflight) (l .k) (l .inv .2),
-      c .before .before .pad .kept .1 .0 ∙ l .inv .3,
-      (λ j. padded (a .p) (a .i) (dataCount (a .p) - (l .k + 1)) (r .0 j) (r .1 j)) ∙ pads-turn (a .p) (a .i) (l .next) (l .inflight) (l .k) (low (c .before .before .before .before)) ∙ l .inv .4,
+      pad-filled (a .p) (a .i) (l .next) (l .inflight) (l .k) (l .inv .1) ∙ ap (λ (x : Row). x .filled) (sym (r .0)),
+      c .before .before .pad .kept .1 .0 ∙ l .inv .2,
+      (λ j. paddedRow (a .p) (a .i) (dataCount (a .p) - (l .k + 1)) (r .0 j) (r .1 j)) ∙ pads-turn (a .p) (a .i) (l .next) (l .inflight) (l .k) (low (c .before .before .before .before)) ∙ l .inv .3,
     )
 
 same-length : tie.Need-same-length Inv-loop μ-loop
-same-length c = c .before .loop .inv .3
+same-length c = c .before .loop .inv .2
 
 returns : tie.Need-returns Inv-loop μ-loop
 returns c =
     let a = c .before .before .before .before .before .args in
     let l = c .before .loop in
     let e : dataCount (a .p) ≤ l .k = omega (arith, c .loop-test .left, c .before .before .before .data-count .ensures .0) in
-    let q = sym (pads-end (a .p) (a .i) (l .next) (l .inflight) (l .k) e) ∙ l .inv .4 ∙ ap (λ (x : ℕ). padded (a .p) (a .i) (dataCount (a .p) - x) (a .state) (a .inflight .now)) (c .before .before .filled-in .ensures) in
-    (ap (λ (x : Placed). x .state) q, ap (λ (x : Placed). x .inflight) q)
+    let q = sym (pads-end (a .p) (a .i) (l .next) (l .inflight) (l .k) e) ∙ l .inv .3 ∙ ap (λ (x : ℕ). paddedRow (a .p) (a .i) (dataCount (a .p) - x) (a .row) (a .inflight .now)) (c .before .before .wide .ensures) in
+    (ap (λ (x : PlacedRow). x .row) q, ap (λ (x : PlacedRow). x .inflight) q)
 
 pub pad-all-spec : {M : Type 1} → statement M
 pad-all-spec =
@@ -78,7 +69,7 @@ pad-all-spec =
     Inv-loop
     μ-loop
     data-count-requires
-    filled-in-requires
+    wide-requires
     loop-holds
     pad-requires
     add-k

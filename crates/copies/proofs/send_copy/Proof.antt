@@ -1,23 +1,73 @@
-use Prim.Native.Nat.{_≤_}
+-- `send_copy`: the front and the aim are the state's; then cut or done. Assumes nothing.
+use Prim.Native.Nat.{_≤_, _<_}
 use Rattle.defs.specs.Counts.{lastCount}
 use Rattle.defs.specs.Drives.{Disk, mkDisk}
 use Rattle.defs.specs.Memory.{Memory, mkMemory}
-use Rattle.defs.specs.declared.Answer.the-variants.{Copied}
-use Rattle.copies.specs.Copying.{sent-ready, sent-cut, sent-done}
+use Rattle.copies.specs.Copying.{copiedAs, sent-asks, sent-cut, sent-done}
+use Rattle.filling.specs.Aims.{aimOf, front-aim}
+use Rattle.filling.specs.Left.{Opening, opening-front}
+use Rattle.filling.specs.declared.Aim.{Aim}
+use Rattle.plans.specs.Slots.{slot-lt}
+use Rattle.rows.specs.Rows.{Sized, behind}
+use Rattle.rows.specs.declared.Change.{Change}
+use Rattle.rows.specs.declared.Front.{Front}
 use borrow.Author.Needs.{needs}
 use lib.Arith.{lt-of-le-ne}
+use mathlib.Core.Path.{_≡_, sym, ap, _∙_, subst}
 use native.Mathlib.Omega.{arith}
 use Rattle.copies.proofs.send_copy.Statement.{statement}
 use Rattle.copies.proofs.send_copy.Tie as tie
 
--- a serial fits 64 bits
+-- a serial fits 64 bits; the arrays have their lengths
 serial-fits : (c : tie.Start) → c .args .state .serial .0 ≤ lastCount
 serial-fits c = omega arith
 
+sized : (c : tie.Start) → Sized (c .args .state)
+sized c = record {
+  numbers = search needs;
+  filled = search needs;
+  writes = search (needs, c .good .1 .1 .1 .1 .1 .1 .0 .1 .1 .1 .1 .1 .1);
+  landed = search (needs, c .good .1 .1 .1 .1 .1 .1 .0 .1 .1 .1 .1 .1 .1);
+  addresses = search (needs, c .good .1 .1 .1 .1 .1 .1 .0 .1 .1 .1 .1 .1 .1);
+  stamps = search (needs, c .good .1 .1 .1 .1 .1 .1 .0 .1 .1 .1 .1 .1 .1 .1 .1 .1);
+  offsets = search (needs, c .good .1 .1 .1 .1 .1 .1 .0 .1 .1 .1 .1 .1 .1 .1 .1 .1);
+}
+
+abbrev disk : (c : tie.Start) → Disk
+disk c = mkDisk (c .args .image .now) (c .args .pointers .now)
+
+abbrev memory : (c : tie.Start) → Memory
+memory c = mkMemory (c .args .state) (c .args .addresses .now) (c .args .compact .now) (c .args .inflight .now)
+
+-- the aim is the state's
+aimed : (c : tie.After-aim-of) → c .aim-of .result ≡ aimOf (c .before .before .before .before .before .before .before .before .args .p) (c .before .before .before .before .before .before .before .before .args .state)
+aimed c = c .aim-of .ensures ∙ front-aim (c .before .before .before .before .before .before .before .before .args .p) (c .before .before .before .before .before .before .before .before .args .state) (c .before .front-of .result) (c .before .front-of .ensures)
+
+front-of-requires : tie.Need-front-of-requires
+front-of-requires c κs = search needs
+
+aim-of-requires : tie.Need-aim-of-requires
+aim-of-requires c κs = search needs
+
 open-requires : tie.Need-open-requires
 open-requires c κs =
-    let r = c .before .before .before .before .before .before .before .before .pre .0 in
-    (r .in-range, (r .whole, (λ e. lt-of-le-ne (serial-fits (c .before .before .before .before .before .before .before .before)) (r .serial-left e), r .empties)))
+    let s = c .before .before .before .before .before .before .before .before .before .before in
+    let r = s .pre .0 in
+    let f = c .before .before .before .front-of in (
+      r .in-range,
+      (
+        r .whole,
+        (
+          ap (λ (x : Aim). x .opens) (c .before .before .aim-of .ensures),
+          (
+            λ e.
+                subst (λ (x : Front). x .serial .0 < lastCount) (sym (f .ensures))
+                (lt-of-le-ne (serial-fits s) (r .serial-left (ap (λ (x : Aim). x .opens) (sym (aimed (c .before .before))) ∙ e))),
+            λ e. r .empties (ap (λ (x : Aim). x .opens) (sym (aimed (c .before .before))) ∙ e),
+          ),
+        ),
+      ),
+    )
 
 cut-requires : tie.Need-cut-requires
 cut-requires c κs = search needs
@@ -36,23 +86,35 @@ same-length-4 c = search needs
 
 returns : tie.Need-returns
 returns c =
-    let a = c .before .before .before .before .before .before .before .before .before .before .before .before .before .before .before .before .before .before .before .before .before .args in
-    let k : Disk = mkDisk (a .image .now) (a .pointers .now) in
-    let m : Memory = mkMemory (a .state) (a .addresses .now) (a .compact .now) (a .inflight .now) in
+    let s = c .before .before .before .before .before .before .before .before .before .before .before .before .before .before .before .before .before .before .before .before .before .before .before in
+    let a = s .args in
     let o = c .before .before .before .before .before .before .before .before .before .before .before .before .«open» in
+    let k′ : Disk = mkDisk (o .last .1 .0) (o .last .1 .1 .0) in
+    let h : Opening (a .p) (a .state) (a .count) (disk s) (o .result) k′ = opening-front (a .p) (a .state) (a .count) (disk s) (o .result) k′ (subst (λ (x : Front). Opening (a .p) (behind x) (a .count) (disk s) (o .result) k′) (c .before .before .before .before .before .before .before .before .before .before .before .before .before .before .before .before .front-of .ensures) (o .ensures)) in
     let u = c .before .before .before .before .cut in
-    sent-cut (a .p) k m (a .address .0) (a .stamp .0) (a .block .now) (a .count) (c .before .before .before .before .before .before .before .before .before .before .before .before .before .before .before .before .before .before .before .before .before .pre .0) (o .result) (mkDisk (o .last .1 .0) (o .last .1 .1 .0)) (o .ensures) (c .before .before .before .before .before .before .before .if1 .taken)
-    (u .result) (u .last .0) (u .last .1 .0) (u .ensures .0 .0) (u .ensures .0 .1) (u .ensures .1 .0) (u .ensures .1 .1)
+    sent-cut (a .p) (disk s) (memory s) (a .address .0) (a .stamp .0) (a .block .now) (a .count) (s .pre .0) (o .result) k′ h (c .before .before .before .before .before .before .before .if1 .taken) (u .result) (u .last .0) (u .last .1 .0)
+    (ap (λ (x : Change). x .answer) (u .ensures .0)) (u .ensures .1 .0) (u .ensures .1 .1)
+
+row-of-requires : tie.Need-row-of-requires
+row-of-requires c κs =
+    let s = c .before .before .before .before .before .before .before .before .before .before .before .before .before .before .before .before in
+    subst (λ (x : Aim). x .slot < 8) (sym (aimed (c .before .before .before .before .before .before .before .before))) (slot-lt (s .args .p) (s .args .state) (s .pre .0 .waits))
 
 send-requires : tie.Need-send-requires
 send-requires c κs =
-    let a = c .before .before .before .before .before .before .before .before .before .before .before .before .before .before .before .before .args in
-    let k : Disk = mkDisk (a .image .now) (a .pointers .now) in
-    let m : Memory = mkMemory (a .state) (a .addresses .now) (a .compact .now) (a .inflight .now) in
+    let s = c .before .before .before .before .before .before .before .before .before .before .before .before .before .before .before .before .before .before in
+    let a = s .args in
+    let r = s .pre .0 in
     let o = c .before .before .before .before .before .before .before .«open» in
-    let r = c .before .before .before .before .before .before .before .before .before .before .before .before .before .before .before .before .pre .0 in
-    let s = sent-ready (a .p) k m (a .address .0) (a .stamp .0) (a .block .now) (a .count) r (o .result .state) (o .ensures .state (c .before .before .if1 .left)) in
-    (r .in-range, (s .0, s .1, s .2, r .inflight-long, c .before .before .before .before .before .before .before .before .before .before .before .before .before .before .before .before .pre .1))
+    let f = c .before .before .before .before .before .before .before .before .before .before .before .front-of in
+    let k′ : Disk = mkDisk (o .last .1 .0) (o .last .1 .1 .0) in
+    let h : Opening (a .p) (a .state) (a .count) (disk s) (o .result) k′ = opening-front (a .p) (a .state) (a .count) (disk s) (o .result) k′ (subst (λ (x : Front). Opening (a .p) (behind x) (a .count) (disk s) (o .result) k′) (f .ensures) (o .ensures)) in
+    let q = sent-asks (a .p) (disk s) (memory s) (a .address .0) (a .stamp .0) (a .block .now) (a .count) r (o .result) k′ h (f .result) (f .ensures) (c .before .before .before .before .before .before .before .before .before .before .aim-of .result) (aimed (c .before .before .before .before .before .before .before .before .before .before))
+    (c .before .row-of .result) (c .before .row-of .ensures) in
+    (r .in-range, (q .0, q .1, q .2, r .inflight-long, s .pre .1))
+
+cast-t31 : tie.Need-cast-t31
+cast-t31 c = search needs
 
 same-length-5 : tie.Need-same-length-5
 same-length-5 c = search needs
@@ -65,20 +127,23 @@ same-length-7 c = search needs
 
 returns-2 : tie.Need-returns-2
 returns-2 c =
-    let a = c .before .before .before .before .before .before .before .before .before .before .before .before .before .before .before .before .before .before .before .before .args in
-    let k : Disk = mkDisk (a .image .now) (a .pointers .now) in
-    let m : Memory = mkMemory (a .state) (a .addresses .now) (a .compact .now) (a .inflight .now) in
-    let o = c .before .before .before .before .before .before .before .before .before .before .before .«open» in
-    let t = c .before .before .before .send .result in
-    let q = c .before .before .before .send .ensures in
-    sent-done (a .p) k m (a .address .0) (a .stamp .0) (a .block .now) (a .count) (c .before .before .before .before .before .before .before .before .before .before .before .before .before .before .before .before .before .before .before .before .pre .0) (o .result) (mkDisk (o .last .1 .0) (o .last .1 .1 .0)) (o .ensures) (c .before .before .before .before .before .before .if1 .left)
-    (record { answer = Copied (a .stamp) (t .stripe) (t .drive); state = t .state }) (c .before .before .before .send .last .1 .0)
-    (record { answer = λ j. Copied (a .stamp) (q j .stripe) (q j .drive); state = λ j. q j .state; inflight = λ j. q j .inflight })
+    let s = c .before .before .before .before .before .before .before .before .before .before .before .before .before .before .before .before .before .before .before .before .before .before .before .before .before in
+    let a = s .args in
+    let o = c .before .before .before .before .before .before .before .before .before .before .before .before .before .before .«open» in
+    let f = c .before .before .before .before .before .before .before .before .before .before .before .before .before .before .before .before .before .before .front-of in
+    let g = c .before .before .before .before .before .before .before .before .before .before .before .before .before .before .before .before .before .aim-of .result in
+    let k′ : Disk = mkDisk (o .last .1 .0) (o .last .1 .1 .0) in
+    let h : Opening (a .p) (a .state) (a .count) (disk s) (o .result) k′ = opening-front (a .p) (a .state) (a .count) (disk s) (o .result) k′ (subst (λ (x : Front). Opening (a .p) (behind x) (a .count) (disk s) (o .result) k′) (f .ensures) (o .ensures)) in
+    let q = c .before .before .before .before .before .before .send in
+    sent-done (a .p) (disk s) (memory s) (a .address .0) (a .stamp .0) (a .block .now) (a .count) (s .pre .0) (o .result) k′ h (f .result) (f .ensures) g (aimed (c .before .before .before .before .before .before .before .before .before .before .before .before .before .before .before .before .before))
+    (c .before .before .before .before .before .before .before .before .row-of .result) (c .before .before .before .before .before .before .before .before .row-of .ensures) (sized s) (c .before .before .before .before .before .before .before .before .before .if1 .left) _ (q .last .1 .0) (λ j. copiedAs (f .result) g (o .result) (a .stamp .0) (q .ensures j)) (λ j. q .ensures j .inflight)
 
 pub send-copy-spec : {M : Type 1} → statement M
 send-copy-spec =
     tie.close
     (tie.spec
+    front-of-requires
+    aim-of-requires
     open-requires
     cut-requires
     same-length
@@ -86,7 +151,9 @@ send-copy-spec =
     same-length-3
     same-length-4
     returns
+    row-of-requires
     send-requires
+    cast-t31
     same-length-5
     same-length-6
     same-length-7

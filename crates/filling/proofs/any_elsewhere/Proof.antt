@@ -1,3 +1,4 @@
+use Rattle.rows.specs.Rows.{behind}
 use Prim.Native.Nat.{_-_, _≤_}
 use Rattle.defs.specs.Lists.{upFrom, below, any}
 use Rattle.defs.specs.Memory.{slotCount, slots, isFree, inFlight}
@@ -10,14 +11,14 @@ use Rattle.filling.proofs.any_elsewhere.Statement.{statement}
 use Rattle.filling.proofs.any_elsewhere.Tie as tie
 
 abbrev Inv-loop : tie.InvT-loop
-Inv-loop p state i₀ i = (i ≤ 8) × (any (λ k. not (isFree state k) && otherGroup p state k) (upFrom i (8 - i)) ≡ any (otherGroup p state) (inFlight state))
+Inv-loop p f i₀ i = (i ≤ 8) × (any (λ k. not (isFree (behind f) k) && otherGroup p (behind f) k) (upFrom i (8 - i)) ≡ any (otherGroup p (behind f)) (inFlight (behind f)))
 
 abbrev μ-loop : tie.MeasureT-loop
-μ-loop p state i₀ i = 8 - i
+μ-loop p f i₀ i = 8 - i
 
 loop-holds : tie.Need-loop-holds Inv-loop μ-loop
 unfolding inFlight slots slotCount
-loop-holds c = let a = c .args in (omega arith, any-start (λ k. not (isFree (a .state) k) && otherGroup (a .p) (a .state) k) 8 ∙ sym (any-keep (λ k. not (isFree (a .state) k)) (otherGroup (a .p) (a .state)) (below 8)))
+loop-holds c = let a = c .args in (omega arith, any-start (λ k. not (isFree (behind (a .f)) k) && otherGroup (a .p) (behind (a .f)) k) 8 ∙ sym (any-keep (λ k. not (isFree (behind (a .f)) k)) (otherGroup (a .p) (behind (a .f))) (below 8)))
 
 is-elsewhere-requires : tie.Need-is-elsewhere-requires Inv-loop μ-loop
 is-elsewhere-requires c κs = (c .before .before .pre, omega arith)
@@ -26,7 +27,7 @@ returns : tie.Need-returns Inv-loop μ-loop
 returns c =
     let a = c .before .before .before .before .args in
     let l = c .before .before .before .loop in
-    sym (any-found (λ k. not (isFree (a .state) k) && otherGroup (a .p) (a .state) k) (l .i) 8 (omega arith) (sym (c .before .is-elsewhere .ensures) ∙ c .if1 .taken)) ∙ l .inv .1
+    sym (any-found (λ k. not (isFree (behind (a .f)) k) && otherGroup (a .p) (behind (a .f)) k) (l .i) 8 (omega arith) (sym (c .before .is-elsewhere .ensures) ∙ c .if1 .taken)) ∙ l .inv .1
 
 add-i : tie.Need-add-i Inv-loop μ-loop
 add-i c = omega arith
@@ -38,13 +39,13 @@ loop-again : tie.Need-loop-again Inv-loop μ-loop
 loop-again c =
     let a = c .before .before .before .before .args in
     let l = c .before .before .before .loop in
-    (omega arith, sym (any-passed (λ k. not (isFree (a .state) k) && otherGroup (a .p) (a .state) k) (l .i) 8 (omega arith) (sym (c .before .is-elsewhere .ensures) ∙ c .if1 .left)) ∙ l .inv .1)
+    (omega arith, sym (any-passed (λ k. not (isFree (behind (a .f)) k) && otherGroup (a .p) (behind (a .f)) k) (l .i) 8 (omega arith) (sym (c .before .is-elsewhere .ensures) ∙ c .if1 .left)) ∙ l .inv .1)
 
 returns-2 : tie.Need-returns-2 Inv-loop μ-loop
 returns-2 c =
     let a = c .before .before .args in
     let l = c .before .loop in
-    sym (any-ended (λ k. not (isFree (a .state) k) && otherGroup (a .p) (a .state) k) (l .i) 8 (omega arith)) ∙ l .inv .1
+    sym (any-ended (λ k. not (isFree (behind (a .f)) k) && otherGroup (a .p) (behind (a .f)) k) (l .i) 8 (omega arith)) ∙ l .inv .1
 
 pub any-elsewhere-spec : {M : Type 1} → statement M
 any-elsewhere-spec =

@@ -1,9 +1,9 @@
 use Rattle.defs.specs.Write.{mustOpen}
-use borrow.Author.Needs.{needs}
 use borrow.Author.Tests.{eq-eqb, ne-eqb}
 use lib.Dec.{eqb}
 use mathlib.Core.Bool.{Bool, false, _||_}
 use mathlib.Core.Path.{_≡_, sym, ap}
+use borrow.Author.Needs.{needs}
 use Rattle.filling.proofs.must_open.Statement.{statement}
 use Rattle.filling.proofs.must_open.Tie as tie
 
@@ -11,7 +11,7 @@ returns : tie.Need-returns
 unfolding mustOpen
 returns c =
     let a = c .before .before .args in
-    ap (λ (x : Bool). x || eqb (a .state .next) (a .p .S)) (sym (eq-eqb (a .state .opened) 0 (c .if1 .taken)))
+    ap (λ (x : Bool). x || eqb (a .f .next) (a .p .S)) (sym (eq-eqb (a .f .opened) 0 (c .if1 .taken)))
 
 whole-requires : tie.Need-whole-requires
 whole-requires c κs = search needs
@@ -20,7 +20,7 @@ returns-2 : tie.Need-returns-2
 unfolding mustOpen
 returns-2 c =
     let a = c .before .before .before .before .args in
-    let e : eqb (a .state .opened) 0 ≡ false = ne-eqb (a .state .opened) 0 (c .before .before .if1 .left) in
+    let e : eqb (a .f .opened) 0 ≡ false = ne-eqb (a .f .opened) 0 (c .before .before .if1 .left) in
     λ j. sym e j || eqb (c .before .whole .ensures j) (a .p .S)
 
 pub must-open-spec : {M : Type 1} → statement M

@@ -1,27 +1,38 @@
 use Prim.Native.Nat.{ℕ}
 use Rattle.defs.specs.Lists.{any, isNil}
 use Rattle.defs.specs.Memory.{slotCount, inFlight, hasFilling}
-use Rattle.defs.specs.Write.{mustOpen, otherGroup, mustWait}
+use Rattle.defs.specs.Write.{mustOpen, opens, otherGroup, mustWait}
+use Rattle.filling.specs.declared.Aim.{Aim}
+use Rattle.rows.specs.Rows.{behind}
 use Rattle.scans.specs.Scans.{isNil-length}
-use borrow.Author.Needs.{needs}
-use borrow.Author.Tests.{le-leb, lt-leb}
+use borrow.Author.Tests.{le-leb, lt-leb, not-true, not-false}
 use lib.Dec.{leb, eqb}
 use lib.ListN.{length}
-use mathlib.Core.Bool.{true, false, not, _&&_, _||_, or-false}
+use mathlib.Core.Bool.{Bool, true, false, not, _&&_, _||_, or-false}
 use mathlib.Core.Path.{_≡_, sym, ap, _∙_}
 use native.Mathlib.Omega.{arith}
+use borrow.Author.Needs.{needs}
 use Rattle.filling.proofs.must_wait.Statement.{statement}
 use Rattle.filling.proofs.must_wait.Tie as tie
 
-has-filling-requires : tie.Need-has-filling-requires
-has-filling-requires c κs = tt
+-- what the aim says
+filling-is : (c : tie.Start) → not (c .args .a .begins) ≡ true → hasFilling (c .args .p) (behind (c .args .f)) ≡ true
+filling-is c e = not-false (hasFilling (c .args .p) (behind (c .args .f))) (ap (λ (x : Aim). x .begins) (sym (c .pre .1)) ∙ not-true (c .args .a .begins) e)
+
+filling-not : (c : tie.Start) → not (c .args .a .begins) ≡ false → hasFilling (c .args .p) (behind (c .args .f)) ≡ false
+filling-not c e = not-true (hasFilling (c .args .p) (behind (c .args .f))) (ap (λ (x : Aim). x .begins) (sym (c .pre .1)) ∙ not-false (c .args .a .begins) e)
+
+opens-is : (c : tie.Start) → not (c .args .a .begins) ≡ false → mustOpen (c .args .p) (behind (c .args .f)) ≡ c .args .a .opens
+unfolding opens
+opens-is c e = ap (λ (x : Bool). not x && mustOpen (c .args .p) (behind (c .args .f))) (sym (filling-not c e)) ∙ ap (λ (x : Aim). x .opens) (sym (c .pre .1))
 
 returns : tie.Need-returns
 unfolding mustWait slotCount
 returns c =
-    let a = c .before .before .args in
-    let st = a .state in
-    let h : hasFilling (a .p) (a .state) ≡ true = sym (c .before .has-filling .ensures) ∙ c .if1 .taken in
+    let s = c .before .before in
+    let a = s .args in
+    let st = behind (a .f) in
+    let h = filling-is s (c .if1 .taken) in
     λ j. not (sym h j)
     && (leb 8 (length (inFlight st)) || (mustOpen (a .p) st && not (isNil (inFlight st))) || (not (mustOpen (a .p) st) && any (otherGroup (a .p) st) (inFlight st)))
 
@@ -31,49 +42,41 @@ in-flight-requires c κs = search needs
 returns-2 : tie.Need-returns-2
 unfolding mustWait slotCount
 returns-2 c =
-    let a = c .before .before .before .before .args in
-    let st = a .state in
-    let h : hasFilling (a .p) (a .state) ≡ false = sym (c .before .before .before .has-filling .ensures) ∙ c .before .before .if1 .left in
+    let s = c .before .before .before .before in
+    let a = s .args in
+    let st = behind (a .f) in
+    let h = filling-not s (c .before .before .if1 .left) in
     let e : leb 8 (length (inFlight st)) ≡ true = le-leb 8 (length (inFlight st)) (omega (arith, c .if2 .taken, c .before .in-flight .ensures)) in
     λ j. not (sym h j) && (sym e j || (mustOpen (a .p) st && not (isNil (inFlight st))) || (not (mustOpen (a .p) st) && any (otherGroup (a .p) st) (inFlight st)))
-
-must-open-requires : tie.Need-must-open-requires
-must-open-requires c κs = search needs
 
 returns-3 : tie.Need-returns-3
 unfolding mustWait slotCount
 returns-3 c =
-    let a = c .before .before .before .before .before .before .args in
-    let st = a .state in
-    let h : hasFilling (a .p) (a .state) ≡ false = sym (c .before .before .before .before .before .has-filling .ensures) ∙ c .before .before .before .before .if1 .left in
-    let e : leb 8 (length (inFlight st)) ≡ false = lt-leb 8 (length (inFlight st)) (omega (arith, c .before .before .if2 .left, c .before .before .before .in-flight .ensures)) in
-    let m : mustOpen (a .p) st ≡ true = sym (c .before .must-open .ensures) ∙ c .if3 .taken in
-    let n : eqb (c .before .before .before .in-flight .result) 0 ≡ isNil (inFlight st) = ap (λ (x : ℕ). eqb x 0) (c .before .before .before .in-flight .ensures) ∙ sym (isNil-length (inFlight st)) in
-    sym (or-false (not (eqb (c .before .before .before .in-flight .result) 0)))
+    let s = c .before .before .before .before .before in
+    let a = s .args in
+    let st = behind (a .f) in
+    let h = filling-not s (c .before .before .before .if1 .left) in
+    let e : leb 8 (length (inFlight st)) ≡ false = lt-leb 8 (length (inFlight st)) (omega (arith, c .before .if2 .left, c .before .before .in-flight .ensures)) in
+    let m : mustOpen (a .p) st ≡ true = opens-is s (c .before .before .before .if1 .left) ∙ c .if3 .taken in
+    let n : eqb (c .before .before .in-flight .result) 0 ≡ isNil (inFlight st) = ap (λ (x : ℕ). eqb x 0) (c .before .before .in-flight .ensures) ∙ sym (isNil-length (inFlight st)) in
+    sym (or-false (not (eqb (c .before .before .in-flight .result) 0)))
     ∙ (λ j. not (sym h j) && (sym e j || (sym m j && not (n j)) || (not (sym m j) && any (otherGroup (a .p) st) (inFlight st))))
 
 any-elsewhere-requires : tie.Need-any-elsewhere-requires
-any-elsewhere-requires c κs = c .before .before .before .before .before .before .pre
+any-elsewhere-requires c κs = search needs
 
 returns-4 : tie.Need-returns-4
 unfolding mustWait slotCount
 returns-4 c =
-    let a = c .before .before .before .before .before .before .before .args in
-    let st = a .state in
-    let h : hasFilling (a .p) (a .state) ≡ false = sym (c .before .before .before .before .before .before .has-filling .ensures) ∙ c .before .before .before .before .before .if1 .left in
-    let e : leb 8 (length (inFlight st)) ≡ false = lt-leb 8 (length (inFlight st)) (omega (arith, c .before .before .before .if2 .left, c .before .before .before .before .in-flight .ensures)) in
-    let m : mustOpen (a .p) st ≡ false = sym (c .before .before .must-open .ensures) ∙ c .before .if3 .left in
+    let s = c .before .before .before .before .before .before in
+    let a = s .args in
+    let st = behind (a .f) in
+    let h = filling-not s (c .before .before .before .before .if1 .left) in
+    let e : leb 8 (length (inFlight st)) ≡ false = lt-leb 8 (length (inFlight st)) (omega (arith, c .before .before .if2 .left, c .before .before .before .in-flight .ensures)) in
+    let m : mustOpen (a .p) st ≡ false = opens-is s (c .before .before .before .before .if1 .left) ∙ c .before .if3 .left in
     λ j. not (sym h j) && (sym e j || (sym m j && not (isNil (inFlight st))) || (not (sym m j) && c .any-elsewhere .ensures j))
 
 pub must-wait-spec : {M : Type 1} → statement M
 must-wait-spec =
     tie.close
-    (tie.spec
-    has-filling-requires
-    returns
-    in-flight-requires
-    returns-2
-    must-open-requires
-    returns-3
-    any-elsewhere-requires
-    returns-4)
+    (tie.spec returns in-flight-requires returns-2 returns-3 any-elsewhere-requires returns-4)

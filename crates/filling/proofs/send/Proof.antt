@@ -1,59 +1,66 @@
-use Prim.Native.Nat.{ℕ, _<_}
-use Rattle.defs.specs.Memory.{stripeIn, filledIn}
+use Prim.Native.Nat.{ℕ, suc, _<_}
 use Rattle.defs.specs.Params.{dataCount}
-use Rattle.defs.specs.Write.{placed, slotFor, begunBy}
+use Rattle.filling.specs.Entries.{begunRow, placedRow, mkSentRow, sentRow}
 use Rattle.laws.specs.Geometry.{ranged, data-count-low}
-use Rattle.plans.specs.Sends.{mkPlaced, mkSending, sending-plain}
-use Rattle.plans.specs.Slots.{slot-room}
-use borrow.Author.Needs.{needs}
-use mathlib.Core.Bool.{cond}
-use mathlib.Core.List.{[]}
-use mathlib.Core.Path.{_≡_, sym, ap₂, _∙_, subst}
+use Rattle.rows.specs.declared.Row.{Row}
+use mathlib.Core.Bool.{Bool, cond}
+use mathlib.Core.Path.{_≡_, sym, ap, ap₂, _∙_}
+use native.Mathlib.Numerals.{add-one}
 use native.Mathlib.Omega.{arith}
+use borrow.Author.Needs.{needs}
 use Rattle.filling.proofs.send.Statement.{statement}
 use Rattle.filling.proofs.send.Tie as tie
 
-slot-for-requires : tie.Need-slot-for-requires
-slot-for-requires c κs = search needs
-
 begun-requires : tie.Need-begun-requires
-begun-requires c κs = (c .before .before .before .pre .1 .1, c .before .before .before .pre .1 .2)
+begun-requires c κs = search needs
 
-stripe-in-requires : tie.Need-stripe-in-requires
-stripe-in-requires c κs = omega (arith, c .before .slot-for .ensures, c .before .before .before .before .pre .1 .1)
+place-requires : tie.Need-place-requires
+unfolding begunRow
+place-requires c κs =
+    let s = c .before .before .before .before .before in
+    let z : c .before .begun .result .filled ≡ 0 = ap (λ (x : Row). x .filled) (c .before .begun .ensures) in
+    (s .pre .0, (s .pre .1 .0, omega (arith, z, data-count-low (s .args .p) (ranged (s .args .p) (s .pre .0))), s .pre .1 .3, s .pre .1 .4))
 
-placed-requires : tie.Need-placed-requires
-placed-requires c κs =
-    let a = c .before .before .before .before .before .before .args in
-    let s : slotFor (a .p) (a .state) < 8 = c .before .before .before .before .before .before .pre .1 .1 in
-    let n : 0 < dataCount (a .p) = omega (arith, data-count-low (a .p) (ranged (a .p) (c .before .before .before .before .before .before .pre .0))) in
-    let r : filledIn (c .before .before .begun .result) (c .before .before .before .slot-for .result) < dataCount (a .p) =
-    subst (λ (x : ℕ). x < dataCount (a .p)) (sym (ap₂ filledIn (c .before .before .begun .ensures) (c .before .before .before .slot-for .ensures))) (slot-room (a .p) (a .state) n s) in
-    (c .before .before .before .before .before .before .pre .0, (omega (arith, c .before .before .before .slot-for .ensures, s), r, c .before .before .before .before .before .before .pre .1 .3, c .before .before .before .before .before .before .pre .1 .4))
+add-t19 : tie.Need-add-t19
+add-t19 c = search needs
 
 same-length : tie.Need-same-length
-same-length c = c .before .before .before .placed .kept .1 .0
+same-length c = search needs
 
 returns : tie.Need-returns
+unfolding sentRow
 returns c =
-    let a = c .before .before .before .before .before .before .before .before .before .before .args in
-    let i : c .before .before .before .before .before .before .before .slot-for .result ≡ slotFor (a .p) (a .state) = c .before .before .before .before .before .before .before .slot-for .ensures in
-    let s : c .before .before .before .before .before .before .begun .result ≡ begunBy (a .p) (a .state) (a .state) = c .before .before .before .before .before .before .begun .ensures in
+    let a = c .before .before .before .before .before .before .before .before .before .args in
     let w : ℕ = cond (a .write) 1 0 in
-    let q : mkPlaced (c .before .before .before .placed .result .state) (c .before .before .before .placed .last .1 .0) (c .before .before .before .placed .result .drive)
-    ≡ placed (a .p) (begunBy (a .p) (a .state) (a .state)) (a .inflight .now) (slotFor (a .p) (a .state)) (a .address .0) (a .stamp .0) w (a .block .now) =
-    c .before .before .before .placed .ensures ∙ (λ j. placed (a .p) (s j) (a .inflight .now) (i j) (a .address .0) (a .stamp .0) w (a .block .now)) in
-    let e : c .before .before .before .before .before .stripe-in .result ≡ stripeIn (begunBy (a .p) (a .state) (a .state)) (slotFor (a .p) (a .state)) = c .before .before .before .before .before .stripe-in .ensures ∙ ap₂ stripeIn s i in
-    (λ j. mkSending [] (q j .state) (q j .inflight) (e j) (q j .drive))
-    ∙ sym (sending-plain (a .p) [] (a .state) (a .inflight .now) (a .address .0) (a .stamp .0) w (a .block .now) (c .before .before .before .before .before .before .before .before .before .before .pre .1 .0))
+    let q = c .before .before .before .place .ensures ∙ ap (λ (x : Row). placedRow (a .p) x (a .inflight .now) (a .a .slot) (a .address .0) (a .stamp .0) w (a .block .now)) (c .before .before .before .before .before .begun .ensures) in
+    ap₂ mkSentRow (add-one (a .next)) q
+    ∙ ap (λ (x : Bool). mkSentRow (cond x (suc (a .next)) (a .next)) (placedRow (a .p) (cond x (begunRow (a .row) (a .next)) (a .row)) (a .inflight .now) (a .a .slot) (a .address .0) (a .stamp .0) w (a .block .now))) (sym (c .before .before .before .before .before .before .if1 .taken))
+
+place-requires-2 : tie.Need-place-requires-2
+place-requires-2 c κs =
+    let s = c .before .before .before .before in
+    (s .pre .0, (s .pre .1 .0, s .pre .1 .1 (c .before .if1 .left), s .pre .1 .3, s .pre .1 .4))
+
+same-length-2 : tie.Need-same-length-2
+same-length-2 c = search needs
+
+returns-2 : tie.Need-returns-2
+unfolding sentRow
+returns-2 c =
+    let a = c .before .before .before .before .before .before .before .before .args in
+    let w : ℕ = cond (a .write) 1 0 in
+    ap (mkSentRow (a .next)) (c .before .before .before .place2 .ensures)
+    ∙ ap (λ (x : Bool). mkSentRow (cond x (suc (a .next)) (a .next)) (placedRow (a .p) (cond x (begunRow (a .row) (a .next)) (a .row)) (a .inflight .now) (a .a .slot) (a .address .0) (a .stamp .0) w (a .block .now))) (sym (c .before .before .before .before .before .if1 .left))
 
 pub send-spec : {M : Type 1} → statement M
 send-spec =
     tie.close
     (tie.spec
-    slot-for-requires
     begun-requires
-    stripe-in-requires
-    placed-requires
+    place-requires
+    add-t19
     same-length
-    returns)
+    returns
+    place-requires-2
+    same-length-2
+    returns-2)

@@ -1,61 +1,83 @@
+-- `copy_rules`: the front and the aim are the state's; then the three rules. Assumes nothing.
 use Rattle.defs.specs.Drives.{viewOf}
-use Rattle.defs.specs.Write.{opens, scarce}
+use Rattle.defs.specs.Write.{opens, noSerial, mustWait}
+use Rattle.filling.specs.Aims.{aimOf, front-aim, front-serial, front-wait}
+use Rattle.filling.specs.declared.Aim.{Aim}
 use Rattle.reclaim.specs.Choosing.{rules-serial, rules-wait, rules-open, rules-scarce, rules-pass}
 use borrow.Author.Needs.{needs}
 use borrow.Author.Tests.{not-true, not-false}
-use mathlib.Core.Path.{sym, _∙_}
+use mathlib.Core.Path.{_≡_, sym, ap, _∙_}
 use Rattle.reclaim.proofs.copy_rules.Statement.{statement}
 use Rattle.reclaim.proofs.copy_rules.Tie as tie
+
+-- what the tests say of the state
+aimed : (c : tie.After-aim-of) → c .aim-of .result ≡ aimOf (c .before .before .before .args .p) (c .before .before .before .args .state)
+aimed c = c .aim-of .ensures ∙ front-aim (c .before .before .before .args .p) (c .before .before .before .args .state) (c .before .front-of .result) (c .before .front-of .ensures)
+
+serial-is : (c : tie.After-no-serial) → noSerial (c .before .before .before .before .args .p) (c .before .before .before .before .args .state) ≡ c .no-serial .result
+serial-is c =
+    sym (front-serial (c .before .before .before .before .args .p) (c .before .before .before .before .args .state) (c .before .before .front-of .result) (c .before .before .front-of .ensures) (c .before .aim-of .result) (aimed (c .before)))
+    ∙ sym (c .no-serial .ensures)
+
+wait-is : (c : tie.After-must-wait) → mustWait (c .before .before .before .before .before .before .args .p) (c .before .before .before .before .before .before .args .state) ≡ c .must-wait .result
+wait-is c = sym (front-wait (c .before .before .before .before .before .before .args .p) (c .before .before .before .before .before .before .args .state) (c .before .before .before .before .front-of .result) (c .before .before .before .before .front-of .ensures)) ∙ sym (c .must-wait .ensures)
+
+opens-is : (c : tie.After-aim-of) → opens (c .before .before .before .args .p) (c .before .before .before .args .state) ≡ c .aim-of .result .opens
+opens-is c = ap (λ (x : Aim). x .opens) (sym (aimed c))
+
+front-of-requires : tie.Need-front-of-requires
+front-of-requires c κs = search needs
+
+aim-of-requires : tie.Need-aim-of-requires
+aim-of-requires c κs = search needs
 
 no-serial-requires : tie.Need-no-serial-requires
 no-serial-requires c κs = search needs
 
 returns : tie.Need-returns
 returns c =
-    let a = c .before .before .before .args in
-    λ im h. rules-serial (a .p) (viewOf (a .p) im (a .pointers .now)) (a .state) (sym (c .before .no-serial .ensures) ∙ c .if1 .taken)
+    let a = c .before .before .before .before .before .args in
+    λ im h. rules-serial (a .p) (viewOf (a .p) im (a .pointers .now)) (a .state) (serial-is (c .before) ∙ c .if1 .taken)
 
 must-wait-requires : tie.Need-must-wait-requires
-must-wait-requires c κs = search needs
+must-wait-requires c κs = (c .before .before .before .before .before .pre .0, c .before .before .aim-of .ensures)
 
 returns-2 : tie.Need-returns-2
 returns-2 c =
-    let a = c .before .before .before .before .before .args in
-    λ im h. rules-wait (a .p) (viewOf (a .p) im (a .pointers .now)) (a .state) (sym (c .before .before .before .no-serial .ensures) ∙ c .before .before .if1 .left) (sym (c .before .must-wait .ensures) ∙ c .if2 .taken)
-
-opens-requires : tie.Need-opens-requires
-opens-requires c κs = search needs
+    let a = c .before .before .before .before .before .before .before .args in
+    λ im h. rules-wait (a .p) (viewOf (a .p) im (a .pointers .now)) (a .state) (serial-is (c .before .before .before) ∙ c .before .before .if1 .left) (wait-is (c .before) ∙ c .if2 .taken)
 
 returns-3 : tie.Need-returns-3
 returns-3 c =
-    let a = c .before .before .before .before .before .before .before .args in
-    λ im h. rules-open (a .p) (viewOf (a .p) im (a .pointers .now)) (a .state) (sym (c .before .before .before .before .before .no-serial .ensures) ∙ c .before .before .before .before .if1 .left) (sym (c .before .before .before .must-wait .ensures) ∙ c .before .before .if2 .left)
-    (sym (c .before .opens .ensures) ∙ not-true (c .before .opens .result) (c .if3 .taken))
+    let a = c .before .before .before .before .before .before .before .before .before .args in
+    λ im h. rules-open (a .p) (viewOf (a .p) im (a .pointers .now)) (a .state) (serial-is (c .before .before .before .before .before) ∙ c .before .before .before .before .if1 .left) (wait-is (c .before .before .before) ∙ c .before .before .if2 .left)
+    (opens-is (c .before .before .before .before .before .before) ∙ not-true (c .before .before .before .before .before .before .aim-of .result .opens) (c .if3 .taken))
 
 scarce-requires : tie.Need-scarce-requires
 scarce-requires c κs = search needs
 
 returns-4 : tie.Need-returns-4
 returns-4 c =
-    let a = c .before .before .before .before .before .before .before .before .before .args in
-    λ im h. rules-scarce (a .p) (viewOf (a .p) im (a .pointers .now)) (a .state) (sym (c .before .before .before .before .before .before .before .no-serial .ensures) ∙ c .before .before .before .before .before .before .if1 .left) (sym (c .before .before .before .before .before .must-wait .ensures) ∙ c .before .before .before .before .if2 .left)
-    (sym (c .before .before .before .opens .ensures) ∙ not-false (c .before .before .before .opens .result) (c .before .before .if3 .left)) (sym (c .before .scarce .ensures im h) ∙ c .if4 .taken)
+    let a = c .before .before .before .before .before .before .before .before .before .before .before .args in
+    λ im h. rules-scarce (a .p) (viewOf (a .p) im (a .pointers .now)) (a .state) (serial-is (c .before .before .before .before .before .before .before) ∙ c .before .before .before .before .before .before .if1 .left) (wait-is (c .before .before .before .before .before) ∙ c .before .before .before .before .if2 .left)
+    (opens-is (c .before .before .before .before .before .before .before .before) ∙ not-false (c .before .before .before .before .before .before .before .before .aim-of .result .opens) (c .before .before .if3 .left)) (sym (c .before .scarce .ensures im h) ∙ c .if4 .taken)
 
 returns-5 : tie.Need-returns-5
 returns-5 c =
-    let a = c .before .before .before .before .before .before .before .before .before .args in
-    λ im h. rules-pass (a .p) (viewOf (a .p) im (a .pointers .now)) (a .state) (sym (c .before .before .before .before .before .before .before .no-serial .ensures) ∙ c .before .before .before .before .before .before .if1 .left) (sym (c .before .before .before .before .before .must-wait .ensures) ∙ c .before .before .before .before .if2 .left)
-    (sym (c .before .before .before .opens .ensures) ∙ not-false (c .before .before .before .opens .result) (c .before .before .if3 .left)) (sym (c .before .scarce .ensures im h) ∙ c .if4 .left)
+    let a = c .before .before .before .before .before .before .before .before .before .before .before .args in
+    λ im h. rules-pass (a .p) (viewOf (a .p) im (a .pointers .now)) (a .state) (serial-is (c .before .before .before .before .before .before .before) ∙ c .before .before .before .before .before .before .if1 .left) (wait-is (c .before .before .before .before .before) ∙ c .before .before .before .before .if2 .left)
+    (opens-is (c .before .before .before .before .before .before .before .before) ∙ not-false (c .before .before .before .before .before .before .before .before .aim-of .result .opens) (c .before .before .if3 .left)) (sym (c .before .scarce .ensures im h) ∙ c .if4 .left)
 
 pub copy-rules-spec : {M : Type 1} → statement M
 copy-rules-spec =
     tie.close
     (tie.spec
+    front-of-requires
+    aim-of-requires
     no-serial-requires
     returns
     must-wait-requires
     returns-2
-    opens-requires
     returns-3
     scarce-requires
     returns-4

@@ -1,11 +1,13 @@
 use Rattle.defs.specs.Drives.{viewOf, Disk, mkDisk}
+use Rattle.defs.specs.Lists.Opt.{some}
 use Rattle.defs.specs.Memory.{Memory, mkMemory}
 use Rattle.defs.specs.Reclaim.{victim}
 use Rattle.reclaim.specs.Choosing.{refusal, Chose}
 use Rattle.reclaim.specs.Ends.{lent, copy-ready, reclaim-refused, reclaim-clear, reclaim-copy}
 use Rattle.reclaim.specs.declared.Choice.{Choice}
+use Rattle.rows.specs.declared.Change.{Change}
+use mathlib.Core.Path.{sym, ap, _∙_, subst}
 use borrow.Author.Needs.{needs}
-use mathlib.Core.Path.{_∙_, subst}
 use Rattle.reclaim.proofs.reclaim.Statement.{statement}
 use Rattle.reclaim.proofs.reclaim.Tie as tie
 
@@ -14,6 +16,12 @@ choose-requires c κs = search needs
 
 enum-known-c : tie.Need-enum-known-c
 enum-known-c c = search needs
+
+front-of-requires : tie.Need-front-of-requires
+front-of-requires c κs = search needs
+
+kept-requires : tie.Need-kept-requires
+kept-requires c κs = search needs
 
 enum-known-c-2 : tie.Need-enum-known-c-2
 enum-known-c-2 c = search needs
@@ -59,12 +67,13 @@ same-length-5 c = search needs
 
 returns : tie.Need-returns
 returns c =
-    let a = c .before .before .before .before .before .before .before .before .before .before .before .before .before .before .args in
+    let a = c .before .before .before .before .before .before .before .before .before .before .before .before .before .before .before .before .args in
     let k : Disk = mkDisk (a .image .now) (a .pointers .now) in
     let m : Memory = mkMemory (a .state) (a .addresses .now) (a .compact .now) (a .inflight .now) in
     let v = viewOf (a .p) (a .image .now) (a .pointers .now) in
-    let q = c .before .c .given in
-    reclaim-refused (a .p) k m (a .count) (q .0 .0) (subst (λ (x : Choice). Chose (a .p) v (a .state) (victim (a .p) v (a .addresses .now)) (refusal (a .p) k m) x) (q .1) (c .before .before .before .choose .ensures))
+    let q = c .before .before .before .c .given in
+    reclaim-refused (a .p) k m (a .count) (c .kept .result)
+    (subst (λ (x : Choice). Chose (a .p) v (a .state) (victim (a .p) v (a .addresses .now)) (refusal (a .p) k m) x) (q .1) (c .before .before .before .before .before .choose .ensures) ∙ ap (λ (x : Change). some (x .answer)) (sym (c .kept .ensures)))
 
 same-length-6 : tie.Need-same-length-6
 same-length-6 c = search needs
@@ -122,6 +131,8 @@ reclaim-spec =
     (tie.spec
     choose-requires
     enum-known-c
+    front-of-requires
+    kept-requires
     enum-known-c-2
     reset-segment-requires
     enum-known-c-3

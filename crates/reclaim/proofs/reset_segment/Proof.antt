@@ -1,14 +1,21 @@
 use Rattle.defs.specs.Drives.{mkDisk}
 use Rattle.defs.specs.Memory.{mkMemory}
+use Rattle.defs.specs.declared.Answer.the-variants.{Reset}
 use Rattle.laws.specs.Geometry.{ranged}
 use Rattle.reclaim.specs.Clearing.{reset-cut, reset-done}
-use borrow.Author.Needs.{needs}
+use Rattle.rows.specs.Rows.{keptAs}
+use Rattle.rows.specs.declared.Change.{Change}
+use mathlib.Core.Path.{ap, _∙_}
 use native.Mathlib.Omega.{arith}
+use borrow.Author.Needs.{needs}
 use Rattle.reclaim.proofs.reset_segment.Statement.{statement}
 use Rattle.reclaim.proofs.reset_segment.Tie as tie
 
+front-of-requires : tie.Need-front-of-requires
+front-of-requires c κs = search needs
+
 reset-stores-requires : tie.Need-reset-stores-requires
-reset-stores-requires c κs = (c .before .before .before .before .pre .0, (c .before .before .before .before .pre .1 .0, c .before .before .before .before .pre .1 .3))
+reset-stores-requires c κs = search needs
 
 cut-requires : tie.Need-cut-requires
 cut-requires c κs = search needs
@@ -24,14 +31,18 @@ same-length-3 c = search needs
 
 returns : tie.Need-returns
 returns c =
-    let a = c .before .before .before .before .before .before .before .before .before .before .before .before .before .before .before .args in
+    let s = c .before .before .before .before .before .before .before .before .before .before .before .before .before .before .before .before in
+    let a = s .args in
     let r = c .before .before .before .before .before .before .before .before .before .before .reset-stores in
     let o = c .before .before .before .before .cut in
-    λ im fl. reset-cut (a .p) (a .count) (a .g) (mkDisk im (a .pointers .now)) (mkDisk im (r .last .1 .0)) (mkMemory (a .state) (a .addresses .now) (a .compact .now) fl) (r .result) (r .ensures im) (c .before .before .before .before .before .before .before .before .before .before .before .before .before .before .before .pre .1 .1) (c .before .before .before .before .before .before .before .before .before .before .before .before .before .before .before .pre .1 .2) (c .before .before .before .before .before .before .before .if1 .taken)
-    (o .result) (o .last .0) (o .last .1 .0) (o .ensures .0 .0) (o .ensures .0 .1) (o .ensures .1 .0) (o .ensures .1 .1)
+    λ im fl. reset-cut (a .p) (a .count) (a .g) (mkDisk im (a .pointers .now)) (mkDisk im (r .last .1 .0)) (mkMemory (a .state) (a .addresses .now) (a .compact .now) fl) (r .result) (r .ensures im) (s .pre .1 .1) (s .pre .1 .2) (c .before .before .before .before .before .before .before .if1 .taken)
+    (o .result) (o .last .0) (o .last .1 .0) (ap (λ (x : Change). x .answer) (o .ensures .0)) (o .ensures .1 .0) (o .ensures .1 .1)
 
 clear-rows-requires : tie.Need-clear-rows-requires
-clear-rows-requires c κs = (c .before .before .before .before .before .before .before .before .before .pre .0, (c .before .before .before .before .before .before .before .before .before .pre .1 .2, omega (arith, c .before .before .before .before .before .before .before .before .before .pre .1 .3, ranged (c .before .before .before .before .before .before .before .before .before .args .p) (c .before .before .before .before .before .before .before .before .before .pre .0) .zones-low)))
+clear-rows-requires c κs = search needs
+
+kept-requires : tie.Need-kept-requires
+kept-requires c κs = search needs
 
 same-length-4 : tie.Need-same-length-4
 same-length-4 c = search needs
@@ -41,14 +52,16 @@ same-length-5 c = search needs
 
 returns-2 : tie.Need-returns-2
 returns-2 c =
-    let a = c .before .before .before .before .before .before .before .before .before .before .before .before .args in
-    let r = c .before .before .before .before .before .before .before .reset-stores in
-    λ im fl. reset-done (a .p) (a .count) (a .g) (mkDisk im (a .pointers .now)) (mkDisk im (r .last .1 .0)) (mkMemory (a .state) (a .addresses .now) (a .compact .now) fl) (r .result) (r .ensures im) (c .before .before .before .before .if1 .left) (c .before .before .clear-rows .last .1 .0) (c .before .before .clear-rows .ensures)
+    let a = c .before .before .before .before .before .before .before .before .before .before .before .before .before .before .args in
+    let r = c .before .before .before .before .before .before .before .before .reset-stores in
+    λ im fl. reset-done (a .p) (a .count) (a .g) (mkDisk im (a .pointers .now)) (mkDisk im (r .last .1 .0)) (mkMemory (a .state) (a .addresses .now) (a .compact .now) fl) (r .result) (r .ensures im) (c .before .before .before .before .before .if1 .left)
+    (c .kept .result) (c .kept .ensures ∙ ap (keptAs (Reset (a .g))) (c .before .before .before .before .before .before .before .before .before .before .front-of .ensures)) (c .before .before .before .clear-rows .last .1 .0) (c .before .before .before .clear-rows .ensures)
 
 pub reset-segment-spec : {M : Type 1} → statement M
 reset-segment-spec =
     tie.close
     (tie.spec
+    front-of-requires
     reset-stores-requires
     cut-requires
     same-length
@@ -56,6 +69,7 @@ reset-segment-spec =
     same-length-3
     returns
     clear-rows-requires
+    kept-requires
     same-length-4
     same-length-5
     returns-2)

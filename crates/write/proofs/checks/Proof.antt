@@ -3,6 +3,8 @@ use Rattle.defs.specs.Engine.{lentOk}
 use Rattle.defs.specs.Memory.{Memory, mkMemory, stateOk}
 use Rattle.defs.specs.Params.{inRange}
 use Rattle.defs.specs.Write.{opens, noStamp, noSerial, mustWait, scarce}
+use Rattle.filling.specs.Aims.{front-stamp, front-wait, front-aim, front-serial}
+use Rattle.filling.specs.declared.Aim.{Aim}
 use Rattle.views.specs.Views.{seen}
 use Rattle.write.specs.Order.{range-fails, range-passes, lengths-fail, block-fails, lengths-pass, missing-fails, missing-passes, address-fails, address-passes, stamp-fails, serial-fails, counts-pass, wait-fails, wait-passes, zones-fail, zones-suffice, state-fails, state-passes}
 use Rattle.write.specs.Ready.{lent-long}
@@ -87,7 +89,7 @@ returns-6 c =
     let m : Memory = mkMemory st (a .addresses .now) (a .compact .now) (a .inflight .now) in
     let er : inRange (a .p) ≡ true = sym (c .before .before .before .before .before .before .before .before .before .before .before .in-range .ensures) ∙ not-false (c .before .before .before .before .before .before .before .before .before .before .before .in-range .result) (c .before .before .before .before .before .before .before .before .before .before .if1 .left) in
     let el : lentOk (a .p) k m ≡ true = sym (c .before .before .before .before .before .before .before .before .before .lent-ok .ensures st) ∙ not-false (c .before .before .before .before .before .before .before .before .before .lent-ok .result) (c .before .before .before .before .before .before .before .before .if2 .left) in
-    let es : noStamp st ≡ true = sym (c .before .no-stamp .ensures) ∙ c .if6 .taken in
+    let es : noStamp st ≡ true = sym (front-stamp (a .p) st (a .f) (c .before .before .before .before .before .before .before .before .before .before .before .before .before .before .before .before .before .before .pre .0)) ∙ sym (c .before .no-stamp .ensures) ∙ c .if6 .taken in
     stamp-fails (a .p) k m (a .address .0) (a .block .now) es
     ∙ address-passes (a .p) k m (a .address .0) (a .block .now) (omega (arith, c .before .before .if5 .left))
     ∙ missing-passes (a .p) k m (a .address .0) (a .block .now) (c .before .before .before .before .if4 .left)
@@ -105,8 +107,8 @@ returns-7 c =
     let m : Memory = mkMemory st (a .addresses .now) (a .compact .now) (a .inflight .now) in
     let er : inRange (a .p) ≡ true = sym (c .before .before .before .before .before .before .before .before .before .before .before .before .before .in-range .ensures) ∙ not-false (c .before .before .before .before .before .before .before .before .before .before .before .before .before .in-range .result) (c .before .before .before .before .before .before .before .before .before .before .before .before .if1 .left) in
     let el : lentOk (a .p) k m ≡ true = sym (c .before .before .before .before .before .before .before .before .before .before .before .lent-ok .ensures st) ∙ not-false (c .before .before .before .before .before .before .before .before .before .before .before .lent-ok .result) (c .before .before .before .before .before .before .before .before .before .before .if2 .left) in
-    let es : noStamp st ≡ false = sym (c .before .before .before .no-stamp .ensures) ∙ c .before .before .if6 .left in
-    let en : noSerial (a .p) st ≡ true = sym (c .before .no-serial .ensures) ∙ c .if7 .taken in
+    let es : noStamp st ≡ false = sym (front-stamp (a .p) st (a .f) (c .before .before .before .before .before .before .before .before .before .before .before .before .before .before .before .before .before .before .before .before .pre .0)) ∙ sym (c .before .before .before .no-stamp .ensures) ∙ c .before .before .if6 .left in
+    let en : noSerial (a .p) st ≡ true = sym (front-serial (a .p) st (a .f) (c .before .before .before .before .before .before .before .before .before .before .before .before .before .before .before .before .before .before .before .before .pre .0) (a .a) (c .before .before .before .before .before .before .before .before .before .before .before .before .before .before .before .before .before .before .before .before .pre .1)) ∙ sym (c .before .no-serial .ensures) ∙ c .if7 .taken in
     serial-fails (a .p) k m (a .address .0) (a .block .now) es en
     ∙ address-passes (a .p) k m (a .address .0) (a .block .now) (omega (arith, c .before .before .before .before .if5 .left))
     ∙ missing-passes (a .p) k m (a .address .0) (a .block .now) (c .before .before .before .before .before .before .if4 .left)
@@ -114,7 +116,9 @@ returns-7 c =
     ∙ range-passes (a .p) k m (a .address .0) (a .block .now) er
 
 must-wait-requires : tie.Need-must-wait-requires
-must-wait-requires c κs = sym (c .before .before .before .before .before .before .before .before .before .before .before .before .before .in-range .ensures) ∙ not-false (c .before .before .before .before .before .before .before .before .before .before .before .before .before .in-range .result) (c .before .before .before .before .before .before .before .before .before .before .before .before .if1 .left)
+must-wait-requires c κs =
+    let s = c .before .before .before .before .before .before .before .before .before .before .before .before .before .before .before .before .before .before .before .before in
+    (sym (c .before .before .before .before .before .before .before .before .before .before .before .before .before .in-range .ensures) ∙ not-false (c .before .before .before .before .before .before .before .before .before .before .before .before .before .in-range .result) (c .before .before .before .before .before .before .before .before .before .before .before .before .if1 .left), s .pre .1 ∙ sym (front-aim (s .args .p) (s .args .state) (s .args .f) (s .pre .0)))
 
 returns-8 : tie.Need-returns-8
 returns-8 c =
@@ -124,9 +128,9 @@ returns-8 c =
     let m : Memory = mkMemory st (a .addresses .now) (a .compact .now) (a .inflight .now) in
     let er : inRange (a .p) ≡ true = sym (c .before .before .before .before .before .before .before .before .before .before .before .before .before .before .before .in-range .ensures) ∙ not-false (c .before .before .before .before .before .before .before .before .before .before .before .before .before .before .before .in-range .result) (c .before .before .before .before .before .before .before .before .before .before .before .before .before .before .if1 .left) in
     let el : lentOk (a .p) k m ≡ true = sym (c .before .before .before .before .before .before .before .before .before .before .before .before .before .lent-ok .ensures st) ∙ not-false (c .before .before .before .before .before .before .before .before .before .before .before .before .before .lent-ok .result) (c .before .before .before .before .before .before .before .before .before .before .before .before .if2 .left) in
-    let es : noStamp st ≡ false = sym (c .before .before .before .before .before .no-stamp .ensures) ∙ c .before .before .before .before .if6 .left in
-    let en : noSerial (a .p) st ≡ false = sym (c .before .before .before .no-serial .ensures) ∙ c .before .before .if7 .left in
-    let ew : mustWait (a .p) st ≡ true = sym (c .before .must-wait .ensures) ∙ c .if8 .taken in
+    let es : noStamp st ≡ false = sym (front-stamp (a .p) st (a .f) (c .before .before .before .before .before .before .before .before .before .before .before .before .before .before .before .before .before .before .before .before .before .before .pre .0)) ∙ sym (c .before .before .before .before .before .no-stamp .ensures) ∙ c .before .before .before .before .if6 .left in
+    let en : noSerial (a .p) st ≡ false = sym (front-serial (a .p) st (a .f) (c .before .before .before .before .before .before .before .before .before .before .before .before .before .before .before .before .before .before .before .before .before .before .pre .0) (a .a) (c .before .before .before .before .before .before .before .before .before .before .before .before .before .before .before .before .before .before .before .before .before .before .pre .1)) ∙ sym (c .before .before .before .no-serial .ensures) ∙ c .before .before .if7 .left in
+    let ew : mustWait (a .p) st ≡ true = sym (front-wait (a .p) st (a .f) (c .before .before .before .before .before .before .before .before .before .before .before .before .before .before .before .before .before .before .before .before .before .before .pre .0)) ∙ sym (c .before .must-wait .ensures) ∙ c .if8 .taken in
     wait-fails (a .p) k m (a .address .0) (a .block .now) ew
     ∙ counts-pass (a .p) k m (a .address .0) (a .block .now) es en
     ∙ address-passes (a .p) k m (a .address .0) (a .block .now) (omega (arith, c .before .before .before .before .before .before .if5 .left))
@@ -155,12 +159,12 @@ returns-9 c =
     let m : Memory = mkMemory st (a .addresses .now) (a .compact .now) (a .inflight .now) in
     let er : inRange (a .p) ≡ true = sym (c .before .before .before .before .before .before .before .before .before .before .before .before .before .before .before .before .before .before .in-range .ensures) ∙ not-false (c .before .before .before .before .before .before .before .before .before .before .before .before .before .before .before .before .before .before .in-range .result) (c .before .before .before .before .before .before .before .before .before .before .before .before .before .before .before .before .before .if1 .left) in
     let el : lentOk (a .p) k m ≡ true = sym (c .before .before .before .before .before .before .before .before .before .before .before .before .before .before .before .before .lent-ok .ensures st) ∙ not-false (c .before .before .before .before .before .before .before .before .before .before .before .before .before .before .before .before .lent-ok .result) (c .before .before .before .before .before .before .before .before .before .before .before .before .before .before .before .if2 .left) in
-    let es : noStamp st ≡ false = sym (c .before .before .before .before .before .before .before .before .no-stamp .ensures) ∙ c .before .before .before .before .before .before .before .if6 .left in
-    let en : noSerial (a .p) st ≡ false = sym (c .before .before .before .before .before .before .no-serial .ensures) ∙ c .before .before .before .before .before .if7 .left in
-    let ew : mustWait (a .p) st ≡ false = sym (c .before .before .before .before .must-wait .ensures) ∙ c .before .before .before .if8 .left in
+    let es : noStamp st ≡ false = sym (front-stamp (a .p) st (a .f) (c .before .before .before .before .before .before .before .before .before .before .before .before .before .before .before .before .before .before .before .before .before .before .before .before .before .pre .0)) ∙ sym (c .before .before .before .before .before .before .before .before .no-stamp .ensures) ∙ c .before .before .before .before .before .before .before .if6 .left in
+    let en : noSerial (a .p) st ≡ false = sym (front-serial (a .p) st (a .f) (c .before .before .before .before .before .before .before .before .before .before .before .before .before .before .before .before .before .before .before .before .before .before .before .before .before .pre .0) (a .a) (c .before .before .before .before .before .before .before .before .before .before .before .before .before .before .before .before .before .before .before .before .before .before .before .before .before .pre .1)) ∙ sym (c .before .before .before .before .before .before .no-serial .ensures) ∙ c .before .before .before .before .before .if7 .left in
+    let ew : mustWait (a .p) st ≡ false = sym (front-wait (a .p) st (a .f) (c .before .before .before .before .before .before .before .before .before .before .before .before .before .before .before .before .before .before .before .before .before .before .before .before .before .pre .0)) ∙ sym (c .before .before .before .before .must-wait .ensures) ∙ c .before .before .before .if8 .left in
     let long = lent-long (a .p) k m el in
     let ez : scarce (a .p) (seen (a .p) k) (cond (opens (a .p) st) 2 1) ≡ true =
-    ap (scarce (a .p) (seen (a .p) k)) (sym (c .before .before .reserve .ensures .0)) ∙ sym (c .before .scarce .ensures (a .image .now) (long .0)) ∙ c .if9 .taken in
+    ap (scarce (a .p) (seen (a .p) k)) (ap (λ (x : Aim). cond (x .opens) 2 1) (sym (c .before .before .before .before .before .before .before .before .before .before .before .before .before .before .before .before .before .before .before .before .before .before .before .before .before .pre .1)) ∙ sym (c .before .before .reserve .ensures .0)) ∙ sym (c .before .scarce .ensures (a .image .now) (long .0)) ∙ c .if9 .taken in
     zones-fail (a .p) k m (a .address .0) (a .block .now) ez
     ∙ wait-passes (a .p) k m (a .address .0) (a .block .now) ew
     ∙ counts-pass (a .p) k m (a .address .0) (a .block .now) es en
@@ -180,12 +184,12 @@ returns-10 c =
     let m : Memory = mkMemory st (a .addresses .now) (a .compact .now) (a .inflight .now) in
     let er : inRange (a .p) ≡ true = sym (c .before .before .before .before .before .before .before .before .before .before .before .before .before .before .before .before .before .before .before .before .in-range .ensures) ∙ not-false (c .before .before .before .before .before .before .before .before .before .before .before .before .before .before .before .before .before .before .before .before .in-range .result) (c .before .before .before .before .before .before .before .before .before .before .before .before .before .before .before .before .before .before .before .if1 .left) in
     let el : lentOk (a .p) k m ≡ true = sym (c .before .before .before .before .before .before .before .before .before .before .before .before .before .before .before .before .before .before .lent-ok .ensures st) ∙ not-false (c .before .before .before .before .before .before .before .before .before .before .before .before .before .before .before .before .before .before .lent-ok .result) (c .before .before .before .before .before .before .before .before .before .before .before .before .before .before .before .before .before .if2 .left) in
-    let es : noStamp st ≡ false = sym (c .before .before .before .before .before .before .before .before .before .before .no-stamp .ensures) ∙ c .before .before .before .before .before .before .before .before .before .if6 .left in
-    let en : noSerial (a .p) st ≡ false = sym (c .before .before .before .before .before .before .before .before .no-serial .ensures) ∙ c .before .before .before .before .before .before .before .if7 .left in
-    let ew : mustWait (a .p) st ≡ false = sym (c .before .before .before .before .before .before .must-wait .ensures) ∙ c .before .before .before .before .before .if8 .left in
+    let es : noStamp st ≡ false = sym (front-stamp (a .p) st (a .f) (c .before .before .before .before .before .before .before .before .before .before .before .before .before .before .before .before .before .before .before .before .before .before .before .before .before .before .before .pre .0)) ∙ sym (c .before .before .before .before .before .before .before .before .before .before .no-stamp .ensures) ∙ c .before .before .before .before .before .before .before .before .before .if6 .left in
+    let en : noSerial (a .p) st ≡ false = sym (front-serial (a .p) st (a .f) (c .before .before .before .before .before .before .before .before .before .before .before .before .before .before .before .before .before .before .before .before .before .before .before .before .before .before .before .pre .0) (a .a) (c .before .before .before .before .before .before .before .before .before .before .before .before .before .before .before .before .before .before .before .before .before .before .before .before .before .before .before .pre .1)) ∙ sym (c .before .before .before .before .before .before .before .before .no-serial .ensures) ∙ c .before .before .before .before .before .before .before .if7 .left in
+    let ew : mustWait (a .p) st ≡ false = sym (front-wait (a .p) st (a .f) (c .before .before .before .before .before .before .before .before .before .before .before .before .before .before .before .before .before .before .before .before .before .before .before .before .before .before .before .pre .0)) ∙ sym (c .before .before .before .before .before .before .must-wait .ensures) ∙ c .before .before .before .before .before .if8 .left in
     let long = lent-long (a .p) k m el in
     let ez : scarce (a .p) (seen (a .p) k) (cond (opens (a .p) st) 2 1) ≡ false =
-    ap (scarce (a .p) (seen (a .p) k)) (sym (c .before .before .before .before .reserve .ensures .0)) ∙ sym (c .before .before .before .scarce .ensures (a .image .now) (long .0)) ∙ c .before .before .if9 .left in
+    ap (scarce (a .p) (seen (a .p) k)) (ap (λ (x : Aim). cond (x .opens) 2 1) (sym (c .before .before .before .before .before .before .before .before .before .before .before .before .before .before .before .before .before .before .before .before .before .before .before .before .before .before .before .pre .1)) ∙ sym (c .before .before .before .before .reserve .ensures .0)) ∙ sym (c .before .before .before .scarce .ensures (a .image .now) (long .0)) ∙ c .before .before .if9 .left in
     let eo : stateOk (a .p) st ≡ false = sym (c .before .state-ok .ensures) ∙ not-true (c .before .state-ok .result) (c .if10 .taken) in
     state-fails (a .p) k m (a .address .0) (a .block .now) eo
     ∙ zones-suffice (a .p) k m (a .address .0) (a .block .now) ez
@@ -204,12 +208,12 @@ returns-11 c =
     let m : Memory = mkMemory st (a .addresses .now) (a .compact .now) (a .inflight .now) in
     let er : inRange (a .p) ≡ true = sym (c .before .before .before .before .before .before .before .before .before .before .before .before .before .before .before .before .before .before .before .before .in-range .ensures) ∙ not-false (c .before .before .before .before .before .before .before .before .before .before .before .before .before .before .before .before .before .before .before .before .in-range .result) (c .before .before .before .before .before .before .before .before .before .before .before .before .before .before .before .before .before .before .before .if1 .left) in
     let el : lentOk (a .p) k m ≡ true = sym (c .before .before .before .before .before .before .before .before .before .before .before .before .before .before .before .before .before .before .lent-ok .ensures st) ∙ not-false (c .before .before .before .before .before .before .before .before .before .before .before .before .before .before .before .before .before .before .lent-ok .result) (c .before .before .before .before .before .before .before .before .before .before .before .before .before .before .before .before .before .if2 .left) in
-    let es : noStamp st ≡ false = sym (c .before .before .before .before .before .before .before .before .before .before .no-stamp .ensures) ∙ c .before .before .before .before .before .before .before .before .before .if6 .left in
-    let en : noSerial (a .p) st ≡ false = sym (c .before .before .before .before .before .before .before .before .no-serial .ensures) ∙ c .before .before .before .before .before .before .before .if7 .left in
-    let ew : mustWait (a .p) st ≡ false = sym (c .before .before .before .before .before .before .must-wait .ensures) ∙ c .before .before .before .before .before .if8 .left in
+    let es : noStamp st ≡ false = sym (front-stamp (a .p) st (a .f) (c .before .before .before .before .before .before .before .before .before .before .before .before .before .before .before .before .before .before .before .before .before .before .before .before .before .before .before .pre .0)) ∙ sym (c .before .before .before .before .before .before .before .before .before .before .no-stamp .ensures) ∙ c .before .before .before .before .before .before .before .before .before .if6 .left in
+    let en : noSerial (a .p) st ≡ false = sym (front-serial (a .p) st (a .f) (c .before .before .before .before .before .before .before .before .before .before .before .before .before .before .before .before .before .before .before .before .before .before .before .before .before .before .before .pre .0) (a .a) (c .before .before .before .before .before .before .before .before .before .before .before .before .before .before .before .before .before .before .before .before .before .before .before .before .before .before .before .pre .1)) ∙ sym (c .before .before .before .before .before .before .before .before .no-serial .ensures) ∙ c .before .before .before .before .before .before .before .if7 .left in
+    let ew : mustWait (a .p) st ≡ false = sym (front-wait (a .p) st (a .f) (c .before .before .before .before .before .before .before .before .before .before .before .before .before .before .before .before .before .before .before .before .before .before .before .before .before .before .before .pre .0)) ∙ sym (c .before .before .before .before .before .before .must-wait .ensures) ∙ c .before .before .before .before .before .if8 .left in
     let long = lent-long (a .p) k m el in
     let ez : scarce (a .p) (seen (a .p) k) (cond (opens (a .p) st) 2 1) ≡ false =
-    ap (scarce (a .p) (seen (a .p) k)) (sym (c .before .before .before .before .reserve .ensures .0)) ∙ sym (c .before .before .before .scarce .ensures (a .image .now) (long .0)) ∙ c .before .before .if9 .left in
+    ap (scarce (a .p) (seen (a .p) k)) (ap (λ (x : Aim). cond (x .opens) 2 1) (sym (c .before .before .before .before .before .before .before .before .before .before .before .before .before .before .before .before .before .before .before .before .before .before .before .before .before .before .before .pre .1)) ∙ sym (c .before .before .before .before .reserve .ensures .0)) ∙ sym (c .before .before .before .scarce .ensures (a .image .now) (long .0)) ∙ c .before .before .if9 .left in
     let eo : stateOk (a .p) st ≡ true = sym (c .before .state-ok .ensures) ∙ not-false (c .before .state-ok .result) (c .if10 .left) in
     state-passes (a .p) k m (a .address .0) (a .block .now) eo
     ∙ zones-suffice (a .p) k m (a .address .0) (a .block .now) ez

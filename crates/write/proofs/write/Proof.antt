@@ -1,30 +1,68 @@
+-- `write`: the front and the aim are the state's; then the three ends. Assumes nothing.
 use Prim.Native.Nat.{_≤_, _<_}
 use Rattle.calls.specs.Left.{checked}
 use Rattle.defs.specs.Counts.{lastCount}
 use Rattle.defs.specs.Drives.{Disk, mkDisk}
-use Rattle.defs.specs.Lists.Opt.{none}
+use Rattle.defs.specs.Lists.Opt.{none, some}
 use Rattle.defs.specs.Memory.{Memory, mkMemory}
-use Rattle.write.specs.Ends.{write-refused, plan-ready, ends-cut, ends-done}
+use Rattle.filling.specs.Aims.{aimOf, front-aim}
+use Rattle.filling.specs.Left.{Opening, opening-front}
+use Rattle.filling.specs.declared.Aim.{Aim}
+use Rattle.plans.specs.Slots.{slot-lt}
+use Rattle.rows.specs.Rows.{Sized, frontOf, behind}
+use Rattle.rows.specs.declared.Change.{Change}
+use Rattle.rows.specs.declared.Front.{Front}
+use Rattle.write.specs.Ends.{write-refused, ends-cut, plan-asks, ends-plan}
 use Rattle.write.specs.Ready.{ready, refusal}
-use borrow.Author.Needs.{needs}
 use lib.Arith.{lt-of-le-ne}
-use mathlib.Core.Path.{_≡_, sym, ap, _∙_}
+use mathlib.Core.Path.{_≡_, sym, ap, _∙_, subst}
 use native.Mathlib.Omega.{arith}
+use borrow.Author.Needs.{needs}
 use Rattle.write.proofs.write.Statement.{statement}
 use Rattle.write.proofs.write.Tie as tie
 
--- a serial and a stamp fit 64 bits
+-- a serial and a stamp fit 64 bits; the arrays have their lengths
 serial-fits : (c : tie.Start) → c .args .state .serial .0 ≤ lastCount
 serial-fits c = omega arith
 
 stamp-fits : (c : tie.Start) → c .args .state .stamp .0 < 18446744073709551616
 stamp-fits c = omega arith
 
+sized : (c : tie.Start) → Sized (c .args .state)
+sized c = record {
+  numbers = search needs;
+  filled = search needs;
+  writes = search needs;
+  landed = search needs;
+  addresses = search needs;
+  stamps = search (needs, c .good .1 .1 .1 .1 .1 .1 .0 .1 .1 .1 .1 .1 .1 .1 .1 .1);
+  offsets = search (needs, c .good .1 .1 .1 .1 .1 .1 .0 .1 .1 .1 .1 .1 .1 .1 .1 .1);
+}
+
+abbrev disk : (c : tie.Start) → Disk
+disk c = mkDisk (c .args .image .now) (c .args .pointers .now)
+
+abbrev memory : (c : tie.Start) → Memory
+memory c = mkMemory (c .args .state) (c .args .addresses .now) (c .args .compact .now) (c .args .inflight .now)
+
+-- the aim is the state's
+aimed : (c : tie.After-aim-of) → c .aim-of .result ≡ aimOf (c .before .before .before .before .before .before .before .before .args .p) (c .before .before .before .before .before .before .before .before .args .state)
+aimed c = c .aim-of .ensures ∙ front-aim (c .before .before .before .before .before .before .before .before .args .p) (c .before .before .before .before .before .before .before .before .args .state) (c .before .front-of .result) (c .before .front-of .ensures)
+
+front-of-requires : tie.Need-front-of-requires
+front-of-requires c κs = search needs
+
+aim-of-requires : tie.Need-aim-of-requires
+aim-of-requires c κs = search needs
+
 checks-requires : tie.Need-checks-requires
-checks-requires c κs = search needs
+checks-requires c κs = (c .before .before .before .before .before .before .front-of .ensures, aimed (c .before .before .before .before .before))
 
 enum-known-c : tie.Need-enum-known-c
 enum-known-c c = search needs
+
+kept-requires : tie.Need-kept-requires
+kept-requires c κs = search needs
 
 same-length : tie.Need-same-length
 same-length c = search needs
@@ -43,23 +81,37 @@ same-length-5 c = search needs
 
 returns : tie.Need-returns
 returns c =
-    let a = c .before .before .before .before .before .before .before .before .before .before .before .before .before .before .before .args in
-    let k : Disk = mkDisk (a .image .now) (a .pointers .now) in
-    let m : Memory = mkMemory (a .state) (a .addresses .now) (a .compact .now) (a .inflight .now) in
-    let q = c .before .c .given in
-    write-refused (a .p) k m (a .address .0) (a .block .now) (a .count) (q .0 .0) (sym (c .before .before .before .checks .ensures) ∙ ap checked (q .1))
+    let s = c .before .before .before .before .before .before .before .before .before .before .before .before .before .before .before .before .before .before in
+    let a = s .args in
+    let q = c .before .before .c .given in
+    write-refused (a .p) (disk s) (memory s) (a .address .0) (a .block .now) (a .count) (c .kept .result)
+    (sym (c .before .before .before .before .checks .ensures) ∙ ap checked (q .1) ∙ ap (λ (x : Change). some (x .answer)) (sym (c .kept .ensures)))
 
 enum-told : tie.Need-enum-told
 enum-told c = search needs
 
 open-requires : tie.Need-open-requires
 open-requires c κs =
-    let a = c .before .before .before .before .before .before .before .before .before .before .before .before .before .before .before .before .args in
-    let k : Disk = mkDisk (a .image .now) (a .pointers .now) in
-    let m : Memory = mkMemory (a .state) (a .addresses .now) (a .compact .now) (a .inflight .now) in
-    let none! : refusal (a .p) k m (a .address .0) (a .block .now) ≡ none = sym (c .before .before .before .before .checks .ensures) ∙ ap checked (c .before .before .enum-told .given .1) in
-    let r = ready (a .p) k m (a .address .0) (a .block .now) none! in
-    (r .ranged, (r .whole, (λ e. lt-of-le-ne (serial-fits (c .before .before .before .before .before .before .before .before .before .before .before .before .before .before .before .before)) (r .serial-left e), λ e. r .empties)))
+    let s = c .before .before .before .before .before .before .before .before .before .before .before .before .before .before .before .before .before .before in
+    let a = s .args in
+    let f = c .before .before .before .before .before .before .before .before .before .before .before .front-of in
+    let g = c .before .before .before .before .before .before .before .before .before .before .aim-of in
+    let none! : refusal (a .p) (disk s) (memory s) (a .address .0) (a .block .now) ≡ none = sym (c .before .before .before .before .checks .ensures) ∙ ap checked (c .before .before .enum-told .given .1) in
+    let r = ready (a .p) (disk s) (memory s) (a .address .0) (a .block .now) none! in (
+      r .ranged,
+      (
+        r .whole,
+        (
+          ap (λ (x : Aim). x .opens) (g .ensures),
+          (
+            λ e.
+                subst (λ (x : Front). x .serial .0 < lastCount) (sym (f .ensures))
+                (lt-of-le-ne (serial-fits s) (r .serial-left (ap (λ (x : Aim). x .opens) (sym (aimed (c .before .before .before .before .before .before .before .before .before .before))) ∙ e))),
+            λ e. r .empties,
+          ),
+        ),
+      ),
+    )
 
 cut-requires : tie.Need-cut-requires
 cut-requires c κs = search needs
@@ -81,24 +133,37 @@ same-length-10 c = search needs
 
 returns-2 : tie.Need-returns-2
 returns-2 c =
-    let a = c .before .before .before .before .before .before .before .before .before .before .before .before .before .before .before .before .before .before .before .before .before .before .before .before .before .before .before .before .before .args in
-    let k : Disk = mkDisk (a .image .now) (a .pointers .now) in
-    let m : Memory = mkMemory (a .state) (a .addresses .now) (a .compact .now) (a .inflight .now) in
-    let none! : refusal (a .p) k m (a .address .0) (a .block .now) ≡ none = sym (c .before .before .before .before .before .before .before .before .before .before .before .before .before .before .before .before .before .checks .ensures) ∙ ap checked (c .before .before .before .before .before .before .before .before .before .before .before .before .before .before .before .enum-told .given .1) in
-    let k′ : Disk = mkDisk (c .before .before .before .before .before .before .before .before .before .before .before .before .«open» .last .1 .0) (c .before .before .before .before .before .before .before .before .before .before .before .before .«open» .last .1 .1 .0) in
-    ends-cut (a .p) k m (a .address .0) (a .block .now) (a .count) none! (c .before .before .before .before .before .before .before .before .before .before .before .before .«open» .result) k′ (c .before .before .before .before .before .before .before .before .before .before .before .before .«open» .ensures) (c .before .before .before .before .before .before .before .if1 .taken) (c .before .before .before .before .cut .result) (c .before .before .before .before .cut .last .0) (c .before .before .before .before .cut .last .1 .0)
-    (c .before .before .before .before .cut .ensures .0 .0) (c .before .before .before .before .cut .ensures .0 .1) (c .before .before .before .before .cut .ensures .1 .0) (c .before .before .before .before .cut .ensures .1 .1)
+    let s = c .before .before .before .before .before .before .before .before .before .before .before .before .before .before .before .before .before .before .before .before .before .before .before .before .before .before .before .before .before .before .before in
+    let a = s .args in
+    let none! : refusal (a .p) (disk s) (memory s) (a .address .0) (a .block .now) ≡ none = sym (c .before .before .before .before .before .before .before .before .before .before .before .before .before .before .before .before .before .checks .ensures) ∙ ap checked (c .before .before .before .before .before .before .before .before .before .before .before .before .before .before .before .enum-told .given .1) in
+    let o = c .before .before .before .before .before .before .before .before .before .before .before .before .«open» in
+    let k′ : Disk = mkDisk (o .last .1 .0) (o .last .1 .1 .0) in
+    let h : Opening (a .p) (a .state) (a .count) (disk s) (o .result) k′ = opening-front (a .p) (a .state) (a .count) (disk s) (o .result) k′ (subst (λ (x : Front). Opening (a .p) (behind x) (a .count) (disk s) (o .result) k′) (c .before .before .before .before .before .before .before .before .before .before .before .before .before .before .before .before .before .before .before .before .before .before .before .before .front-of .ensures) (o .ensures)) in
+    let q = c .before .before .before .before .cut in
+    ends-cut (a .p) (disk s) (memory s) (a .address .0) (a .block .now) (a .count) none! (o .result) k′ h (c .before .before .before .before .before .before .before .if1 .taken) (q .result) (q .last .0) (q .last .1 .0)
+    (ap (λ (x : Change). x .answer) (q .ensures .0)) (q .ensures .1 .0) (q .ensures .1 .1)
+
+row-of-requires : tie.Need-row-of-requires
+row-of-requires c κs =
+    let s = c .before .before .before .before .before .before .before .before .before .before .before .before .before .before .before .before .before .before .before .before .before .before .before .before in
+    let a = s .args in
+    let none! : refusal (a .p) (disk s) (memory s) (a .address .0) (a .block .now) ≡ none = sym (c .before .before .before .before .before .before .before .before .before .before .checks .ensures) ∙ ap checked (c .before .before .before .before .before .before .before .before .enum-told .given .1) in
+    subst (λ (x : Aim). x .slot < 8) (sym (aimed (c .before .before .before .before .before .before .before .before .before .before .before .before .before .before .before .before))) (slot-lt (a .p) (a .state) (ready (a .p) (disk s) (memory s) (a .address .0) (a .block .now) none! .waits))
 
 plan-requires : tie.Need-plan-requires
 plan-requires c κs =
-    let a = c .before .before .before .before .before .before .before .before .before .before .before .before .before .before .before .before .before .before .before .before .before .before .before .before .args in
-    let k : Disk = mkDisk (a .image .now) (a .pointers .now) in
-    let m : Memory = mkMemory (a .state) (a .addresses .now) (a .compact .now) (a .inflight .now) in
-    let none! : refusal (a .p) k m (a .address .0) (a .block .now) ≡ none = sym (c .before .before .before .before .before .before .before .before .before .before .before .before .checks .ensures) ∙ ap checked (c .before .before .before .before .before .before .before .before .before .before .enum-told .given .1) in
-    let r = ready (a .p) k m (a .address .0) (a .block .now) none! in (
+    let s = c .before .before .before .before .before .before .before .before .before .before .before .before .before .before .before .before .before .before .before .before .before .before .before .before .before .before in
+    let a = s .args in
+    let none! : refusal (a .p) (disk s) (memory s) (a .address .0) (a .block .now) ≡ none = sym (c .before .before .before .before .before .before .before .before .before .before .before .before .checks .ensures) ∙ ap checked (c .before .before .before .before .before .before .before .before .before .before .enum-told .given .1) in
+    let r = ready (a .p) (disk s) (memory s) (a .address .0) (a .block .now) none! in
+    let o = c .before .before .before .before .before .before .before .«open» in
+    let f = c .before .before .before .before .before .before .before .before .before .before .before .before .before .before .before .before .before .before .before .front-of in
+    let k′ : Disk = mkDisk (o .last .1 .0) (o .last .1 .1 .0) in
+    let h : Opening (a .p) (a .state) (a .count) (disk s) (o .result) k′ = opening-front (a .p) (a .state) (a .count) (disk s) (o .result) k′ (subst (λ (x : Front). Opening (a .p) (behind x) (a .count) (disk s) (o .result) k′) (f .ensures) (o .ensures)) in (
       r .ranged,
       (
-        plan-ready (a .p) k m (a .address .0) (a .block .now) (a .count) none! (stamp-fits (c .before .before .before .before .before .before .before .before .before .before .before .before .before .before .before .before .before .before .before .before .before .before .before .before)) (c .before .before .before .before .before .before .before .«open» .result .state) (c .before .before .before .before .before .before .before .«open» .ensures .state (c .before .before .if1 .left)),
+        plan-asks (a .p) (disk s) (memory s) (a .address .0) (a .block .now) (a .count) none! (o .result) k′ h (f .result) (f .ensures) (c .before .before .before .before .before .before .before .before .before .before .before .before .before .before .before .before .before .before .aim-of .result) (aimed (c .before .before .before .before .before .before .before .before .before .before .before .before .before .before .before .before .before .before))
+            (c .before .row-of .result) (c .before .row-of .ensures) (stamp-fits s),
         (r .inflight-long, r .block-long),
       ),
     )
@@ -120,19 +185,26 @@ same-length-15 c = search needs
 
 returns-3 : tie.Need-returns-3
 returns-3 c =
-    let a = c .before .before .before .before .before .before .before .before .before .before .before .before .before .before .before .before .before .before .before .before .before .before .before .before .before .before .before .args in
-    let k : Disk = mkDisk (a .image .now) (a .pointers .now) in
-    let m : Memory = mkMemory (a .state) (a .addresses .now) (a .compact .now) (a .inflight .now) in
-    let none! : refusal (a .p) k m (a .address .0) (a .block .now) ≡ none = sym (c .before .before .before .before .before .before .before .before .before .before .before .before .before .before .before .checks .ensures) ∙ ap checked (c .before .before .before .before .before .before .before .before .before .before .before .before .before .enum-told .given .1) in
-    let k′ : Disk = mkDisk (c .before .before .before .before .before .before .before .before .before .before .«open» .last .1 .0) (c .before .before .before .before .before .before .before .before .before .before .«open» .last .1 .1 .0) in
-    ends-done (a .p) k m (a .address .0) (a .block .now) (a .count) none! (c .before .before .before .before .before .before .before .before .before .before .«open» .result) k′ (c .before .before .before .before .before .before .before .before .before .before .«open» .ensures) (c .before .before .before .before .before .if1 .left) (c .before .before .plan .result) (c .before .before .plan .last .1 .0) (c .before .before .plan .ensures)
+    let s = c .before .before .before .before .before .before .before .before .before .before .before .before .before .before .before .before .before .before .before .before .before .before .before .before .before .before .before .before .before in
+    let a = s .args in
+    let none! : refusal (a .p) (disk s) (memory s) (a .address .0) (a .block .now) ≡ none = sym (c .before .before .before .before .before .before .before .before .before .before .before .before .before .before .before .checks .ensures) ∙ ap checked (c .before .before .before .before .before .before .before .before .before .before .before .before .before .enum-told .given .1) in
+    let o = c .before .before .before .before .before .before .before .before .before .before .«open» in
+    let f = c .before .before .before .before .before .before .before .before .before .before .before .before .before .before .before .before .before .before .before .before .before .before .front-of in
+    let k′ : Disk = mkDisk (o .last .1 .0) (o .last .1 .1 .0) in
+    let h : Opening (a .p) (a .state) (a .count) (disk s) (o .result) k′ = opening-front (a .p) (a .state) (a .count) (disk s) (o .result) k′ (subst (λ (x : Front). Opening (a .p) (behind x) (a .count) (disk s) (o .result) k′) (f .ensures) (o .ensures)) in
+    let q = c .before .before .plan in
+    ends-plan (a .p) (disk s) (memory s) (a .address .0) (a .block .now) (a .count) none! (o .result) k′ h (f .result) (f .ensures) (c .before .before .before .before .before .before .before .before .before .before .before .before .before .before .before .before .before .before .before .before .before .aim-of .result) (aimed (c .before .before .before .before .before .before .before .before .before .before .before .before .before .before .before .before .before .before .before .before .before))
+    (c .before .before .before .before .row-of .result) (c .before .before .before .before .row-of .ensures) (sized s) (c .before .before .before .before .before .if1 .left) (q .result) (q .last .1 .0) (q .ensures .0) (q .ensures .1)
 
 pub write-spec : {M : Type 1} → statement M
 write-spec =
     tie.close
     (tie.spec
+    front-of-requires
+    aim-of-requires
     checks-requires
     enum-known-c
+    kept-requires
     same-length
     same-length-2
     same-length-3
@@ -148,6 +220,7 @@ write-spec =
     same-length-9
     same-length-10
     returns-2
+    row-of-requires
     plan-requires
     same-length-11
     same-length-12

@@ -1,0 +1,46 @@
+use Prim.Native.Nat.{ℕ}
+use Rattle.defs.specs.Bytes.{splice}
+use Rattle.defs.specs.Memory.{slotByte, setSlotBlock}
+use Rattle.filling.specs.Entries.{driveFor, entered, placedRow}
+use mathlib.Core.List.{List}
+use mathlib.Core.Path.{_≡_, ap, _∙_}
+use borrow.Author.Needs.{needs}
+use Rattle.filling.proofs.place.Statement.{statement}
+use Rattle.filling.proofs.place.Tie as tie
+
+next-drive-requires : tie.Need-next-drive-requires
+next-drive-requires c κs = search needs
+
+slot-byte-requires : tie.Need-slot-byte-requires
+slot-byte-requires c κs = search needs
+
+copy-part-requires : tie.Need-copy-part-requires
+copy-part-requires c κs = search needs
+
+enter-requires : tie.Need-enter-requires
+enter-requires c κs = search needs
+
+same-length : tie.Need-same-length
+same-length c = search needs
+
+returns : tie.Need-returns
+unfolding placedRow setSlotBlock
+returns c =
+    let a = c .before .before .before .before .before .before .before .before .before .before .before .before .args in
+    let d : c .before .before .before .before .before .before .before .before .before .next-drive .result ≡ driveFor (a .p) (a .row) = c .before .before .before .before .before .before .before .before .before .next-drive .ensures .0 in
+    let b : c .before .before .before .before .before .before .copy-part .last .0 ≡ setSlotBlock (a .p) (a .inflight .now) (a .i) (driveFor (a .p) (a .row)) (a .block .now) =
+    c .before .before .before .before .before .before .copy-part .ensures ∙ ap (λ (x : ℕ). splice (a .inflight .now) x (a .block .now)) (c .before .before .before .before .before .before .before .before .slot-byte .ensures .0 ∙ ap (slotByte (a .p) (a .i)) d) in
+    let q = c .before .before .enter in
+    let f = q .ensures .1 ∙ ap (entered (a .p) (a .row) (a .i)) b in
+    λ j. record { row = q .ensures .0 j; inflight = f j; drive = d j }
+
+pub place-spec : {M : Type 1} → statement M
+place-spec =
+    tie.close
+    (tie.spec
+    next-drive-requires
+    slot-byte-requires
+    copy-part-requires
+    enter-requires
+    same-length
+    returns)
