@@ -1,26 +1,22 @@
 -- A stripe in flight by itself: what a landing asks of eighth i of a state, its row answers. Elements of a part first, then the questions one by one. Assumes nothing.
-use mathlib.Core.Path.{_≡_, refl, sym, ap, _∙_}
+use mathlib.Core.Path.{_≡_, refl, ap, _∙_}
 use mathlib.Core.List.{List, [], _∷_, map}
-use mathlib.Core.Bool.{Bool, cond, not, _&&_}
+use mathlib.Core.Bool.{cond}
 use Prim.Native.Nat.{ℕ, zero, suc, _+_, _*_, _≤_, _<_}
 use native.Mathlib.Omega.{arith}
-use native.Mathlib.Decide.{ℕ-discrete}
-use native.Mathlib.Nat.{add-assoc}
-use lib.ListN.{length, getD, set, length-set}
-use lib.Seq.{ext-getD, getD-set-same, getD-set-other, set-getD}
+use lib.ListN.{getD, set}
 use lib.Bits.{bitOr}
 use Rattle.defs.specs.declared.Params.{Params}
 use Rattle.defs.specs.declared.State.{State}
-use Rattle.defs.specs.Bytes.{part, splice}
-use Rattle.defs.specs.Drives.{View}
-use Rattle.defs.specs.Landing.{ready, completes, flightRec, landedCand, landedCands, writesIn}
-use Rattle.defs.specs.Layout.{Rec, mkRec, dataPosition, dataDrive, isData}
+use Rattle.defs.specs.Bytes.{part}
+use Rattle.defs.specs.Drives.{View, zoneOn}
+use Rattle.defs.specs.Landing.{ready, completes, flightRec, serialAt, landedCand, landedCands, writesIn}
+use Rattle.defs.specs.Layout.{mkRec, dataPosition, dataDrive, isData}
 use Rattle.defs.specs.Lists.{below, upFrom, only}
-use Rattle.defs.specs.Memory.{mkState, cell, stripeIn, filledIn, landedIn, isWrite, entryIn, entriesIn, offsetIn, isFull, landedMask, markLanded, freeStripe}
-use Rattle.defs.specs.Params.{dataCount}
+use Rattle.defs.specs.Memory.{mkState, cell, stripeIn, filledIn, landedIn, isWrite, entryIn, entriesIn, offsetIn, isFull, landedMask}
+use Rattle.defs.specs.Params.{placeOf}
 use Rattle.defs.specs.Parity.{parityRec}
-use Rattle.defs.specs.Rank.{Cand}
-use Rattle.laws.specs.Splice.{getD-part, length-part, splice-part}
+use Rattle.laws.specs.Splice.{getD-part}
 use Rattle.rows.specs.declared.Row.{Row}
 use Rattle.rows.specs.Rows.{rowOf}
 
@@ -134,3 +130,22 @@ module _ (st : State) (i : ℕ) where
     where
       stripe-is : stripeIn (alone (rowOf st i)) 0 ≡ stripeIn st i
       stripe-is = unfold alone rowOf stripeIn in refl
+
+  pub row-cand : (p : Params) (v : View) (g k : ℕ) → k < 8 → dataDrive p (stripeIn st i) k < 8 → landedCand p v g (alone (rowOf st i)) 0 k ≡ landedCand p v g st i k
+  unfolding landedCand
+  row-cand p v g k h l =
+      let d = dataDrive p (stripeIn st i) k in
+      let e = row-entry k h in
+      let q : dataDrive p (stripeIn me 0) k ≡ d = ap (λ (x : ℕ). dataDrive p x k) stripe-is in
+      let o : offsetIn me 0 (dataDrive p (stripeIn me 0) k) ≡ offsetIn st i d = ap (offsetIn me 0) q ∙ row-offset d l in
+      λ j. record { address = e j .address; stamp = e j .stamp; serial = serialAt v g; drive = q j; offset = o j; place = placeOf p (q j) (zoneOn g (q j)) (1 + o j) }
+    where
+      stripe-is : stripeIn (alone (rowOf st i)) 0 ≡ stripeIn st i
+      stripe-is = unfold alone rowOf stripeIn in refl
+
+  pub row-cands : (p : Params) (v : View) (g : ℕ) → filledIn st i ≤ 8 → ((k : ℕ) → k < filledIn st i → dataDrive p (stripeIn st i) k < 8)
+      → landedCands p v g (alone (rowOf st i)) 0 ≡ landedCands p v g st i
+  unfolding landedCands
+  row-cands p v g h l =
+      ap (λ (n : ℕ). map (landedCand p v g me 0) (below n)) row-filled
+      ∙ map-below-lower (landedCand p v g me 0) (landedCand p v g st i) (filledIn st i) (λ k m. row-cand p v g k (omega arith) (l k m))

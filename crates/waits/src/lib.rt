@@ -2,9 +2,9 @@
 ghost use mathlib.Core.Path.{_≡_};
 ghost use mathlib.Core.Bool.{true, _&&_};
 ghost use Prim.Native.Nat.{_≤_, _<_};
-ghost use lib.Dec.{eqb};
+ghost use lib.Dec.{ltb, eqb};
 ghost use Rattle.defs.specs.Landing.{ready, completes, flightRec, writesIn};
-ghost use Rattle.defs.specs.Memory.{stripeIn, filledIn, entryIn, entriesIn, offsetIn};
+ghost use Rattle.defs.specs.Memory.{slotCount, stripeIn, filledIn, entryIn, entriesIn, offsetIn};
 ghost use Rattle.defs.specs.Params.{inRange};
 ghost use Rattle.defs.specs.Parity.{parityRec};
 ghost use Rattle.records.specs.Record.{recOf};
@@ -48,6 +48,20 @@ pub fn ready(p: Params, row: Row, d: usize) -> bool
         return shape::data_position(p, s, d) < f;
     }
     shape::data_count(p) <= f
+}
+
+// 01, Refusals, 5: a chunk that waits, of the stripe in this eighth; 8: it is not in flight.
+pub fn waiting(p: Params, slot: usize, row: Row, d: usize) -> bool
+    requires { ⌜ inRange p ≡ true ⌝ }
+    ensures { λ r. ⌜ r ≡ (ltb d (p .N) && ltb slot slotCount && ready p (alone row) 0 d) ⌝ }
+{
+    if p.N <= d {
+        return false;
+    }
+    if 8 <= slot {
+        return false;
+    }
+    ready(p, row, d)
 }
 
 // 01, Landing: as many drives have landed the stripe as there are drives, once d has.

@@ -92,8 +92,7 @@ loop-again c =
     let a = c .before .before .before .before .before .args in
     let l = c .before .before .before .before .loop in
     let z = sized (c .before .before .before .before .before) in
-    let q = l .inv in
-    (
+    let q = l .inv in (
       omega arith,
       length-set (l .addresses) (l .k) _ ∙ q .1,
       length-set (l .stamps) (l .k) _ ∙ q .2,
