@@ -1,14 +1,18 @@
 // The state as bytes (01, The array): sections of numbers of one width, in the order of the fields.
 ghost use mathlib.Core.Path.{_≡_};
-ghost use Prim.Native.Nat.{_+_, _*_, _≤_};
+ghost use Prim.Native.Nat.{_+_, _*_, _≤_, _<_};
 ghost use lib.ListN.{length, take};
 ghost use Rattle.defs.specs.Bytes.{toLe, splice};
 ghost use Rattle.defs.specs.Lists.{flat};
 ghost use Rattle.defs.specs.Memory.{stateSections, numbersAt, stateLen, stateOf, stateBytes};
+ghost use Rattle.codec.specs.Changes.{countEdits, markEdits, cellEdits};
 ghost use Rattle.codec.specs.Codec.{putSections, frontNumbers};
+ghost use Rattle.codec.specs.Edits.{writtenAll};
+ghost use Rattle.rows.specs.Rows.{changed};
 use defs::Serial;
 use defs::Stamp;
 use defs::State;
+use rows::Change;
 
 // ---- a section read
 
@@ -181,4 +185,57 @@ pub fn encode(dst: &mut [u8], st: State)
     put_longs(dst, 82, &addresses);
     put_longs(dst, 594, &stamps);
     put_words(dst, 1106, &offsets);
+}
+
+// ---- a change of the state
+
+// The four numbers in front that a call changes.
+fn put_counts(dst: &mut [u8], stamp: u64, serial: u64, opened: u32, next: u32)
+    requires { ⌜ 26 ≤ length (now dst) ⌝ }
+    ensures { λ _. ⌜ now (dst .exit) ≡ writtenAll stateSections (now (dst .entry)) (countEdits stamp serial opened next) ⌝ }
+{
+    le::write_le64(dst, 2, stamp);
+    le::write_le64(dst, 10, serial);
+    le::write_le32(dst, 18, opened);
+    le::write_le32(dst, 22, next);
+}
+
+// Of eighth i the stripe's number, how many are filled, which are writes, which drives have it.
+fn put_marks(dst: &mut [u8], i: usize, number: u32, filled: u8, writes: u8, landed: u8)
+    requires { ⌜ (i < 8) × (82 ≤ length (now dst)) ⌝ }
+    ensures { λ _. ⌜ now (dst .exit) ≡ writtenAll stateSections (now (dst .entry)) (markEdits i number filled writes landed) ⌝ }
+{
+    le::write_le32(dst, 26 + 4 * i, number);
+    dst[58 + i] = filled;
+    dst[66 + i] = writes;
+    dst[74 + i] = landed;
+}
+
+// Of eighth i the addresses, stamps and offsets.
+fn put_cells(dst: &mut [u8], i: usize, addresses: &[u64; 8], stamps: &[u64; 8], offsets: &[u32; 8])
+    requires { ⌜ (i < 8) × (1362 ≤ length (now dst)) ⌝ }
+    ensures { λ _. ⌜ now (dst .exit) ≡ writtenAll stateSections (now (dst .entry)) (cellEdits i (now (addresses .entry)) (now (stamps .entry)) (now (offsets .entry))) ⌝ }
+{
+    let at = 8 * i;
+    put_longs(dst, 82 + 8 * at, addresses);
+    put_longs(dst, 594 + 8 * at, stamps);
+    put_words(dst, 1106 + 4 * at, offsets);
+}
+
+// The change made in the state's bytes: only what it names is written.
+pub fn put_change(dst: &mut [u8], c: Change)
+    requires { ⌜ length (now dst) ≡ stateLen ⌝ }
+    ensures { λ _. ⌜ now (dst .exit) ≡ stateBytes (changed (stateOf (now (dst .entry))) c) ⌝ }
+{
+    put_counts(dst, c.stamp.0, c.serial.0, c.opened, c.next);
+    let i = c.slot;
+    if 8 <= i {
+        return;
+    }
+    let row = c.row;
+    let addresses = row.addresses;
+    let stamps = row.stamps;
+    let offsets = row.offsets;
+    put_marks(dst, i, row.number, row.filled, row.writes, row.landed);
+    put_cells(dst, i, &addresses, &stamps, &offsets);
 }

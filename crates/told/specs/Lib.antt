@@ -1,3 +1,4 @@
 pub mod Told
 pub mod Hears
 pub mod Numbers
+pub mod Applied

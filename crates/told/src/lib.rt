@@ -9,9 +9,11 @@ ghost use Rattle.defs.specs.Memory.{stateLen, stateBytes, stateOf};
 ghost use Rattle.defs.specs.Params.{inRange};
 ghost use Rattle.defs.specs.Rebuild.{namesMissing};
 ghost use Rattle.defs.specs.Restart.{namesDrive};
+ghost use Rattle.rows.specs.Rows.{stateAfter};
 use calls::Done;
 use defs::Answer;
 use defs::Params;
+use rows::Change;
 
 // An answer as numbers: its kind, and up to three values.
 #[repr(C)]
@@ -129,4 +131,22 @@ pub fn good_rebuild(p: Params, state: &[u8], drive: usize) -> bool
         return false;
     }
     missing_in(state) == masks::only_drive(drive)
+}
+
+// 01, Store count: a refusal leaves the state's bytes, a cut leaves zeros, else the change is made in them.
+pub fn apply(state: &mut [u8], change: Change) -> Told
+    requires { ⌜ length (now state) ≡ stateLen ⌝ }
+    ensures { λ r. ⌜ (r ≡ toldOf (change .answer)) × (now (state .exit) ≡ cond (isRefused (change .answer)) (now (state .entry)) (stateBytes (stateAfter (stateOf (now (state .entry))) change))) ⌝ }
+{
+    let answer = change.answer;
+    let r = told_of(answer);
+    if r.kind <= 1 {
+        return r;
+    }
+    if r.kind == 2 {
+        blocks::clear(state);
+        return r;
+    }
+    codec::put_change(state, change);
+    r
 }

@@ -1,0 +1,47 @@
+-- `put_counts`: four stores, four edits. Assumes nothing.
+use mathlib.Core.Path.{_≡_, ap, _∙_}
+use mathlib.Core.List.{List}
+use Prim.Native.Nat.{ℕ}
+use Rattle.defs.specs.Bytes.{toLe, splice}
+use Rattle.defs.specs.Lists.{total}
+use Rattle.defs.specs.Memory.{stateSections, sectionLen}
+use Rattle.codec.specs.Changes.{number-written}
+use Rattle.codec.specs.Edits.{written, writtenAll}
+use borrow.Author.Needs.{needs}
+use Rattle.codec.proofs.put_counts.Statement.{statement}
+use Rattle.codec.proofs.put_counts.Tie as tie
+
+write-le64-requires : tie.Need-write-le64-requires
+write-le64-requires c κs = search needs
+
+write-le64-requires-2 : tie.Need-write-le64-requires-2
+write-le64-requires-2 c κs = search needs
+
+write-le32-requires : tie.Need-write-le32-requires
+write-le32-requires c κs = search needs
+
+write-le32-requires-2 : tie.Need-write-le32-requires-2
+write-le32-requires-2 c κs = search needs
+
+same-length : tie.Need-same-length
+same-length c = search needs
+
+returns : tie.Need-returns
+unfolding writtenAll written stateSections sectionLen total
+returns c =
+    let a = c .before .before .before .before .before .before .before .before .before .before .before .before .before .before .before .before .before .args in
+    c .before .before .write-le322 .ensures
+    ∙ (λ j. splice ((c .before .before .before .before .before .before .write-le32 .ensures
+    ∙ (λ k. splice ((c .before .before .before .before .before .before .before .before .before .before .write-le642 .ensures
+    ∙ (λ m. splice ((c .before .before .before .before .before .before .before .before .before .before .before .before .before .before .write-le64 .ensures ∙ ap (splice (a .dst .now) 2) (number-written 8 (a .stamp))) m) 10 (number-written 8 (a .serial) m))) k) 18 (number-written 4 (a .opened) k))) j) 22 (number-written 4 (a .next) j))
+
+pub put-counts-spec : {M : Type 1} → statement M
+put-counts-spec =
+    tie.close
+    (tie.spec
+    write-le64-requires
+    write-le64-requires-2
+    write-le32-requires
+    write-le32-requires-2
+    same-length
+    returns)

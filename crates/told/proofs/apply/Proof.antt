@@ -1,0 +1,60 @@
+use Prim.Native.Nat.{_<_, _≤_}
+use Rattle.told.specs.Applied.{applied-refused, applied-cut, applied-done}
+use Rattle.told.specs.declared.Told.{Told}
+use Rattle.defs.specs.Answers.{kind}
+use mathlib.Core.Path.{_≡_, sym, ap, _∙_}
+use native.Mathlib.Omega.{arith}
+use borrow.Author.Needs.{needs}
+use Rattle.told.proofs.apply.Statement.{statement}
+use Rattle.told.proofs.apply.Tie as tie
+
+told-of-requires : tie.Need-told-of-requires
+told-of-requires c κs = search needs
+
+returns : tie.Need-returns
+returns c =
+    let a = c .before .before .before .before .args in
+    let t = c .before .before .told-of in
+    let k : t .result .kind ≡ kind (a .change .answer) = ap (λ (x : Told). x .kind) (t .ensures) in
+    (t .ensures, applied-refused (a .state .now) (a .change) (omega (arith, c .if1 .taken, k)))
+
+clear-requires : tie.Need-clear-requires
+clear-requires c κs = search needs
+
+same-length : tie.Need-same-length
+same-length c = search needs
+
+returns-2 : tie.Need-returns-2
+returns-2 c =
+    let s = c .before .before .before .before .before .before .before .before .before .before in
+    let a = s .args in
+    let t = c .before .before .before .before .before .before .before .before .told-of in
+    let k : t .result .kind ≡ kind (a .change .answer) = ap (λ (x : Told). x .kind) (t .ensures) in
+    (t .ensures, applied-cut (a .state .now) (a .change) (omega (arith, c .before .before .before .before .before .before .if1 .left, k)) (c .before .before .clear .last .0) (sym k ∙ c .before .before .before .before .if2 .taken) (s .pre) (c .before .before .clear .ensures))
+
+put-change-requires : tie.Need-put-change-requires
+put-change-requires c κs = c .before .before .before .before .before .before .before .pre
+
+same-length-2 : tie.Need-same-length-2
+same-length-2 c = search needs
+
+returns-3 : tie.Need-returns-3
+returns-3 c =
+    let s = c .before .before .before .before .before .before .before .before .before .before in
+    let a = s .args in
+    let t = c .before .before .before .before .before .before .before .before .told-of in
+    let k : t .result .kind ≡ kind (a .change .answer) = ap (λ (x : Told). x .kind) (t .ensures) in
+    (t .ensures, applied-done (a .state .now) (a .change) (omega (arith, c .before .before .before .before .before .before .if1 .left, k)) (c .before .before .put-change .last .0) (λ e. c .before .before .before .before .if2 .left (k ∙ e)) (c .before .before .put-change .ensures))
+
+pub apply-spec : {M : Type 1} → statement M
+apply-spec =
+    tie.close
+    (tie.spec
+    told-of-requires
+    returns
+    clear-requires
+    same-length
+    returns-2
+    put-change-requires
+    same-length-2
+    returns-3)
