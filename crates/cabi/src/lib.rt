@@ -354,7 +354,7 @@ pub extern "C" fn sorgizhed_land(
         return told::short_of(shape::in_range(p));
     }
     let before = codec::decode(state);
-    let done = land::land(
+    let change = land::land(
         p,
         image,
         pointers,
@@ -366,7 +366,7 @@ pub extern "C" fn sorgizhed_land(
         stripe,
         count,
     );
-    told::finish(state, done)
+    told::apply(state, change)
 }
 
 // A reclaim of the host.

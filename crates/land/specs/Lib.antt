@@ -1,4 +1,5 @@
-pub mod Order
-pub mod Ready
-pub mod Plan
 pub mod Ends
+pub mod Marked
+pub mod Order
+pub mod Plan
+pub mod Ready

@@ -1,33 +1,80 @@
 -- The checks of a landing one after the other: each refuses, or leaves it to the next (01, Refusals). Assumes nothing.
 use mathlib.Core.Path.{_≡_, refl, sym, ap, _∙_}
 use mathlib.Core.List.{List, [], _∷_, _++_}
-use mathlib.Core.Bool.{true, false, not}
-use Prim.Native.Nat.{ℕ, suc, min, _<_}
-use borrow.Author.Tests.{eq-eqb, ne-eqb}
+use mathlib.Core.Bool.{Bool, true, false, not, _&&_}
+use Prim.Native.Nat.{ℕ, suc, min, _≤_, _<_}
+use borrow.Author.Tests.{eq-eqb, ne-eqb, ltb-true}
 use native.Mathlib.Omega.{arith}
 use lib.Dec.{ltb, eqb}
 use lib.ListN.{drop}
 use Rattle.defs.specs.declared.Params.{Params}
+use Rattle.defs.specs.declared.State.{State}
 use Rattle.defs.specs.declared.Answer.{Answer}
 use Rattle.defs.specs.declared.Answer.the-variants.{Refused, BadZone}
 use Rattle.defs.specs.Calls.Check.{zones}
 use Rattle.defs.specs.Calls.{Check, ninth, firstRefusal}
-use Rattle.defs.specs.Drives.{Disk}
+use Rattle.defs.specs.Drives.{View, Disk}
 use Rattle.defs.specs.Engine.{lentOk}
-use Rattle.defs.specs.Landing.{waiting, landFaults, landChecks}
+use Rattle.defs.specs.Landing.{slotOf, ready, waiting, landFaults, landChecks}
 use Rattle.defs.specs.Lists.{Opt, consIf, least}
 use Rattle.defs.specs.Lists.Opt.{some}
-use Rattle.defs.specs.Memory.{Memory, openSegment, stateOk}
-use Rattle.defs.specs.Params.{inRange}
-use Rattle.laws.specs.Geometry.{ranged}
+use Rattle.defs.specs.Memory.{Memory, slotCount, filledIn, entriesIn, openSegment, stateOk}
+use Rattle.defs.specs.Params.{dataCount, inRange}
+use Rattle.laws.specs.Geometry.{ranged, data-count-high}
 use Rattle.views.specs.Views.{seen}
 use Rattle.plans.specs.Refusals.{rule-fails, rule-passes, state-fault, state-fine}
-use Rattle.landfaults.specs.Lowest.{lowest-refused, low-faults}
+use Rattle.landfaults.specs.Lowest.{faultsOf, faults-are, lowest-refused, low-faults}
+use Rattle.laws.specs.Ranges.{Test, test, not-both}
+use Rattle.laws.specs.Ranges.Test.{yes!, no! }
+use Rattle.rows.specs.declared.Row.{Row}
+use Rattle.rows.specs.Rows.{rowOf}
+use Rattle.waits.specs.Alone.{alone, row-ready, row-entries}
+use Rattle.land.specs.declared.Look.{Look}
+use Rattle.land.specs.Plan.{Looks, look-done, look-seals}
 
 least-zero : (zs : List ℕ) → least 0 zs ≡ 0
 unfolding least
 least-zero [] = refl
 least-zero (z ∷ zs) = let e : min 0 z ≡ 0 = omega arith in ap (λ (x : ℕ). least x zs) e ∙ least-zero zs
+
+-- 01, Refusals, 5: what the row says of the chunk
+pub waits-row : (p : Params) (st : State) (d s : ℕ) (l : Look) → Looks p st d s l → (ltb d (p .N) && ltb (l .slot) slotCount && ready p (alone (l .row)) 0 d) ≡ waiting p st d s
+unfolding waiting
+waits-row p st d s l w = go (test (ltb (slotOf st s) slotCount))
+  where
+    i : ℕ
+    i = slotOf st s
+
+    a : Bool
+    a = ltb d (p .N)
+
+    b : Bool
+    b = ltb (slotOf st s) slotCount
+
+    same : (x : Bool) → x ≡ false → (a && x && ready p (alone (l .row)) 0 d) ≡ (a && x && ready p st i d)
+    same true q = absurd (not-both true refl q)
+    same false q = shut a
+      where
+        shut : (y : Bool) → (y && false && ready p (alone (l .row)) 0 d) ≡ (y && false && ready p st i d)
+        shut true = refl
+        shut false = refl
+
+    go : Test b → (a && ltb (l .slot) slotCount && ready p (alone (l .row)) 0 d) ≡ (a && b && ready p st i d)
+    go (yes! t) =
+        let e : l .row ≡ rowOf st i = w .row (unfold slotCount in ltb-true (slotOf st s) 8 t) in
+        (λ j. a && ltb (w .slot j) slotCount && ready p (alone (e j)) 0 d) ∙ ap (λ (x : Bool). a && b && x) (row-ready st i p d)
+    go (no! t) = ap (λ (x : ℕ). a && ltb x slotCount && ready p (alone (l .row)) 0 d) (w .slot) ∙ same b t
+
+-- 01, Refusals, 9: the bad zones by the row are those of the definition
+pub faults-seen : (p : Params) (v : View) (m : Memory) (d s : ℕ) (l : Look) → Looks p (m .state) d s l → slotOf (m .state) s < 8 → filledIn (m .state) (slotOf (m .state) s) ≤ dataCount p
+    → inRange p ≡ true → least (p .Z) (faultsOf p v (m .addresses) (entriesIn (alone (l .row)) 0) d (l .segment) s (l .done) (l .seals)) ≡ least (p .Z) (landFaults p v m d s)
+faults-seen p v m d s l w h f ok =
+    let st = m .state in
+    let i = slotOf st s in
+    let e = w .row h in
+    let es : entriesIn (alone (l .row)) 0 ≡ entriesIn st i = ap (λ (x : Row). entriesIn (alone x) 0) e ∙ row-entries st i (omega (arith, f, data-count-high p (ranged p ok))) in
+    ap (λ (g : ℕ). least (p .Z) (faultsOf p v (m .addresses) (entriesIn (alone (l .row)) 0) d g s (l .done) (l .seals))) (w .segment)
+    ∙ ap (least (p .Z)) (faults-are p v m d s (entriesIn (alone (l .row)) 0) (l .done) (l .seals) es (look-done p st d s l w h) (look-seals p st d s l w h))
 
 module _ (p : Params) (k : Disk) (m : Memory) (d s : ℕ) where
   -- the first refusal among the checks from the i-th on, counted from 0
@@ -77,10 +124,10 @@ module _ (p : Params) (k : Disk) (m : Memory) (d s : ℕ) where
       sym (ap (λ (x : List ℕ). firstRefusal (zones (x ++ zs) ∷ [])) (state-fault p (m .state) e) ∙ ap (λ (x : ℕ). some (BadZone x)) (least-zero zs))
 
   -- the last check, by the lowest bad zone
-  pub faults-are : stateOk p (m .state) ≡ true → inRange p ≡ true → openSegment (m .state) < p .Z → (z : ℕ) → z ≡ least (p .Z) (landFaults p (seen p k) m d s)
+  pub faults-refused : stateOk p (m .state) ≡ true → inRange p ≡ true → openSegment (m .state) < p .Z → (z : ℕ) → z ≡ least (p .Z) (landFaults p (seen p k) m d s)
       → firstRefusal (zones (consIf (ltb z (p .Z)) z []) ∷ []) ≡ from 4
   unfolding landChecks
-  faults-are e ok h z q =
+  faults-refused e ok h z q =
       let zs = landFaults p (seen p k) m d s in
       ap (λ (x : ℕ). firstRefusal (zones (consIf (ltb x (p .Z)) x []) ∷ [])) q
       ∙ lowest-refused (p .Z) zs (low-faults p (ranged p ok) (seen p k) m d s h)

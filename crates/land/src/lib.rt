@@ -1,30 +1,76 @@
 // The landing call (01, Landing).
 ghost use mathlib.Core.Path.{_≡_};
-ghost use mathlib.Core.Bool.{true, cond, _&&_};
+ghost use mathlib.Core.Bool.{true};
 ghost use mathlib.Core.List.{[]};
 ghost use Prim.Native.Nat.{ℕ, _+_, _-_, _≤_, _<_};
-ghost use lib.ListN.{length, set};
-ghost use Rattle.calls.specs.Left.{checked, after};
+ghost use lib.ListN.{length, set, replicate};
+ghost use Rattle.calls.specs.Left.{checked};
+ghost use Rattle.defs.specs.declared.Answer.the-variants.{Cut};
+ghost use Rattle.defs.specs.declared.State.{State as StateOf};
 ghost use Rattle.defs.specs.Drives.{viewOf, mkDisk, pointerOf, storeDisk, zoneOn};
 ghost use Rattle.defs.specs.Drives.Store.{put};
 ghost use Rattle.defs.specs.Engine.{callDisk};
 ghost use Rattle.defs.specs.Engine.Call.{land};
-ghost use Rattle.defs.specs.Landing.{slotOf, flightRec};
+ghost use Rattle.defs.specs.Landing.{flightRec};
 ghost use Rattle.defs.specs.Layout.{compactEntry, recordBytes};
-ghost use Rattle.defs.specs.Lists.Opt.{none};
-ghost use Rattle.defs.specs.Memory.{mkMemory, filledIn, offsetIn, openSegment, setClosed, markLanded, freeStripe, compactAt, slotBlock};
+ghost use Rattle.defs.specs.Memory.{mkMemory, filledIn, offsetIn, compactAt, slotBlock};
 ghost use Rattle.defs.specs.Params.{inRange, dataCount, footers, capacity, addressesLen, compactLen, inflightLen};
-ghost use Rattle.land.specs.Plan.{isLast, sealsOf, Completing};
+ghost use Rattle.land.specs.Ends.{Chosen};
+ghost use Rattle.land.specs.Marked.{changeTo};
+ghost use Rattle.land.specs.Plan.{Looks, sealsOf, Completing};
 ghost use Rattle.land.specs.Ready.{refusal};
 ghost use Rattle.pointing.specs.Winners.{Sound};
+ghost use Rattle.rows.specs.Rows.{afterChange};
 ghost use Rattle.views.specs.Views.{Whole};
+ghost use Rattle.waits.specs.Alone.{alone, markRow};
 ghost use Rattle.zones.specs.Made.{Storing};
 use calls::Check;
-use calls::Done;
 use defs::Answer;
 use defs::Params;
 use defs::State;
+use rows::Change;
+use rows::Front;
+use rows::Row;
 use zones::Made;
+
+// What a landing asks of the state, once: the stripe's eighth (8: not in flight) and its row, the open segment, whether the chunk completes the stripe, and
+// whether it seals the segment.
+pub struct Look {
+    pub slot: usize,
+    pub segment: usize,
+    pub done: bool,
+    pub seals: bool,
+    pub row: Row,
+}
+
+// An eighth as it is, 0 for none.
+fn within(slot: usize) -> usize
+    ensures { λ r. ⌜ (r < 8) × (slot < 8 → r ≡ slot) ⌝ }
+{
+    if slot < 8 {
+        return slot;
+    }
+    0
+}
+
+// 01, Landing: looks at the state.
+fn look_at(p: Params, state: State, drive: usize, stripe: usize) -> Look
+    ensures { λ r. ⌜ Looks p state drive stripe r ⌝ }
+{
+    let slot = memory::slot_of(state, stripe);
+    let row = rows::row_of(state, within(slot));
+    let segment = memory::open_segment(state);
+    let done = waits::completes(p, row, drive);
+    let flying = memory::in_flight(state);
+    let seals = waits::is_last(p, done, state.next, flying);
+    Look {
+        slot,
+        segment,
+        done,
+        seals,
+        row,
+    }
+}
 
 // 01, Refusals: the checks of a landing, in order.
 fn checks(
@@ -35,9 +81,11 @@ fn checks(
     compact: &[u8],
     inflight: &[u8],
     state: State,
+    seen: Look,
     drive: usize,
     stripe: usize,
 ) -> Check
+    requires { ⌜ Looks p state drive stripe seen ⌝ }
     ensures { λ r. ⌜ checked r ≡ refusal p (mkDisk (now (image .entry)) (now (pointers .entry))) (mkMemory state (now (addresses .entry)) (now (compact .entry)) (now (inflight .entry))) drive stripe ⌝ }
 {
     if !shape::in_range(p) {
@@ -49,13 +97,24 @@ fn checks(
     if state.missing != 0 {
         return Check::Fail(Answer::Refused(3));
     }
-    if !waits::waiting(p, state, drive, stripe) {
+    let row = seen.row;
+    if !waits::waiting(p, seen.slot, row, drive) {
         return Check::Fail(Answer::Refused(5));
     }
     if !memory::state_ok(p, state) {
         return Check::Fail(Answer::BadZone(0));
     }
-    let z = landfaults::land_fault(p, pointers, addresses, state, drive, stripe);
+    let z = landfaults::land_fault(
+        p,
+        pointers,
+        addresses,
+        row,
+        drive,
+        seen.segment,
+        stripe,
+        seen.done,
+        seen.seals,
+    );
     lookup::zone_check(p, z)
 }
 
@@ -65,19 +124,19 @@ fn put_chunk(
     image: &mut [u8],
     pointers: &mut [u8],
     inflight: &[u8],
-    state: State,
+    row: Row,
     i: usize,
     drive: usize,
     zone: usize,
 )
     requires { ⌜ inRange p ≡ true ⌝ }
     requires { ⌜ Whole p (mkDisk (now image) (now pointers)) ⌝ }
-    requires { ⌜ (length (now inflight) ≡ inflightLen p) × (i < 8) × (filledIn state i ≤ 8) ⌝ }
+    requires { ⌜ (length (now inflight) ≡ inflightLen p) × (i < 8) × (filledIn (alone row) 0 ≤ 8) ⌝ }
     requires { ⌜ (drive < p .N) × (zone < p .Z) × (pointerOf p (now pointers) drive zone < capacity p) ⌝ }
-    ensures { λ _. ⌜ mkDisk (now (image .exit)) (now (pointers .exit)) ≡ storeDisk p (put drive zone (slotBlock p (now (inflight .entry)) i drive) (recordBytes (flightRec p state i drive))) (mkDisk (now (image .entry)) (now (pointers .entry))) ⌝ }
+    ensures { λ _. ⌜ mkDisk (now (image .exit)) (now (pointers .exit)) ≡ storeDisk p (put drive zone (slotBlock p (now (inflight .entry)) i drive) (recordBytes (flightRec p (alone row) 0 drive))) (mkDisk (now (image .entry)) (now (pointers .entry))) ⌝ }
 {
     let mut spare = [0u8; 20];
-    records::write_record(&mut spare, waits::flight_record(p, state, i, drive));
+    records::write_record(&mut spare, waits::flight_record(p, row, drive));
     let a = shape::slot_byte(p, i, drive);
     let e = a + p.B;
     zones::put(p, image, pointers, drive, zone, &inflight[a..e], &spare);
@@ -108,83 +167,106 @@ fn store_chunk(
     pointers: &mut [u8],
     compact: &mut [u8],
     inflight: &[u8],
-    state: State,
+    row: Row,
     i: usize,
+    segment: usize,
     drive: usize,
     stripe: usize,
-) -> State
+) -> Row
     requires { ⌜ inRange p ≡ true ⌝ }
     requires { ⌜ Whole p (mkDisk (now image) (now pointers)) ⌝ }
-    requires { ⌜ (length (now compact) ≡ compactLen p) × (length (now inflight) ≡ inflightLen p) × (i < 8) × (filledIn state i ≤ 8) ⌝ }
-    requires { ⌜ (drive < p .N) × (openSegment state < p .Z) × (1 ≤ pointerOf p (now pointers) drive (zoneOn (openSegment state) drive)) × (pointerOf p (now pointers) drive (zoneOn (openSegment state) drive) ≤ p .S) ⌝ }
-    ensures { λ _. ⌜ mkDisk (now (image .exit)) (now (pointers .exit)) ≡ storeDisk p (put drive (zoneOn (openSegment state) drive) (slotBlock p (now (inflight .entry)) i drive) (recordBytes (flightRec p state i drive))) (mkDisk (now (image .entry)) (now (pointers .entry))) ⌝ }
-    ensures { λ r. ⌜ (now (compact .exit) ≡ set (now (compact .entry)) (compactAt p drive (zoneOn (openSegment state) drive) (pointerOf p (now (pointers .entry)) drive (zoneOn (openSegment state) drive) - 1)) (compactEntry p stripe)) × (r ≡ markLanded state i drive (pointerOf p (now (pointers .entry)) drive (zoneOn (openSegment state) drive) - 1)) ⌝ }
+    requires { ⌜ (length (now compact) ≡ compactLen p) × (length (now inflight) ≡ inflightLen p) × (i < 8) × (filledIn (alone row) 0 ≤ 8) ⌝ }
+    requires { ⌜ (drive < p .N) × (segment < p .Z) × (1 ≤ pointerOf p (now pointers) drive (zoneOn segment drive)) × (pointerOf p (now pointers) drive (zoneOn segment drive) ≤ p .S) ⌝ }
+    ensures { λ _. ⌜ mkDisk (now (image .exit)) (now (pointers .exit)) ≡ storeDisk p (put drive (zoneOn segment drive) (slotBlock p (now (inflight .entry)) i drive) (recordBytes (flightRec p (alone row) 0 drive))) (mkDisk (now (image .entry)) (now (pointers .entry))) ⌝ }
+    ensures { λ r. ⌜ (now (compact .exit) ≡ set (now (compact .entry)) (compactAt p drive (zoneOn segment drive) (pointerOf p (now (pointers .entry)) drive (zoneOn segment drive) - 1)) (compactEntry p stripe)) × (r ≡ markRow row drive (pointerOf p (now (pointers .entry)) drive (zoneOn segment drive) - 1)) ⌝ }
 {
-    let zone = shape::zone_on(memory::open_segment(state), drive);
+    let zone = shape::zone_on(segment, drive);
     let offset = zones::pointer(p, pointers, drive, zone) as usize - 1;
-    put_chunk(p, image, pointers, inflight, state, i, drive, zone);
+    put_chunk(p, image, pointers, inflight, row, i, drive, zone);
     show_chunk(p, compact, drive, zone, offset, stripe);
-    memory::mark_landed(state, i, drive, offset)
+    waits::mark_landed(row, drive, offset)
 }
 
 // 01, Landing: the landing after which all S stripes are complete also stores the footers.
-fn seal(p: Params, image: &mut [u8], pointers: &mut [u8], state: State, count: u64) -> Made
+fn seal(
+    p: Params,
+    image: &mut [u8],
+    pointers: &mut [u8],
+    segment: usize,
+    seals: bool,
+    count: u64,
+) -> Made
     requires { ⌜ inRange p ≡ true ⌝ }
     requires { ⌜ Whole p (mkDisk (now image) (now pointers)) ⌝ }
-    requires { ⌜ (openSegment state < p .Z) × (isLast p state ≡ true → (d : ℕ) → d < p .N → pointerOf p (now pointers) d (zoneOn (openSegment state) d) + footers p ≤ capacity p) ⌝ }
-    ensures { λ r. ⌜ Storing p count (sealsOf p (mkDisk (now (image .entry)) (now (pointers .entry))) state) (mkDisk (now (image .entry)) (now (pointers .entry))) r (mkDisk (now (image .exit)) (now (pointers .exit))) ⌝ }
+    requires { ⌜ (segment < p .Z) × (seals ≡ true → (d : ℕ) → d < p .N → pointerOf p (now pointers) d (zoneOn segment d) + footers p ≤ capacity p) ⌝ }
+    ensures { λ r. ⌜ Storing p count (sealsOf p (mkDisk (now (image .entry)) (now (pointers .entry))) segment seals) (mkDisk (now (image .entry)) (now (pointers .entry))) r (mkDisk (now (image .exit)) (now (pointers .exit))) ⌝ }
 {
-    if !waits::is_last(p, state) {
+    if !seals {
         return Made {
             left: count,
             cut: false,
         };
     }
-    let g = memory::open_segment(state);
-    sealing::seal_stores(p, image, pointers, g, count)
+    sealing::seal_stores(p, image, pointers, segment, count)
 }
 
-// 01, Landing: the eighth is free; after the last stripe no segment is open.
-fn freed(p: Params, state: State, i: usize) -> State
-    requires { ⌜ i < 8 ⌝ }
-    ensures { λ r. ⌜ r ≡ cond (isLast p state) (setClosed (freeStripe state i)) (freeStripe state i) ⌝ }
+// 01, Store count: a cut leaves the tables all zeros.
+fn cut(addresses: &mut [u8], compact: &mut [u8]) -> Answer
+    ensures { λ r. ⌜ (r ≡ Cut) × (now (addresses .exit) ≡ replicate (length (now (addresses .entry))) 0) × (now (compact .exit) ≡ replicate (length (now (compact .entry))) 0) ⌝ }
 {
-    let next = memory::free_stripe(state, i);
-    if waits::is_last(p, state) {
-        return memory::set_closed(next);
-    }
-    next
+    blocks::clear(addresses);
+    blocks::clear(compact);
+    Answer::Cut
 }
 
-// 01, Landing: the stripe of eighth i is complete: the table points at what holds, its writes are acknowledged, and the last one's landing seals.
+// 01, Landing: the stripe is complete: the table points at what holds, its writes are acknowledged, and the last one's landing seals.
 fn complete(
     p: Params,
     image: &mut [u8],
     pointers: &mut [u8],
     addresses: &mut [u8],
     compact: &mut [u8],
-    state: State,
-    i: usize,
+    row: Row,
+    segment: usize,
+    seals: bool,
     count: u64,
-) -> Done
+) -> Answer
     requires { ⌜ inRange p ≡ true ⌝ }
     requires { ⌜ Whole p (mkDisk (now image) (now pointers)) ⌝ }
-    requires { ⌜ (length (now addresses) ≡ addressesLen p) × Sound p state i (now addresses) ⌝ }
-    requires { ⌜ (i < 8) × (filledIn state i ≤ dataCount p) × ((d : ℕ) → d < p .N → offsetIn state i d < p .S) ⌝ }
-    requires { ⌜ (openSegment state < p .Z) × (isLast p state ≡ true → (d : ℕ) → d < p .N → pointerOf p (now pointers) d (zoneOn (openSegment state) d) + footers p ≤ capacity p) ⌝ }
-    ensures { λ r. ⌜ Completing p count state i (mkDisk (now (image .entry)) (now (pointers .entry))) (now (addresses .entry)) (now (compact .entry)) r (mkDisk (now (image .exit)) (now (pointers .exit))) (now (addresses .exit)) (now (compact .exit)) ⌝ }
+    requires { ⌜ (length (now addresses) ≡ addressesLen p) × Sound p (alone row) 0 (now addresses) ⌝ }
+    requires { ⌜ (filledIn (alone row) 0 ≤ dataCount p) × ((d : ℕ) → d < p .N → offsetIn (alone row) 0 d < p .S) ⌝ }
+    requires { ⌜ (segment < p .Z) × (seals ≡ true → (d : ℕ) → d < p .N → pointerOf p (now pointers) d (zoneOn segment d) + footers p ≤ capacity p) ⌝ }
+    ensures { λ r. ⌜ Completing p count row segment seals (mkDisk (now (image .entry)) (now (pointers .entry))) (now (addresses .entry)) (now (compact .entry)) r (mkDisk (now (image .exit)) (now (pointers .exit))) (now (addresses .exit)) (now (compact .exit)) ⌝ }
 {
-    let g = memory::open_segment(state);
-    pointing::point(p, image, pointers, addresses, g, state, i);
-    let made = seal(p, image, pointers, state, count);
+    pointing::point(p, image, pointers, addresses, segment, row);
+    let made = seal(p, image, pointers, segment, seals, count);
     if made.cut {
-        return calls::cut(addresses, compact);
+        return cut(addresses, compact);
     }
-    let n = memory::writes_in(state, i);
-    let last = freed(p, state, i);
-    Done {
-        answer: Answer::Landed(n as u64),
-        state: last,
+    let n = waits::writes_in(row);
+    Answer::Landed(n as u64)
+}
+
+// 01, Landing: what changes in the state: the stripe's eighth, and, at the end of a segment, that none is open.
+fn change_to(answer: Answer, front: Front, i: usize, row: Row, closes: bool) -> Change
+    ensures { λ r. ⌜ r ≡ changeTo answer front i row closes ⌝ }
+{
+    let stamp = front.stamp;
+    let serial = front.serial;
+    let mut opened = front.opened;
+    let mut next = front.next;
+    if closes {
+        opened = 0;
+        next = 0;
+    }
+    Change {
+        answer,
+        stamp,
+        serial,
+        opened,
+        next,
+        slot: i,
+        row,
     }
 }
 
@@ -196,39 +278,53 @@ fn plan(
     addresses: &mut [u8],
     compact: &mut [u8],
     inflight: &[u8],
-    state: State,
-    i: usize,
+    front: Front,
+    seen: Look,
     drive: usize,
     stripe: usize,
     count: u64,
-) -> Done
-    requires { ⌜ (i ≡ slotOf state stripe) × (refusal p (mkDisk (now image) (now pointers)) (mkMemory state (now addresses) (now compact) (now inflight)) drive stripe ≡ none) ⌝ }
-    ensures { λ r. ⌜ after r (now (image .exit)) (now (pointers .exit)) (now (addresses .exit)) (now (compact .exit)) (now (inflight .entry)) [] ≡ callDisk p (mkDisk (now (image .entry)) (now (pointers .entry))) (mkMemory state (now (addresses .entry)) (now (compact .entry)) (now (inflight .entry))) (land drive stripe count) ⌝ }
+) -> Change
+    requires { ⌜ ((st : StateOf) × Chosen p (mkDisk (now image) (now pointers)) (now addresses) (now compact) (now inflight) drive stripe seen front st) ⌝ }
+    ensures { λ r. ⌜ ((st : StateOf) → Chosen p (mkDisk (now (image .entry)) (now (pointers .entry))) (now (addresses .entry)) (now (compact .entry)) (now (inflight .entry)) drive stripe seen front st → afterChange st r (now (image .exit)) (now (pointers .exit)) (now (addresses .exit)) (now (compact .exit)) (now (inflight .entry)) [] ≡ callDisk p (mkDisk (now (image .entry)) (now (pointers .entry))) (mkMemory st (now (addresses .entry)) (now (compact .entry)) (now (inflight .entry))) (land drive stripe count)) ⌝ }
 {
     if count == 0 {
-        return calls::cut(addresses, compact);
+        let answer = cut(addresses, compact);
+        return rows::kept(answer, front);
     }
+    let i = seen.slot;
+    let segment = seen.segment;
+    let row = seen.row;
     let marked = store_chunk(
         p,
         image,
         pointers,
         compact,
         inflight,
-        state,
+        row,
         i,
+        segment,
         drive,
         stripe,
     );
-    if !waits::completes(p, state, i, drive) {
-        return Done {
-            answer: Answer::Landed(0),
-            state: marked,
-        };
+    if !seen.done {
+        return change_to(Answer::Landed(0), front, i, marked, false);
     }
-    complete(p, image, pointers, addresses, compact, marked, i, count - 1)
+    let seals = seen.seals;
+    let answer = complete(
+        p,
+        image,
+        pointers,
+        addresses,
+        compact,
+        marked,
+        segment,
+        seals,
+        count - 1,
+    );
+    change_to(answer, front, i, waits::free_stripe(marked), seals)
 }
 
-// A landing: refused, cut or done, it leaves what the definition says.
+// A landing: refused, cut or done, with the change made it leaves what the definition says.
 pub fn land(
     p: Params,
     image: &mut [u8],
@@ -240,9 +336,11 @@ pub fn land(
     drive: usize,
     stripe: usize,
     count: u64,
-) -> Done
-    ensures { λ r. ⌜ after r (now (image .exit)) (now (pointers .exit)) (now (addresses .exit)) (now (compact .exit)) (now (inflight .entry)) [] ≡ callDisk p (mkDisk (now (image .entry)) (now (pointers .entry))) (mkMemory state (now (addresses .entry)) (now (compact .entry)) (now (inflight .entry))) (land drive stripe count) ⌝ }
+) -> Change
+    ensures { λ r. ⌜ afterChange state r (now (image .exit)) (now (pointers .exit)) (now (addresses .exit)) (now (compact .exit)) (now (inflight .entry)) [] ≡ callDisk p (mkDisk (now (image .entry)) (now (pointers .entry))) (mkMemory state (now (addresses .entry)) (now (compact .entry)) (now (inflight .entry))) (land drive stripe count) ⌝ }
 {
+    let seen = look_at(p, state, drive, stripe);
+    let front = rows::front_of(state);
     let c = checks(
         p,
         image,
@@ -251,13 +349,13 @@ pub fn land(
         compact,
         inflight,
         state,
+        seen,
         drive,
         stripe,
     );
     if let Check::Fail(answer) = c {
-        return Done { answer, state };
+        return rows::kept(answer, front);
     }
-    let i = memory::slot_of(state, stripe);
     plan(
         p,
         image,
@@ -265,8 +363,8 @@ pub fn land(
         addresses,
         compact,
         inflight,
-        state,
-        i,
+        front,
+        seen,
         drive,
         stripe,
         count,

@@ -18,7 +18,7 @@ use Rattle.defs.specs.Landing.{slotOf, completes, seals, misplaced, overfull, e
 use Rattle.defs.specs.Layout.{group, Rec}
 use Rattle.defs.specs.Lists.Opt.{none}
 use Rattle.defs.specs.Lists.{upFrom, below, all, any, consIf, flat, least, isIn}
-use Rattle.defs.specs.Memory.{Memory, filledIn, entryIn, entriesIn, openSegment, inFlight, placeAt}
+use Rattle.defs.specs.Memory.{Memory, filledIn, entryIn, entriesIn, openSegment, placeAt}
 use Rattle.defs.specs.Params.{between, footers, capacity, imageLen, pointersLen, placeBlock, placeZone, placeDrive, drivesOf}
 use Rattle.defs.specs.Read.{placeFaults}
 use Rattle.views.specs.Views.{pointer-view}
@@ -250,34 +250,33 @@ if-append true false g zs = refl
 if-append false true g zs = refl
 if-append false false g zs = refl
 
-module _ (p : Params) (v : View) (m : Memory) (d s : ℕ) where
-  abbrev st : State
-  st = m .state
+-- 01, Refusals, 9: the bad zones of a landing in segment g of a stripe with these entries; b: it completes the stripe, c: it seals the segment
+unfoldable pub faultsOf : Params → View → List ℕ → List Rec → ℕ → ℕ → ℕ → Bool → Bool → List ℕ
+faultsOf p v tb es d g s b c =
+    let zs = flat (entryFaults p v tb) es in
+    consIf (misplaced p v d (zoneOn g d) s) g (consIf (c && overfull p v d g) g (cond b zs []))
 
-  abbrev i : ℕ
-  i = slotOf st s
+-- 01, Refusals, 9: they are those of the definition
+pub faults-are : (p : Params) (v : View) (m : Memory) (d s : ℕ) (es : List Rec) (b c : Bool) → es ≡ entriesIn (m .state) (slotOf (m .state) s)
+    → b ≡ completes p (m .state) (slotOf (m .state) s) d → c ≡ seals p (m .state) (slotOf (m .state) s) d
+    → faultsOf p v (m .addresses) es d (openSegment (m .state)) s b c ≡ landFaults p v m d s
+unfolding faultsOf landFaults
+faults-are p v m d s es b c e f h =
+    let g = openSegment (m .state) in
+    λ j. consIf (misplaced p v d (zoneOn g d) s) g (consIf (h j && overfull p v d g) g (cond (f j) (flat (entryFaults p v (m .addresses)) (e j)) []))
 
-  abbrev g : ℕ
-  g = openSegment st
-
-  abbrev zs : List ℕ
-  zs = flat (entryFaults p v (m .addresses)) (entriesIn st i)
+module _ (p : Params) (v : View) (tb : List ℕ) (es : List Rec) (d g s : ℕ) (c : Bool) where
+  abbrev first : List ℕ
+  first = consIf (misplaced p v d (zoneOn g d) s) g (consIf (c && overfull p v d g) g [])
 
   -- the stripe doesn't complete
-  pub faults-part : completes p st i d ≡ false
-      → least (p .Z) (consIf (misplaced p v d (zoneOn g d) s) g (consIf (false && overfull p v d g) g [])) ≡ least (p .Z) (landFaults p v m d s)
-  unfolding landFaults seals
-  faults-part e =
-      let a : false ≡ (completes p st i d && eqb (st .next) (p .S) && eqb (length (inFlight st)) 1) = ap (λ (x : Bool). x && eqb (st .next) (p .S) && eqb (length (inFlight st)) 1) (sym e) in
-      λ j. least (p .Z) (consIf (misplaced p v d (zoneOn g d) s) g (consIf (a j && overfull p v d g) g (cond (sym e j) zs [])))
+  pub faults-part : least (p .Z) first ≡ least (p .Z) (faultsOf p v tb es d g s false c)
+  unfolding faultsOf
+  faults-part = refl
 
   -- it completes
-  pub faults-whole : completes p st i d ≡ true → (l : Bool) → l ≡ (eqb (st .next) (p .S) && eqb (length (inFlight st)) 1)
-      → least (least (p .Z) (consIf (misplaced p v d (zoneOn g d) s) g (consIf (l && overfull p v d g) g []))) zs ≡ least (p .Z) (landFaults p v m d s)
-  unfolding landFaults seals
-  faults-whole e l f =
-      let mis = misplaced p v d (zoneOn g d) s in
-      let a : l ≡ (completes p st i d && eqb (st .next) (p .S) && eqb (length (inFlight st)) 1) = f ∙ ap (λ (x : Bool). x && eqb (st .next) (p .S) && eqb (length (inFlight st)) 1) (sym e) in
-      sym (least-append (p .Z) (consIf mis g (consIf (l && overfull p v d g) g [])) zs)
-      ∙ ap (least (p .Z)) (sym (if-append mis (l && overfull p v d g) g zs))
-      ∙ (λ j. least (p .Z) (consIf mis g (consIf (a j && overfull p v d g) g (cond (sym e j) zs []))))
+  pub faults-whole : least (least (p .Z) first) (flat (entryFaults p v tb) es) ≡ least (p .Z) (faultsOf p v tb es d g s true c)
+  unfolding faultsOf
+  faults-whole =
+      let zs = flat (entryFaults p v tb) es in
+      sym (least-append (p .Z) first zs) ∙ ap (least (p .Z)) (sym (if-append (misplaced p v d (zoneOn g d) s) (c && overfull p v d g) g zs))

@@ -6,15 +6,16 @@ ghost use Prim.Native.Nat.{ℕ, _≤_, _<_};
 ghost use lib.Dec.{ltb};
 ghost use lib.ListN.{length};
 ghost use Rattle.defs.specs.Drives.{viewOf, zoneOn};
-ghost use Rattle.defs.specs.Landing.{misplaced, overfull, entryFaults, landFaults, slotOf};
+ghost use Rattle.defs.specs.Landing.{misplaced, overfull, entryFaults};
 ghost use Rattle.defs.specs.Layout.{Rec};
 ghost use Rattle.defs.specs.Lists.{consIf, least, flat};
-ghost use Rattle.defs.specs.Memory.{filledIn, entriesIn, openSegment, mkMemory};
+ghost use Rattle.defs.specs.Memory.{filledIn, entriesIn};
 ghost use Rattle.defs.specs.Params.{inRange, imageLen, pointersLen, addressesLen};
-ghost use Rattle.landfaults.specs.Lowest.{overBy};
+ghost use Rattle.landfaults.specs.Lowest.{overBy, faultsOf};
+ghost use Rattle.waits.specs.Alone.{alone};
 use defs::Address;
 use defs::Params;
-use defs::State;
+use rows::Row;
 
 // 01, Refusals, 9: the pointer is not at a data block of the stripe's group.
 fn misplaced(p: Params, pointers: &[u8], d: usize, zone: usize, stripe: usize) -> bool
@@ -81,24 +82,17 @@ fn entry_fault(p: Params, pointers: &[u8], addresses: &[u8], address: Address) -
 }
 
 // 01, Refusals, 9: of the places that the table holds of the stripe's addresses, and of one zone, the lowest bad zone.
-fn entries_fault(
-    p: Params,
-    pointers: &[u8],
-    addresses: &[u8],
-    state: State,
-    i: usize,
-    zone: usize,
-) -> usize
+fn entries_fault(p: Params, pointers: &[u8], addresses: &[u8], row: Row, zone: usize) -> usize
     requires { ⌜ inRange p ≡ true ⌝ }
     requires { ⌜ (length (now pointers) ≡ pointersLen p) × (length (now addresses) ≡ addressesLen p) ⌝ }
-    requires { ⌜ (i < 8) × (filledIn state i ≤ 8) × (zone ≤ p .Z) ⌝ }
-    ensures { λ r. ⌜ ((im : List ℕ) → length im ≡ imageLen p → r ≡ least zone (flat (entryFaults p (viewOf p im (now (pointers .entry))) (now (addresses .entry))) (entriesIn state i))) ⌝ }
+    requires { ⌜ (filledIn (alone row) 0 ≤ 8) × (zone ≤ p .Z) ⌝ }
+    ensures { λ r. ⌜ ((im : List ℕ) → length im ≡ imageLen p → r ≡ least zone (flat (entryFaults p (viewOf p im (now (pointers .entry))) (now (addresses .entry))) (entriesIn (alone row) 0))) ⌝ }
 {
-    let n = memory::filled_in(state, i);
+    let n = waits::filled_in(row);
     let mut worst = zone;
     let mut k = 0;
     while k < n {
-        let e = waits::entry(state, i, k);
+        let e = waits::entry(row, k);
         let z = entry_fault(p, pointers, addresses, e.address);
         if z < worst {
             worst = z;
@@ -135,26 +129,27 @@ fn segment_fault(
     p.Z
 }
 
-// 01, Refusals, 9: the lowest bad zone of a landing; Z where there is none.
+// 01, Refusals, 9: the lowest bad zone of the landing of a stripe's chunk on drive d of the open segment, where it completes the stripe or not, and seals or not;
+// Z where there is none.
 pub fn land_fault(
     p: Params,
     pointers: &[u8],
     addresses: &[u8],
-    state: State,
+    row: Row,
     d: usize,
+    segment: usize,
     stripe: usize,
+    done: bool,
+    seals: bool,
 ) -> usize
     requires { ⌜ inRange p ≡ true ⌝ }
     requires { ⌜ (length (now pointers) ≡ pointersLen p) × (length (now addresses) ≡ addressesLen p) × (d < p .N) ⌝ }
-    requires { ⌜ (openSegment state < p .Z) × (slotOf state stripe < 8) × (filledIn state (slotOf state stripe) ≤ 8) ⌝ }
-    ensures { λ r. ⌜ ((im co fl : List ℕ) → length im ≡ imageLen p → r ≡ least (p .Z) (landFaults p (viewOf p im (now (pointers .entry))) (mkMemory state (now (addresses .entry)) co fl) d stripe)) ⌝ }
+    requires { ⌜ (segment < p .Z) × (filledIn (alone row) 0 ≤ 8) ⌝ }
+    ensures { λ r. ⌜ ((im : List ℕ) → length im ≡ imageLen p → r ≡ least (p .Z) (faultsOf p (viewOf p im (now (pointers .entry))) (now (addresses .entry)) (entriesIn (alone row) 0) d segment stripe done seals)) ⌝ }
 {
-    let i = memory::slot_of(state, stripe);
-    let g = memory::open_segment(state);
-    if !waits::completes(p, state, i, d) {
-        return segment_fault(p, pointers, false, d, g, stripe);
+    let z = segment_fault(p, pointers, seals, d, segment, stripe);
+    if !done {
+        return z;
     }
-    let last = waits::is_last(p, state);
-    let z = segment_fault(p, pointers, last, d, g, stripe);
-    entries_fault(p, pointers, addresses, state, i, z)
+    entries_fault(p, pointers, addresses, row, z)
 }

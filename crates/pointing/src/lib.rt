@@ -4,7 +4,7 @@ ghost use mathlib.Core.Bool.{true};
 ghost use mathlib.Core.List.{List, _∷_};
 ghost use Prim.Native.Nat.{ℕ, _≤_, _<_};
 ghost use lib.ListN.{length, getD};
-ghost use Rattle.defs.specs.Drives.{viewOf, mkDisk};
+ghost use Rattle.defs.specs.Drives.{View, viewOf, mkDisk};
 ghost use Rattle.defs.specs.Landing.{serialAt, heldCand, held, landedCand, landedCands, pointed};
 ghost use Rattle.defs.specs.Lists.{below};
 ghost use Rattle.defs.specs.Memory.{filledIn, entryIn, offsetIn, placeAt};
@@ -13,23 +13,14 @@ ghost use Rattle.defs.specs.Rank.{Cand as CandOf, best, candsOf};
 ghost use Rattle.pointing.specs.Winners.{Sane, IsData, Sound, winnerOf, putAll};
 ghost use Rattle.rank.specs.Ranked.{ranked, rankedBest};
 ghost use Rattle.views.specs.Views.{Whole};
+ghost use Rattle.waits.specs.Alone.{alone};
 use defs::Address;
 use defs::Params;
 use defs::Place;
 use defs::Serial;
-use defs::State;
 use rank::Best;
 use rank::Cand;
-
-// The data offset at which a drive has the stripe of eighth i.
-fn offset_in(state: State, i: usize, drive: usize) -> usize
-    requires { ⌜ (i < 8) × (drive < 8) ⌝ }
-    ensures { λ r. ⌜ r ≡ offsetIn state i drive ⌝ }
-{
-    let j = 8 * i + drive;
-    let offsets = state.offsets;
-    offsets[j] as usize
-}
+use rows::Row;
 
 // The serial in drive 0's header of a segment.
 fn serial_at(p: Params, image: &[u8], segment: usize) -> Serial
@@ -79,19 +70,17 @@ fn held(p: Params, image: &[u8], pointers: &[u8], addresses: &[u8], address: Add
     Best::Holds(held_cand(p, image, pointers, address, place))
 }
 
-// The completed stripe's record of data position k.
-fn landed_cand(p: Params, image: &[u8], segment: usize, state: State, i: usize, k: usize) -> Cand
+// The completed stripe's record of data position k, in a segment with this serial.
+fn landed_cand(p: Params, segment: usize, serial: Serial, row: Row, k: usize) -> Cand
     requires { ⌜ inRange p ≡ true ⌝ }
-    requires { ⌜ (length (now image) ≡ imageLen p) × (segment < p .Z) ⌝ }
-    requires { ⌜ (i < 8) × (k < dataCount p) × ((d : ℕ) → d < p .N → offsetIn state i d < p .S) ⌝ }
-    ensures { λ r. ⌜ ((ps : List ℕ) → length ps ≡ pointersLen p → ranked r ≡ landedCand p (viewOf p (now (image .entry)) ps) segment state i k) ⌝ }
+    requires { ⌜ (segment < p .Z) × (k < dataCount p) × ((d : ℕ) → d < p .N → offsetIn (alone row) 0 d < p .S) ⌝ }
+    ensures { λ r. ⌜ ((v : View) → serial .0 ≡ serialAt v segment → ranked r ≡ landedCand p v segment (alone row) 0 k) ⌝ }
 {
-    let e = waits::entry(state, i, k);
+    let e = waits::entry(row, k);
     let address = e.address;
     let stamp = e.stamp;
     let drive = shape::data_drive(p, e.stripe as usize, k);
-    let offset = offset_in(state, i, drive);
-    let serial = serial_at(p, image, segment);
+    let offset = waits::offset_in(row, drive);
     let zone = shape::zone_on(segment, drive);
     let place = shape::place_of(p, drive, zone, 1 + offset);
     Cand {
@@ -107,25 +96,22 @@ fn landed_cand(p: Params, image: &[u8], segment: usize, state: State, i: usize, 
 // One more record of the stripe competes, if it is of the address.
 fn compete(
     p: Params,
-    image: &[u8],
     segment: usize,
-    state: State,
-    i: usize,
+    serial: Serial,
+    row: Row,
     k: usize,
     address: Address,
     b: Best,
 ) -> Best
     requires { ⌜ inRange p ≡ true ⌝ }
-    requires { ⌜ (length (now image) ≡ imageLen p) × (segment < p .Z) ⌝ }
-    requires { ⌜ (i < 8) × (k < dataCount p) × ((d : ℕ) → d < p .N → offsetIn state i d < p .S) ⌝ }
-    ensures { λ r. ⌜ ((ps : List ℕ) (cs : List CandOf) → length ps ≡ pointersLen p → best (rankedBest r) (candsOf (address .0) cs) ≡ best (rankedBest b) (candsOf (address .0) (landedCand p (viewOf p (now (image .entry)) ps) segment state i k ∷ cs))) ⌝ }
+    requires { ⌜ (segment < p .Z) × (k < dataCount p) × ((d : ℕ) → d < p .N → offsetIn (alone row) 0 d < p .S) ⌝ }
+    ensures { λ r. ⌜ ((v : View) (cs : List CandOf) → serial .0 ≡ serialAt v segment → best (rankedBest r) (candsOf (address .0) cs) ≡ best (rankedBest b) (candsOf (address .0) (landedCand p v segment (alone row) 0 k ∷ cs))) ⌝ }
 {
-    let j = 8 * i + k;
-    let addresses = state.addresses;
-    if addresses[j] != address.0 {
+    let e = waits::entry(row, k);
+    if e.address.0 != address.0 {
         return b;
     }
-    let c = landed_cand(p, image, segment, state, i, k);
+    let c = landed_cand(p, segment, serial, row, k);
     rank::better(b, c)
 }
 
@@ -136,21 +122,22 @@ fn winner(
     pointers: &[u8],
     addresses: &[u8],
     segment: usize,
-    state: State,
-    i: usize,
+    serial: Serial,
+    row: Row,
     address: Address,
 ) -> Place
     requires { ⌜ inRange p ≡ true ⌝ }
     requires { ⌜ Whole p (mkDisk (now image) (now pointers)) ⌝ }
     requires { ⌜ (length (now addresses) ≡ addressesLen p) × (address .0 < p .L) × Sane p (placeAt (now addresses) (address .0)) ⌝ }
-    requires { ⌜ (segment < p .Z) × (i < 8) × (filledIn state i ≤ dataCount p) × ((d : ℕ) → d < p .N → offsetIn state i d < p .S) ⌝ }
-    ensures { λ r. ⌜ r .0 ≡ winnerOf p (viewOf p (now (image .entry)) (now (pointers .entry))) (now (addresses .entry)) (landedCands p (viewOf p (now (image .entry)) (now (pointers .entry))) segment state i) (address .0) ⌝ }
+    requires { ⌜ (segment < p .Z) × (filledIn (alone row) 0 ≤ dataCount p) × ((d : ℕ) → d < p .N → offsetIn (alone row) 0 d < p .S) ⌝ }
+    requires { ⌜ serial .0 ≡ serialAt (viewOf p (now image) (now pointers)) segment ⌝ }
+    ensures { λ r. ⌜ r .0 ≡ winnerOf p (viewOf p (now (image .entry)) (now (pointers .entry))) (now (addresses .entry)) (landedCands p (viewOf p (now (image .entry)) (now (pointers .entry))) segment (alone row) 0) (address .0) ⌝ }
 {
-    let n = memory::filled_in(state, i);
+    let n = waits::filled_in(row);
     let mut b = held(p, image, pointers, addresses, address);
     let mut k = 0;
     while k < n {
-        b = compete(p, image, segment, state, i, k, address, b);
+        b = compete(p, segment, serial, row, k, address, b);
         k += 1;
     }
     rank::place_or(b)
@@ -163,23 +150,24 @@ fn winners(
     pointers: &[u8],
     addresses: &[u8],
     segment: usize,
-    state: State,
-    i: usize,
+    serial: Serial,
+    row: Row,
 ) -> [u32; 8]
     requires { ⌜ inRange p ≡ true ⌝ }
     requires { ⌜ Whole p (mkDisk (now image) (now pointers)) ⌝ }
-    requires { ⌜ (length (now addresses) ≡ addressesLen p) × Sound p state i (now addresses) ⌝ }
-    requires { ⌜ (segment < p .Z) × (i < 8) × (filledIn state i ≤ dataCount p) × ((d : ℕ) → d < p .N → offsetIn state i d < p .S) ⌝ }
-    ensures { λ r. ⌜ ((k : ℕ) → k < filledIn state i → entryIn state i k .address < p .L → getD r k 0 ≡ winnerOf p (viewOf p (now (image .entry)) (now (pointers .entry))) (now (addresses .entry)) (landedCands p (viewOf p (now (image .entry)) (now (pointers .entry))) segment state i) (entryIn state i k .address)) ⌝ }
+    requires { ⌜ (length (now addresses) ≡ addressesLen p) × Sound p (alone row) 0 (now addresses) ⌝ }
+    requires { ⌜ (segment < p .Z) × (filledIn (alone row) 0 ≤ dataCount p) × ((d : ℕ) → d < p .N → offsetIn (alone row) 0 d < p .S) ⌝ }
+    requires { ⌜ serial .0 ≡ serialAt (viewOf p (now image) (now pointers)) segment ⌝ }
+    ensures { λ r. ⌜ ((k : ℕ) → k < filledIn (alone row) 0 → entryIn (alone row) 0 k .address < p .L → getD r k 0 ≡ winnerOf p (viewOf p (now (image .entry)) (now (pointers .entry))) (now (addresses .entry)) (landedCands p (viewOf p (now (image .entry)) (now (pointers .entry))) segment (alone row) 0) (entryIn (alone row) 0 k .address)) ⌝ }
 {
-    let n = memory::filled_in(state, i);
+    let n = waits::filled_in(row);
     let mut out = [0u32; 8];
     let mut k = 0;
     while k < n {
-        let e = waits::entry(state, i, k);
+        let e = waits::entry(row, k);
         let address = e.address;
         if address.0 < p.L as u64 {
-            let q = winner(p, image, pointers, addresses, segment, state, i, address);
+            let q = winner(p, image, pointers, addresses, segment, serial, row, address);
             out[k] = q.0;
         }
         k += 1;
@@ -188,15 +176,15 @@ fn winners(
 }
 
 // Puts the places at the stripe's addresses, by data position.
-fn put_places(p: Params, addresses: &mut [u8], state: State, i: usize, places: [u32; 8])
+fn put_places(p: Params, addresses: &mut [u8], row: Row, places: [u32; 8])
     requires { ⌜ inRange p ≡ true ⌝ }
-    requires { ⌜ (length (now addresses) ≡ addressesLen p) × (i < 8) × (filledIn state i ≤ dataCount p) ⌝ }
-    ensures { λ _. ⌜ now (addresses .exit) ≡ putAll p state i places (below (filledIn state i)) (now (addresses .entry)) ⌝ }
+    requires { ⌜ (length (now addresses) ≡ addressesLen p) × (filledIn (alone row) 0 ≤ dataCount p) ⌝ }
+    ensures { λ _. ⌜ now (addresses .exit) ≡ putAll p (alone row) 0 places (below (filledIn (alone row) 0)) (now (addresses .entry)) ⌝ }
 {
-    let n = memory::filled_in(state, i);
+    let n = waits::filled_in(row);
     let mut k = 0;
     while k < n {
-        let e = waits::entry(state, i, k);
+        let e = waits::entry(row, k);
         let a = e.address.0;
         if a < p.L as u64 {
             tables::set_place(addresses, a as usize, Place(places[k]));
@@ -205,22 +193,22 @@ fn put_places(p: Params, addresses: &mut [u8], state: State, i: usize, places: [
     }
 }
 
-// 01, Landing: the stripe of eighth i is complete: the table points at what holds.
+// 01, Landing: the stripe is complete: the table points at what holds. The serial of its segment is read once.
 pub fn point(
     p: Params,
     image: &[u8],
     pointers: &[u8],
     addresses: &mut [u8],
     segment: usize,
-    state: State,
-    i: usize,
+    row: Row,
 )
     requires { ⌜ inRange p ≡ true ⌝ }
     requires { ⌜ Whole p (mkDisk (now image) (now pointers)) ⌝ }
-    requires { ⌜ (length (now addresses) ≡ addressesLen p) × Sound p state i (now addresses) ⌝ }
-    requires { ⌜ (segment < p .Z) × (i < 8) × (filledIn state i ≤ dataCount p) × ((d : ℕ) → d < p .N → offsetIn state i d < p .S) ⌝ }
-    ensures { λ _. ⌜ now (addresses .exit) ≡ pointed p (viewOf p (now (image .entry)) (now (pointers .entry))) (now (addresses .entry)) (landedCands p (viewOf p (now (image .entry)) (now (pointers .entry))) segment state i) (landedCands p (viewOf p (now (image .entry)) (now (pointers .entry))) segment state i) (now (addresses .entry)) ⌝ }
+    requires { ⌜ (length (now addresses) ≡ addressesLen p) × Sound p (alone row) 0 (now addresses) ⌝ }
+    requires { ⌜ (segment < p .Z) × (filledIn (alone row) 0 ≤ dataCount p) × ((d : ℕ) → d < p .N → offsetIn (alone row) 0 d < p .S) ⌝ }
+    ensures { λ _. ⌜ now (addresses .exit) ≡ pointed p (viewOf p (now (image .entry)) (now (pointers .entry))) (now (addresses .entry)) (landedCands p (viewOf p (now (image .entry)) (now (pointers .entry))) segment (alone row) 0) (landedCands p (viewOf p (now (image .entry)) (now (pointers .entry))) segment (alone row) 0) (now (addresses .entry)) ⌝ }
 {
-    let places = winners(p, image, pointers, addresses, segment, state, i);
-    put_places(p, addresses, state, i, places);
+    let serial = serial_at(p, image, segment);
+    let places = winners(p, image, pointers, addresses, segment, serial, row);
+    put_places(p, addresses, row, places);
 }

@@ -1,116 +1,177 @@
-// The stripes in flight as a landing asks about them: which chunk waits, whether it completes its stripe, its record (01, Landing).
+// A stripe in flight as a landing asks about it: whether a chunk waits, whether it completes the stripe, its record (01, Landing).
 ghost use mathlib.Core.Path.{_≡_};
 ghost use mathlib.Core.Bool.{true, _&&_};
 ghost use Prim.Native.Nat.{_≤_, _<_};
-ghost use lib.Dec.{eqb};
-ghost use lib.ListN.{length};
-ghost use Rattle.defs.specs.Landing.{ready, waiting, completes, flightRec};
-ghost use Rattle.defs.specs.Memory.{stripeIn, filledIn, entryIn, entriesIn, inFlight};
+ghost use lib.Dec.{ltb, eqb};
+ghost use Rattle.defs.specs.Landing.{ready, completes, flightRec, writesIn};
+ghost use Rattle.defs.specs.Memory.{slotCount, stripeIn, filledIn, entryIn, entriesIn, offsetIn};
 ghost use Rattle.defs.specs.Params.{inRange};
 ghost use Rattle.defs.specs.Parity.{parityRec};
 ghost use Rattle.records.specs.Record.{recOf};
+ghost use Rattle.waits.specs.Alone.{alone, markRow, freeRow};
 use defs::Address;
 use defs::Params;
 use defs::Stamp;
-use defs::State;
 use records::Record;
+use rows::Row;
 
-// 01, Landing: the chunk on drive d of the stripe of eighth i is there and has not landed.
-pub fn ready(p: Params, state: State, i: usize, d: usize) -> bool
-    requires { ⌜ (inRange p ≡ true) × (i < 8) ⌝ }
-    ensures { λ r. ⌜ r ≡ ready p state i d ⌝ }
+fn wide(b: u8) -> usize
+    ensures { λ r. ⌜ r ≡ b ⌝ }
 {
-    if masks::has_drive(memory::landed_in(state, i), d) {
-        return false;
-    }
-    let s = memory::stripe_in(state, i);
-    if shape::is_data(p, s, d) {
-        return shape::data_position(p, s, d) < memory::filled_in(state, i);
-    }
-    memory::is_full(p, state, i)
+    b as usize
 }
 
-// 01, Refusals, 5: a chunk that waits.
-pub fn waiting(p: Params, state: State, d: usize, stripe: usize) -> bool
+fn whole(n: u32) -> usize
+    ensures { λ r. ⌜ r ≡ n ⌝ }
+{
+    n as usize
+}
+
+// 01, Write: how many data positions are filled.
+pub fn filled_in(row: Row) -> usize
+    ensures { λ r. ⌜ r ≡ filledIn (alone row) 0 ⌝ }
+{
+    wide(row.filled)
+}
+
+// 01, Landing: the chunk on drive d of the stripe is there and has not landed.
+pub fn ready(p: Params, row: Row, d: usize) -> bool
     requires { ⌜ inRange p ≡ true ⌝ }
-    ensures { λ r. ⌜ r ≡ waiting p state d stripe ⌝ }
+    ensures { λ r. ⌜ r ≡ ready p (alone row) 0 d ⌝ }
+{
+    if masks::has_drive(row.landed, d) {
+        return false;
+    }
+    let s = whole(row.number);
+    let f = wide(row.filled);
+    if shape::is_data(p, s, d) {
+        return shape::data_position(p, s, d) < f;
+    }
+    shape::data_count(p) <= f
+}
+
+// 01, Refusals, 5: a chunk that waits, of the stripe in this eighth; 8: it is not in flight.
+pub fn waiting(p: Params, slot: usize, row: Row, d: usize) -> bool
+    requires { ⌜ inRange p ≡ true ⌝ }
+    ensures { λ r. ⌜ r ≡ (ltb d (p .N) && ltb slot slotCount && ready p (alone row) 0 d) ⌝ }
 {
     if p.N <= d {
         return false;
     }
-    let i = memory::slot_of(state, stripe);
-    if 8 <= i {
+    if 8 <= slot {
         return false;
     }
-    ready(p, state, i, d)
+    ready(p, row, d)
 }
 
 // 01, Landing: as many drives have landed the stripe as there are drives, once d has.
-pub fn completes(p: Params, state: State, i: usize, d: usize) -> bool
-    requires { ⌜ i < 8 ⌝ }
-    ensures { λ r. ⌜ r ≡ completes p state i d ⌝ }
+pub fn completes(p: Params, row: Row, d: usize) -> bool
+    ensures { λ r. ⌜ r ≡ completes p (alone row) 0 d ⌝ }
 {
-    let m = memory::landed_in(state, i);
-    masks::is_complete(masks::with_drive(m, d), p.N)
+    masks::is_complete(masks::with_drive(row.landed, d), p.N)
 }
 
-// 01, Landing: all S stripes of the segment have begun, and one is in flight.
-pub fn is_last(p: Params, state: State) -> bool
-    ensures { λ r. ⌜ r ≡ (eqb (state .next) (p .S) && eqb (length (inFlight state)) 1) ⌝ }
+// 01, Landing: it completes, all S stripes of the segment have begun, and one is in flight.
+pub fn is_last(p: Params, done: bool, next: u32, flying: usize) -> bool
+    ensures { λ r. ⌜ r ≡ (done && eqb next (p .S) && eqb flying 1) ⌝ }
 {
-    if state.next as usize != p.S {
+    if !done {
         return false;
     }
-    memory::in_flight(state) == 1
+    if next as usize != p.S {
+        return false;
+    }
+    flying == 1
 }
 
 // 01, Write: the record of data position k.
-pub fn entry(state: State, i: usize, k: usize) -> Record
-    requires { ⌜ (i < 8) × (k < 8) ⌝ }
-    ensures { λ r. ⌜ recOf r ≡ entryIn state i k ⌝ }
+pub fn entry(row: Row, k: usize) -> Record
+    requires { ⌜ k < 8 ⌝ }
+    ensures { λ r. ⌜ recOf r ≡ entryIn (alone row) 0 k ⌝ }
 {
-    let j = 8 * i + k;
-    let a = state.addresses[j];
-    let t = state.stamps[j];
-    let s = state.numbers[i];
+    let a = row.addresses[k];
+    let t = row.stamps[k];
     Record {
         address: Address(a),
         stamp: Stamp(t),
-        stripe: s,
+        stripe: row.number,
     }
 }
 
-// 01, What a zone holds: the parity's record, from the filled positions.
-pub fn parity_entry(state: State, i: usize) -> Record
-    requires { ⌜ (i < 8) × (filledIn state i ≤ 8) ⌝ }
-    ensures { λ r. ⌜ recOf r ≡ parityRec (stripeIn state i) (entriesIn state i) ⌝ }
+// 01, Landing: the data offset at which a drive has the stripe.
+pub fn offset_in(row: Row, drive: usize) -> usize
+    requires { ⌜ drive < 8 ⌝ }
+    ensures { λ r. ⌜ r ≡ offsetIn (alone row) 0 drive ⌝ }
 {
-    let n = memory::filled_in(state, i);
+    let o = row.offsets[drive];
+    whole(o)
+}
+
+// 01, What a zone holds: the parity's record, from the filled positions.
+pub fn parity_entry(row: Row) -> Record
+    requires { ⌜ filledIn (alone row) 0 ≤ 8 ⌝ }
+    ensures { λ r. ⌜ recOf r ≡ parityRec (stripeIn (alone row) 0) (entriesIn (alone row) 0) ⌝ }
+{
+    let n = filled_in(row);
     let mut a = 0;
     let mut t = 0;
     let mut k = 0;
     while k < n {
-        let j = 8 * i + k;
-        a = a ^ state.addresses[j];
-        t = t ^ state.stamps[j];
+        a = a ^ row.addresses[k];
+        t = t ^ row.stamps[k];
         k += 1;
     }
-    let s = state.numbers[i];
     Record {
         address: Address(a),
         stamp: Stamp(t),
-        stripe: s,
+        stripe: row.number,
     }
 }
 
 // 01, What a zone holds: the record of the stripe's chunk on drive d.
-pub fn flight_record(p: Params, state: State, i: usize, d: usize) -> Record
-    requires { ⌜ (inRange p ≡ true) × (i < 8) × (d < p .N) × (filledIn state i ≤ 8) ⌝ }
-    ensures { λ r. ⌜ recOf r ≡ flightRec p state i d ⌝ }
+pub fn flight_record(p: Params, row: Row, d: usize) -> Record
+    requires { ⌜ (inRange p ≡ true) × (d < p .N) × (filledIn (alone row) 0 ≤ 8) ⌝ }
+    ensures { λ r. ⌜ recOf r ≡ flightRec p (alone row) 0 d ⌝ }
 {
-    let s = memory::stripe_in(state, i);
+    let s = whole(row.number);
     if shape::is_data(p, s, d) {
-        return entry(state, i, shape::data_position(p, s, d));
+        return entry(row, shape::data_position(p, s, d));
     }
-    parity_entry(state, i)
+    parity_entry(row)
+}
+
+// 01, Landing: how many of the filled positions are writes.
+pub fn writes_in(row: Row) -> usize
+    ensures { λ r. ⌜ r ≡ writesIn (alone row) 0 ⌝ }
+{
+    let f = filled_in(row);
+    let mut n = 0;
+    let mut k = 0;
+    while k < f {
+        if masks::has_drive(row.writes, k) {
+            n += 1;
+        }
+        k += 1;
+    }
+    n
+}
+
+// 01, Landing: drive d has the stripe, at data offset o.
+pub fn mark_landed(row: Row, d: usize, o: usize) -> Row
+    requires { ⌜ (d < 8) × (o < 4294967296) ⌝ }
+    ensures { λ r. ⌜ r ≡ markRow row d o ⌝ }
+{
+    let mut next = row;
+    next.landed = masks::with_drive(row.landed, d);
+    next.offsets[d] = o as u32;
+    next
+}
+
+// 01, Landing: the eighth is free.
+pub fn free_stripe(row: Row) -> Row
+    ensures { λ r. ⌜ r ≡ freeRow row ⌝ }
+{
+    let mut next = row;
+    next.filled = 0;
+    next
 }

@@ -1,10 +1,11 @@
 use Rattle.told.specs.Told.{toldOf, lending, hears}
-use Rattle.told.specs.Hears.{hears-short, hears-call}
+use Rattle.told.specs.Applied.{hears-change}
+use Rattle.told.specs.Hears.{hears-short}
 use Rattle.told.specs.declared.Told.{Told}
-use Rattle.calls.specs.Left.{after}
+use Rattle.rows.specs.Rows.{afterChange}
 use Rattle.defs.specs.Engine.{callDisk, Lent, lentDisk, lentMemory}
 use Rattle.defs.specs.Engine.Call.{land}
-use Rattle.defs.specs.Memory.{mkMemory}
+use Rattle.defs.specs.Memory.{mkMemory, stateOf}
 use Rattle.defs.specs.Params.{mkParams, inRange}
 use Rattle.defs.specs.declared.Params.{Params}
 use Rattle.defs.specs.declared.State.{State}
@@ -12,7 +13,7 @@ use Rattle.hosts.specs.Shorts.{shortAnswer, land-short, land-keeps}
 use borrow.Author.Needs.{needs}
 use mathlib.Core.Bool.{Bool}
 use mathlib.Core.List.{[]}
-use mathlib.Core.Path.{_≡_, sym, ap, _∙_}
+use mathlib.Core.Path.{_≡_, sym, ap, _∙_, subst}
 use Rattle.cabi.proofs.sorgizhed_land.Statement.{statement}
 use Rattle.cabi.proofs.sorgizhed_land.Tie as tie
 
@@ -41,8 +42,8 @@ decode-requires c κs = c .before .if1 .left ∙ c .before .before .state-len .e
 land-requires : tie.Need-land-requires
 land-requires c κs = search needs
 
-finish-requires : tie.Need-finish-requires
-finish-requires c κs = c .before .before .before .before .before .before .before .before .before .before .before .before .before .before .before .before .if1 .left ∙ c .before .before .before .before .before .before .before .before .before .before .before .before .before .before .before .before .before .state-len .ensures
+apply-requires : tie.Need-apply-requires
+apply-requires c κs = c .before .before .before .before .before .before .before .before .before .before .before .before .before .before .before .before .if1 .left ∙ c .before .before .before .before .before .before .before .before .before .before .before .before .before .before .before .before .before .state-len .ensures
 
 same-length : tie.Need-same-length
 same-length c = search needs
@@ -66,10 +67,13 @@ returns-2 c =
     let p : Params = mkParams (a .n) (a .b) (a .z) (a .s) (a .g) (a .l) in
     let l : Lent = lending (a .image .now) (a .pointers .now) (a .addresses .now) (a .compact .now) (a .inflight .now) (a .state .now) in
     let w = c .before .before .before .before .before .before .before .before .before .before .before .before .land .last in
-    let e : after (c .before .before .before .before .before .before .before .before .before .before .before .before .land .result) (w .1 .0) (w .1 .1 .0) (w .1 .1 .1 .0) (w .1 .1 .1 .1 .0) (a .inflight .now) [] ≡ callDisk p (lentDisk l) (lentMemory l) (land (a .drive) (a .stripe) (a .count)) =
-    c .before .before .before .before .before .before .before .before .before .before .before .before .land .ensures ∙ ap (λ (x : State). callDisk p (lentDisk l) (mkMemory x (a .addresses .now) (a .compact .now) (a .inflight .now)) (land (a .drive) (a .stripe) (a .count))) (c .before .before .before .before .before .before .before .before .before .before .before .before .before .before .before .before .before .decode .ensures) in
-    hears-call p l (land (a .drive) (a .stripe) (a .count)) [] (c .before .before .before .before .before .before .before .before .before .before .before .before .before .before .before .before .before .before .before .if1 .left ∙ c .before .before .before .before .before .before .before .before .before .before .before .before .before .before .before .before .before .before .before .before .state-len .ensures) (land-keeps p (lentDisk l) (lentMemory l) (a .drive) (a .stripe) (a .count))
-    (c .before .before .before .before .before .before .before .before .before .before .before .before .land .result) (w .1 .0) (w .1 .1 .0) (w .1 .1 .1 .0) (w .1 .1 .1 .1 .0) (a .inflight .now) (c .before .before .finish .last .0) [] (c .before .before .finish .result) e (c .before .before .finish .ensures .0) (c .before .before .finish .ensures .1)
+    let call = land (a .drive) (a .stripe) (a .count) in
+    let r = c .before .before .before .before .before .before .before .before .before .before .before .before .land .result in
+    let e : afterChange (stateOf (a .state .now)) r (w .1 .0) (w .1 .1 .0) (w .1 .1 .1 .0) (w .1 .1 .1 .1 .0) (a .inflight .now) [] ≡ callDisk p (lentDisk l) (lentMemory l) call =
+    subst (λ (x : State). afterChange x r (w .1 .0) (w .1 .1 .0) (w .1 .1 .1 .0) (w .1 .1 .1 .1 .0) (a .inflight .now) [] ≡ callDisk p (lentDisk l) (mkMemory x (a .addresses .now) (a .compact .now) (a .inflight .now)) call)
+    (c .before .before .before .before .before .before .before .before .before .before .before .before .before .before .before .before .before .decode .ensures) (c .before .before .before .before .before .before .before .before .before .before .before .before .land .ensures) in
+    hears-change p l call [] (c .before .before .before .before .before .before .before .before .before .before .before .before .before .before .before .before .before .before .before .if1 .left ∙ c .before .before .before .before .before .before .before .before .before .before .before .before .before .before .before .before .before .before .before .before .state-len .ensures) (land-keeps p (lentDisk l) (lentMemory l) (a .drive) (a .stripe) (a .count)) r (w .1 .0) (w .1 .1 .0) (w .1 .1 .1 .0) (w .1 .1 .1 .1 .0)
+    (a .inflight .now) (c .before .before .apply .last .0) [] (c .before .before .apply .result) e (c .before .before .apply .ensures .0) (c .before .before .apply .ensures .1)
 
 pub sorgizhed-land-spec : {M : Type 1} → statement M
 sorgizhed-land-spec =
@@ -81,7 +85,7 @@ sorgizhed-land-spec =
     returns
     decode-requires
     land-requires
-    finish-requires
+    apply-requires
     same-length
     same-length-2
     same-length-3

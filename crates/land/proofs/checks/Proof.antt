@@ -1,22 +1,30 @@
+use Prim.Native.Nat.{ℕ, _<_}
+use Rattle.rows.specs.declared.Row.{Row}
+use Rattle.views.specs.Views.{seen}
+use Rattle.waits.specs.Alone.{alone, row-filled}
 use Rattle.defs.specs.Drives.{Disk, mkDisk}
 use Rattle.defs.specs.Engine.{lentOk}
 use Rattle.defs.specs.Landing.{slotOf, waiting}
-use Rattle.defs.specs.Memory.{Memory, mkMemory, stateOk}
+use Rattle.defs.specs.Memory.{Memory, mkMemory, filledIn, stateOk}
 use Rattle.defs.specs.Params.{inRange}
-use Rattle.land.specs.Order.{range-fails, range-passes, lengths-fail, lengths-pass, missing-fails, missing-passes, waiting-fails, waiting-passes, state-fails, faults-are}
+use Rattle.land.specs.Order.{range-fails, range-passes, lengths-fail, lengths-pass, missing-fails, missing-passes, waiting-fails, waiting-passes, state-fails, faults-refused, waits-row, faults-seen}
 use Rattle.land.specs.Ready.{waits-low, segment-low, filled-low}
 use Rattle.laws.specs.Geometry.{ranged, data-count-high}
 use Rattle.write.specs.Ready.{lent-long}
 use borrow.Author.Needs.{needs}
 use borrow.Author.Tests.{not-true, not-false}
 use mathlib.Core.Bool.{true, false}
-use mathlib.Core.Path.{_≡_, sym, _∙_}
+use mathlib.Core.Path.{_≡_, sym, ap, _∙_, subst}
 use native.Mathlib.Omega.{arith}
 use Rattle.land.proofs.checks.Statement.{statement}
 use Rattle.land.proofs.checks.Tie as tie
 
 in-range-requires : tie.Need-in-range-requires
 in-range-requires c κs = search needs
+
+-- 01, Refusals, 5: what the row says is what the definition says
+waits-is : (c : tie.After-waiting) → c .waiting .result ≡ waiting (c .before .before .before .before .before .before .before .before .before .before .before .before .before .args .p) (c .before .before .before .before .before .before .before .before .before .before .before .before .before .args .state) (c .before .before .before .before .before .before .before .before .before .before .before .before .before .args .drive) (c .before .before .before .before .before .before .before .before .before .before .before .before .before .args .stripe)
+waits-is c = c .waiting .ensures ∙ waits-row (c .before .before .before .before .before .before .before .before .before .before .before .before .before .args .p) (c .before .before .before .before .before .before .before .before .before .before .before .before .before .args .state) (c .before .before .before .before .before .before .before .before .before .before .before .before .before .args .drive) (c .before .before .before .before .before .before .before .before .before .before .before .before .before .args .stripe) (c .before .before .before .before .before .before .before .before .before .before .before .before .before .args .seen) (c .before .before .before .before .before .before .before .before .before .before .before .before .before .pre)
 
 returns : tie.Need-returns
 returns c =
@@ -53,19 +61,19 @@ returns-3 c =
     ∙ range-passes (a .p) k m (a .drive) (a .stripe) er
 
 waiting-requires : tie.Need-waiting-requires
-waiting-requires c κs = sym (c .before .before .before .before .before .in-range .ensures) ∙ not-false (c .before .before .before .before .before .in-range .result) (c .before .before .before .before .if1 .left)
+waiting-requires c κs = sym (c .before .before .before .before .before .before .in-range .ensures) ∙ not-false (c .before .before .before .before .before .before .in-range .result) (c .before .before .before .before .before .if1 .left)
 
 returns-4 : tie.Need-returns-4
 returns-4 c =
-    let a = c .before .before .before .before .before .before .before .before .before .before .before .before .before .args in
+    let a = c .before .before .before .before .before .before .before .before .before .before .before .before .before .before .args in
     let st = a .state in
     let k : Disk = mkDisk (a .image .now) (a .pointers .now) in
     let m : Memory = mkMemory st (a .addresses .now) (a .compact .now) (a .inflight .now) in
-    let er : inRange (a .p) ≡ true = sym (c .before .before .before .before .before .before .before .in-range .ensures) ∙ not-false (c .before .before .before .before .before .before .before .in-range .result) (c .before .before .before .before .before .before .if1 .left) in
-    let el : lentOk (a .p) k m ≡ true = sym (c .before .before .before .before .before .lent-ok .ensures st) ∙ not-false (c .before .before .before .before .before .lent-ok .result) (c .before .before .before .before .if2 .left) in
-    let ew : waiting (a .p) st (a .drive) (a .stripe) ≡ false = sym (c .before .waiting .ensures) ∙ not-true (c .before .waiting .result) (c .if4 .taken) in
+    let er : inRange (a .p) ≡ true = sym (c .before .before .before .before .before .before .before .before .in-range .ensures) ∙ not-false (c .before .before .before .before .before .before .before .before .in-range .result) (c .before .before .before .before .before .before .before .if1 .left) in
+    let el : lentOk (a .p) k m ≡ true = sym (c .before .before .before .before .before .before .lent-ok .ensures st) ∙ not-false (c .before .before .before .before .before .before .lent-ok .result) (c .before .before .before .before .before .if2 .left) in
+    let ew : waiting (a .p) st (a .drive) (a .stripe) ≡ false = sym (waits-is (c .before)) ∙ not-true (c .before .waiting .result) (c .if4 .taken) in
     waiting-fails (a .p) k m (a .drive) (a .stripe) ew
-    ∙ missing-passes (a .p) k m (a .drive) (a .stripe) (c .before .before .if3 .left)
+    ∙ missing-passes (a .p) k m (a .drive) (a .stripe) (c .before .before .before .if3 .left)
     ∙ lengths-pass (a .p) k m (a .drive) (a .stripe) el
     ∙ range-passes (a .p) k m (a .drive) (a .stripe) er
 
@@ -74,55 +82,59 @@ state-ok-requires c κs = search needs
 
 returns-5 : tie.Need-returns-5
 returns-5 c =
-    let a = c .before .before .before .before .before .before .before .before .before .before .before .before .before .before .before .args in
+    let a = c .before .before .before .before .before .before .before .before .before .before .before .before .before .before .before .before .args in
     let st = a .state in
     let k : Disk = mkDisk (a .image .now) (a .pointers .now) in
     let m : Memory = mkMemory st (a .addresses .now) (a .compact .now) (a .inflight .now) in
-    let er : inRange (a .p) ≡ true = sym (c .before .before .before .before .before .before .before .before .before .in-range .ensures) ∙ not-false (c .before .before .before .before .before .before .before .before .before .in-range .result) (c .before .before .before .before .before .before .before .before .if1 .left) in
-    let el : lentOk (a .p) k m ≡ true = sym (c .before .before .before .before .before .before .before .lent-ok .ensures st) ∙ not-false (c .before .before .before .before .before .before .before .lent-ok .result) (c .before .before .before .before .before .before .if2 .left) in
-    let ew : waiting (a .p) st (a .drive) (a .stripe) ≡ true = sym (c .before .before .before .waiting .ensures) ∙ not-false (c .before .before .before .waiting .result) (c .before .before .if4 .left) in
+    let er : inRange (a .p) ≡ true = sym (c .before .before .before .before .before .before .before .before .before .before .in-range .ensures) ∙ not-false (c .before .before .before .before .before .before .before .before .before .before .in-range .result) (c .before .before .before .before .before .before .before .before .before .if1 .left) in
+    let el : lentOk (a .p) k m ≡ true = sym (c .before .before .before .before .before .before .before .before .lent-ok .ensures st) ∙ not-false (c .before .before .before .before .before .before .before .before .lent-ok .result) (c .before .before .before .before .before .before .before .if2 .left) in
+    let ew : waiting (a .p) st (a .drive) (a .stripe) ≡ true = sym (waits-is (c .before .before .before)) ∙ not-false (c .before .before .before .waiting .result) (c .before .before .if4 .left) in
     let eo : stateOk (a .p) st ≡ false = sym (c .before .state-ok .ensures) ∙ not-true (c .before .state-ok .result) (c .if5 .taken) in
     state-fails (a .p) k m (a .drive) (a .stripe) eo
     ∙ waiting-passes (a .p) k m (a .drive) (a .stripe) ew
-    ∙ missing-passes (a .p) k m (a .drive) (a .stripe) (c .before .before .before .before .if3 .left)
+    ∙ missing-passes (a .p) k m (a .drive) (a .stripe) (c .before .before .before .before .before .if3 .left)
     ∙ lengths-pass (a .p) k m (a .drive) (a .stripe) el
     ∙ range-passes (a .p) k m (a .drive) (a .stripe) er
 
 land-fault-requires : tie.Need-land-fault-requires
 land-fault-requires c κs =
-    let a = c .before .before .before .before .before .before .before .before .before .before .before .before .before .before .before .args in
+    let a = c .before .before .before .before .before .before .before .before .before .before .before .before .before .before .before .before .args in
     let st = a .state in
     let k : Disk = mkDisk (a .image .now) (a .pointers .now) in
     let m : Memory = mkMemory st (a .addresses .now) (a .compact .now) (a .inflight .now) in
-    let er : inRange (a .p) ≡ true = sym (c .before .before .before .before .before .before .before .before .before .in-range .ensures) ∙ not-false (c .before .before .before .before .before .before .before .before .before .in-range .result) (c .before .before .before .before .before .before .before .before .if1 .left) in
-    let el : lentOk (a .p) k m ≡ true = sym (c .before .before .before .before .before .before .before .lent-ok .ensures st) ∙ not-false (c .before .before .before .before .before .before .before .lent-ok .result) (c .before .before .before .before .before .before .if2 .left) in
-    let ew : waiting (a .p) st (a .drive) (a .stripe) ≡ true = sym (c .before .before .before .waiting .ensures) ∙ not-false (c .before .before .before .waiting .result) (c .before .before .if4 .left) in
+    let er : inRange (a .p) ≡ true = sym (c .before .before .before .before .before .before .before .before .before .before .in-range .ensures) ∙ not-false (c .before .before .before .before .before .before .before .before .before .before .in-range .result) (c .before .before .before .before .before .before .before .before .before .if1 .left) in
+    let el : lentOk (a .p) k m ≡ true = sym (c .before .before .before .before .before .before .before .before .lent-ok .ensures st) ∙ not-false (c .before .before .before .before .before .before .before .before .lent-ok .result) (c .before .before .before .before .before .before .before .if2 .left) in
+    let ew : waiting (a .p) st (a .drive) (a .stripe) ≡ true = sym (waits-is (c .before .before .before)) ∙ not-false (c .before .before .before .waiting .result) (c .before .before .if4 .left) in
     let eo : stateOk (a .p) st ≡ true = sym (c .before .state-ok .ensures) ∙ not-false (c .before .state-ok .result) (c .if5 .left) in
     let r = ranged (a .p) er in
     let long = lent-long (a .p) k m el in
     let w = waits-low (a .p) st (a .drive) (a .stripe) ew in
     let f = filled-low (a .p) st eo (slotOf st (a .stripe)) (w .1) in
-    (er, ((long .1, long .2, w .0), (segment-low (a .p) st eo (omega (arith, r .zones-low)), w .1, omega (arith, f, data-count-high (a .p) r))))
+    let sn = c .before .before .before .before .before .before .before .before .before .before .before .before .before .before .before .before .pre in
+    let g = segment-low (a .p) st eo (omega (arith, r .zones-low)) in
+    let e : filledIn (alone (a .seen .row)) 0 ≡ filledIn st (slotOf st (a .stripe)) = ap (λ (x : Row). filledIn (alone x) 0) (sn .row (w .1)) ∙ row-filled st (slotOf st (a .stripe)) in
+    (er, ((long .1, long .2, w .0), (subst (λ (x : ℕ). x < a .p .Z) (sym (sn .segment)) g, omega (arith, e, f, data-count-high (a .p) r))))
 
 zone-check-requires : tie.Need-zone-check-requires
 zone-check-requires c κs = search needs
 
 returns-6 : tie.Need-returns-6
 returns-6 c =
-    let a = c .before .before .before .before .before .before .before .before .before .before .before .before .before .before .before .before .before .args in
+    let a = c .before .before .before .before .before .before .before .before .before .before .before .before .before .before .before .before .before .before .args in
     let st = a .state in
     let k : Disk = mkDisk (a .image .now) (a .pointers .now) in
     let m : Memory = mkMemory st (a .addresses .now) (a .compact .now) (a .inflight .now) in
-    let er : inRange (a .p) ≡ true = sym (c .before .before .before .before .before .before .before .before .before .before .before .in-range .ensures) ∙ not-false (c .before .before .before .before .before .before .before .before .before .before .before .in-range .result) (c .before .before .before .before .before .before .before .before .before .before .if1 .left) in
-    let el : lentOk (a .p) k m ≡ true = sym (c .before .before .before .before .before .before .before .before .before .lent-ok .ensures st) ∙ not-false (c .before .before .before .before .before .before .before .before .before .lent-ok .result) (c .before .before .before .before .before .before .before .before .if2 .left) in
-    let ew : waiting (a .p) st (a .drive) (a .stripe) ≡ true = sym (c .before .before .before .before .before .waiting .ensures) ∙ not-false (c .before .before .before .before .before .waiting .result) (c .before .before .before .before .if4 .left) in
+    let er : inRange (a .p) ≡ true = sym (c .before .before .before .before .before .before .before .before .before .before .before .before .in-range .ensures) ∙ not-false (c .before .before .before .before .before .before .before .before .before .before .before .before .in-range .result) (c .before .before .before .before .before .before .before .before .before .before .before .if1 .left) in
+    let el : lentOk (a .p) k m ≡ true = sym (c .before .before .before .before .before .before .before .before .before .before .lent-ok .ensures st) ∙ not-false (c .before .before .before .before .before .before .before .before .before .before .lent-ok .result) (c .before .before .before .before .before .before .before .before .before .if2 .left) in
+    let ew : waiting (a .p) st (a .drive) (a .stripe) ≡ true = sym (waits-is (c .before .before .before .before .before)) ∙ not-false (c .before .before .before .before .before .waiting .result) (c .before .before .before .before .if4 .left) in
     let eo : stateOk (a .p) st ≡ true = sym (c .before .before .before .state-ok .ensures) ∙ not-false (c .before .before .before .state-ok .result) (c .before .before .if5 .left) in
     let long = lent-long (a .p) k m el in
     let r = ranged (a .p) er in
     c .zone-check .ensures
-    ∙ faults-are (a .p) k m (a .drive) (a .stripe) eo er (segment-low (a .p) st eo (omega (arith, r .zones-low))) (c .before .land-fault .result) (c .before .land-fault .ensures (a .image .now) (a .compact .now) (a .inflight .now) (long .0))
+    ∙ faults-refused (a .p) k m (a .drive) (a .stripe) eo er (segment-low (a .p) st eo (omega (arith, r .zones-low))) (c .before .land-fault .result)
+    (c .before .land-fault .ensures (a .image .now) (long .0) ∙ faults-seen (a .p) (seen (a .p) k) m (a .drive) (a .stripe) (a .seen) (c .before .before .before .before .before .before .before .before .before .before .before .before .before .before .before .before .before .before .pre) (waits-low (a .p) st (a .drive) (a .stripe) ew .1) (filled-low (a .p) st eo (slotOf st (a .stripe)) (waits-low (a .p) st (a .drive) (a .stripe) ew .1)) er)
     ∙ waiting-passes (a .p) k m (a .drive) (a .stripe) ew
-    ∙ missing-passes (a .p) k m (a .drive) (a .stripe) (c .before .before .before .before .before .before .if3 .left)
+    ∙ missing-passes (a .p) k m (a .drive) (a .stripe) (c .before .before .before .before .before .before .before .if3 .left)
     ∙ lengths-pass (a .p) k m (a .drive) (a .stripe) el
     ∙ range-passes (a .p) k m (a .drive) (a .stripe) er
 

@@ -1,19 +1,30 @@
 use Rattle.calls.specs.Left.{checked}
 use Rattle.defs.specs.Drives.{Disk, mkDisk}
-use Rattle.defs.specs.Lists.Opt.{none}
+use Rattle.defs.specs.Lists.Opt.{none, some}
 use Rattle.defs.specs.Memory.{Memory, mkMemory}
-use Rattle.land.specs.Ends.{land-refused}
+use Rattle.land.specs.Ends.{Chosen, land-refused}
 use Rattle.land.specs.Ready.{refusal}
+use Rattle.rows.specs.declared.Change.{Change}
+use Rattle.rows.specs.Rows.{Sized}
 use borrow.Author.Needs.{needs}
 use mathlib.Core.Path.{_≡_, sym, ap, _∙_}
 use Rattle.land.proofs.land.Statement.{statement}
 use Rattle.land.proofs.land.Tie as tie
+
+look-at-requires : tie.Need-look-at-requires
+look-at-requires c κs = search needs
+
+front-of-requires : tie.Need-front-of-requires
+front-of-requires c κs = search needs
 
 checks-requires : tie.Need-checks-requires
 checks-requires c κs = search needs
 
 enum-known-c : tie.Need-enum-known-c
 enum-known-c c = search needs
+
+kept-requires : tie.Need-kept-requires
+kept-requires c κs = search needs
 
 same-length : tie.Need-same-length
 same-length c = search needs
@@ -29,25 +40,40 @@ same-length-4 c = search needs
 
 returns : tie.Need-returns
 returns c =
-    let a = c .before .before .before .before .before .before .before .before .before .before .before .before .before .args in
+    let a = c .before .before .before .before .before .before .before .before .before .before .before .before .before .before .before .before .args in
+    let st = a .state in
     let k : Disk = mkDisk (a .image .now) (a .pointers .now) in
-    let m : Memory = mkMemory (a .state) (a .addresses .now) (a .compact .now) (a .inflight .now) in
-    let q = c .before .c .given in
-    land-refused (a .p) k m (a .drive) (a .stripe) (a .count) (q .0 .0) (sym (c .before .before .before .checks .ensures) ∙ ap checked (q .1))
+    let m : Memory = mkMemory st (a .addresses .now) (a .compact .now) (a .inflight .now) in
+    let q = c .before .before .c .given in
+    let e = sym (ap (λ (x : Change). x .answer) (c .kept .ensures)) in
+    land-refused (a .p) k m (a .drive) (a .stripe) (a .count) (c .kept .result) (sym (c .before .before .before .before .checks .ensures) ∙ ap checked (q .1) ∙ ap some e)
 
 enum-told : tie.Need-enum-told
 enum-told c = search needs
 
-slot-of-requires : tie.Need-slot-of-requires
-slot-of-requires c κs = search needs
+-- the arrays have their lengths
+sized : (c : tie.Start) → Sized (c .args .state)
+sized c = record {
+  numbers = search needs;
+  filled = search needs;
+  writes = search needs;
+  landed = search needs;
+  addresses = search needs;
+  stamps = search needs;
+  offsets = search needs;
+}
+
+-- the state, looked at and not refused
+chosen : (c : tie.After-enum-told) → Chosen (c .before .before .before .before .before .before .before .before .before .before .before .before .before .before .args .p) (mkDisk (c .before .before .before .before .before .before .before .before .before .before .before .before .before .before .args .image .now) (c .before .before .before .before .before .before .before .before .before .before .before .before .before .before .args .pointers .now)) (c .before .before .before .before .before .before .before .before .before .before .before .before .before .before .args .addresses .now) (c .before .before .before .before .before .before .before .before .before .before .before .before .before .before .args .compact .now) (c .before .before .before .before .before .before .before .before .before .before .before .before .before .before .args .inflight .now) (c .before .before .before .before .before .before .before .before .before .before .before .before .before .before .args .drive) (c .before .before .before .before .before .before .before .before .before .before .before .before .before .before .args .stripe) (c .before .before .before .before .before .before .before .before .look-at .result) (c .before .before .before .before .before .before .before .front-of .result) (c .before .before .before .before .before .before .before .before .before .before .before .before .before .before .args .state)
+chosen c = record {
+  sized = sized (c .before .before .before .before .before .before .before .before .before .before .before .before .before .before);
+  front = c .before .before .before .before .before .before .before .front-of .ensures;
+  looks = c .before .before .before .before .before .before .before .before .look-at .ensures;
+  none! = sym (c .before .before .checks .ensures) ∙ ap checked (c .enum-told .given .1);
+}
 
 plan-requires : tie.Need-plan-requires
-plan-requires c κs =
-    let a = c .before .before .before .before .before .before .before .before .before .before .before .before .before .before .before .before .before .args in
-    let k : Disk = mkDisk (a .image .now) (a .pointers .now) in
-    let m : Memory = mkMemory (a .state) (a .addresses .now) (a .compact .now) (a .inflight .now) in
-    let none! : refusal (a .p) k m (a .drive) (a .stripe) ≡ none = sym (c .before .before .before .before .before .before .before .checks .ensures) ∙ ap checked (c .before .before .before .before .before .enum-told .given .1) in
-    (c .before .before .before .before .slot-of .ensures, none!)
+plan-requires c κs = (c .before .before .before .before .before .before .before .before .before .before .before .before .before .before .before .before .before .before .args .state, chosen (c .before .before .before .before))
 
 same-length-5 : tie.Need-same-length-5
 same-length-5 c = search needs
@@ -62,24 +88,7 @@ same-length-8 : tie.Need-same-length-8
 same-length-8 c = search needs
 
 returns-2 : tie.Need-returns-2
-returns-2 c = c .before .before .before .before .before .before .before .before .plan .ensures
+returns-2 c = c .before .before .before .before .before .before .before .before .plan .ensures (c .before .before .before .before .before .before .before .before .before .before .before .before .before .before .before .before .before .before .before .before .before .before .before .before .before .before .before .args .state) (chosen (c .before .before .before .before .before .before .before .before .before .before .before .before .before))
 
 pub land-spec : {M : Type 1} → statement M
-land-spec =
-    tie.close
-    (tie.spec
-    checks-requires
-    enum-known-c
-    same-length
-    same-length-2
-    same-length-3
-    same-length-4
-    returns
-    enum-told
-    slot-of-requires
-    plan-requires
-    same-length-5
-    same-length-6
-    same-length-7
-    same-length-8
-    returns-2)
+land-spec = tie.close (tie.spec look-at-requires front-of-requires checks-requires enum-known-c kept-requires same-length same-length-2 same-length-3 same-length-4 returns enum-told plan-requires same-length-5 same-length-6 same-length-7 same-length-8 returns-2)

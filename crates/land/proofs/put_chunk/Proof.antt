@@ -8,6 +8,7 @@ use Rattle.defs.specs.Memory.{slotByte, slotBlock}
 use Rattle.laws.specs.Geometry.{ranged}
 use Rattle.laws.specs.Splice.{length-part, part-lent}
 use Rattle.records.specs.Record.{recOf, record-long}
+use Rattle.waits.specs.Alone.{alone}
 use borrow.Author.Needs.{needs}
 use lib.ListN.{length, take, drop}
 use mathlib.Core.Path.{_≡_, sym, ap, _∙_}
@@ -20,7 +21,7 @@ slice-aggregate-write-record : tie.Need-slice-aggregate-write-record
 slice-aggregate-write-record c = search needs
 
 flight-record-requires : tie.Need-flight-record-requires
-flight-record-requires c κs = let q = c .before .before .before .before .pre in (q .0, q .1 .1 .0 .1, q .1 .1 .1 .0, q .1 .1 .0 .2)
+flight-record-requires c κs = let q = c .before .before .before .before .pre in (q .0, q .1 .1 .1 .0, q .1 .1 .0 .2)
 
 write-record-requires : tie.Need-write-record-requires
 write-record-requires c κs = search needs
@@ -67,7 +68,7 @@ returns c =
     let t = c .before .before .before .before .before .before .before .before .before .before .slot-byte .result in
     let k : Disk = mkDisk (a .image .now) (a .pointers .now) in
     let x : take (t + p .B - t) (drop t fl) ≡ slotBlock p fl (a .i) (a .drive) = part-lent t (p .B) fl ∙ ap (λ (y : ℕ). part y (p .B) fl) (c .before .before .before .before .before .before .before .before .before .before .slot-byte .ensures .0) in
-    let y : c .before .before .before .before .before .before .before .before .before .before .before .before .write-record .last .0 ≡ recordBytes (flightRec p (a .state) (a .i) (a .drive)) = c .before .before .before .before .before .before .before .before .before .before .before .before .write-record .ensures ∙ ap recordBytes (c .before .before .before .before .before .before .before .before .before .before .before .before .before .flight-record .ensures) in
+    let y : c .before .before .before .before .before .before .before .before .before .before .before .before .write-record .last .0 ≡ recordBytes (flightRec p (alone (a .row)) 0 (a .drive)) = c .before .before .before .before .before .before .before .before .before .before .before .before .write-record .ensures ∙ ap recordBytes (c .before .before .before .before .before .before .before .before .before .before .before .before .before .flight-record .ensures) in
     c .before .before .before .before .put .ensures ∙ (λ j. storeDisk p (put (a .drive) (a .zone) (x j) (y j)) k)
 
 pub put-chunk-spec : {M : Type 1} → statement M

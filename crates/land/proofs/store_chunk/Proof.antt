@@ -3,9 +3,10 @@ use Rattle.defs.specs.Drives.{Disk, mkDisk, pointerOf, storeDisk, zoneOn}
 use Rattle.defs.specs.Drives.Store.{put}
 use Rattle.defs.specs.Landing.{flightRec}
 use Rattle.defs.specs.Layout.{compactEntry, recordBytes}
-use Rattle.defs.specs.Memory.{openSegment, markLanded, compactAt, slotBlock}
+use Rattle.defs.specs.Memory.{compactAt, slotBlock}
 use Rattle.defs.specs.Params.{capacity}
 use Rattle.laws.specs.Geometry.{ranged, data-below, zone-on-lt}
+use Rattle.waits.specs.Alone.{alone, markRow}
 use borrow.Author.Needs.{needs}
 use lib.ListN.{set}
 use mathlib.Core.Path.{_≡_, sym, ap, _∙_, subst}
@@ -13,36 +14,33 @@ use native.Mathlib.Omega.{arith}
 use Rattle.land.proofs.store_chunk.Statement.{statement}
 use Rattle.land.proofs.store_chunk.Tie as tie
 
-open-segment-requires : tie.Need-open-segment-requires
-open-segment-requires c κs = search needs
-
 zone-on-requires : tie.Need-zone-on-requires
 zone-on-requires c κs = search needs
 
 -- the zone
-zone-is : (c : tie.After-zone-on) → c .zone-on .result ≡ zoneOn (openSegment (c .before .before .before .before .before .before .args .state)) (c .before .before .before .before .before .before .args .drive)
-zone-is c = c .zone-on .ensures ∙ ap (λ (x : ℕ). zoneOn x (c .before .before .before .before .before .before .args .drive)) (c .before .open-segment .ensures)
+zone-is : (c : tie.After-zone-on) → c .zone-on .result ≡ zoneOn (c .before .before .before .before .before .args .segment) (c .before .before .before .before .before .args .drive)
+zone-is c = c .zone-on .ensures
 
-zone-low : (c : tie.After-zone-on) → c .zone-on .result < c .before .before .before .before .before .before .args .p .Z
-zone-low c = let a = c .before .before .before .before .before .before .args in omega (arith, zone-is c, zone-on-lt (a .p) (openSegment (a .state)) (a .drive) (c .before .before .before .before .before .before .pre .1 .1 .1 .1))
+zone-low : (c : tie.After-zone-on) → c .zone-on .result < c .before .before .before .before .before .args .p .Z
+zone-low c = let a = c .before .before .before .before .before .args in omega (arith, zone-is c, zone-on-lt (a .p) (a .segment) (a .drive) (c .before .before .before .before .before .pre .1 .1 .1 .1))
 
 pointer-requires : tie.Need-pointer-requires
-pointer-requires c κs = let q = c .before .before .before .before .before .before .before .pre in (q .0, (q .1 .0 .pointers-long, q .1 .1 .1 .0, zone-low (c .before)))
+pointer-requires c κs = let q = c .before .before .before .before .before .before .pre in (q .0, (q .1 .0 .pointers-long, q .1 .1 .1 .0, zone-low (c .before)))
 
 -- its pointer
-pointer-is : (c : tie.After-pointer) → c .pointer .result ≡ pointerOf (c .before .before .before .before .before .before .before .before .args .p) (c .before .before .before .before .before .before .before .before .args .pointers .now) (c .before .before .before .before .before .before .before .before .args .drive) (zoneOn (openSegment (c .before .before .before .before .before .before .before .before .args .state)) (c .before .before .before .before .before .before .before .before .args .drive))
-pointer-is c = let a = c .before .before .before .before .before .before .before .before .args in c .pointer .ensures ∙ ap (pointerOf (a .p) (a .pointers .now) (a .drive)) (zone-is (c .before .before))
+pointer-is : (c : tie.After-pointer) → c .pointer .result ≡ pointerOf (c .before .before .before .before .before .before .before .args .p) (c .before .before .before .before .before .before .before .args .pointers .now) (c .before .before .before .before .before .before .before .args .drive) (zoneOn (c .before .before .before .before .before .before .before .args .segment) (c .before .before .before .before .before .before .before .args .drive))
+pointer-is c = let a = c .before .before .before .before .before .before .before .args in c .pointer .ensures ∙ ap (pointerOf (a .p) (a .pointers .now) (a .drive)) (zone-is (c .before .before))
 
 cast-offset : tie.Need-cast-offset
 cast-offset c = search needs
 
 sub-offset : tie.Need-sub-offset
-sub-offset c = omega (arith, pointer-is c, c .before .before .before .before .before .before .before .before .pre .1 .1 .1 .2)
+sub-offset c = omega (arith, pointer-is c, c .before .before .before .before .before .before .before .pre .1 .1 .1 .2)
 
 put-chunk-requires : tie.Need-put-chunk-requires
 put-chunk-requires c κs =
-    let a = c .before .before .before .before .before .before .before .before .before .before .args in
-    let q = c .before .before .before .before .before .before .before .before .before .before .pre in
+    let a = c .before .before .before .before .before .before .before .before .before .args in
+    let q = c .before .before .before .before .before .before .before .before .before .pre in
     let h = q .1 .1 .1 in
     let n : pointerOf (a .p) (a .pointers .now) (a .drive) (c .before .before .before .before .zone-on .result) < capacity (a .p) =
     subst (λ (x : ℕ). x < capacity (a .p)) (c .before .before .pointer .ensures) (data-below (a .p) (ranged (a .p) (q .0)) (c .before .before .pointer .result) (omega (arith, pointer-is (c .before .before), h .3))) in
@@ -50,16 +48,16 @@ put-chunk-requires c κs =
 
 show-chunk-requires : tie.Need-show-chunk-requires
 show-chunk-requires c κs =
-    let q = c .before .before .before .before .before .before .before .before .before .before .before .before .before .before .before .before .pre in
+    let q = c .before .before .before .before .before .before .before .before .before .before .before .before .before .before .before .pre in
     let h = q .1 .1 .1 in
     (q .0, (q .1 .1 .0 .0, h .0, zone-low (c .before .before .before .before .before .before .before .before .before .before), omega (arith, pointer-is (c .before .before .before .before .before .before .before .before), h .2, h .3)))
 
 mark-landed-requires : tie.Need-mark-landed-requires
 mark-landed-requires c κs =
-    let q = c .before .before .before .before .before .before .before .before .before .before .before .before .before .before .before .before .before .before .before .pre in
+    let q = c .before .before .before .before .before .before .before .before .before .before .before .before .before .before .before .before .before .before .pre in
     let h = q .1 .1 .1 in
-    let r = ranged (c .before .before .before .before .before .before .before .before .before .before .before .before .before .before .before .before .before .before .before .args .p) (q .0) in
-    (q .1 .1 .0 .2, omega (arith, h .0, r .drives-high), omega (arith, pointer-is (c .before .before .before .before .before .before .before .before .before .before .before), h .3, r .stripes-high))
+    let r = ranged (c .before .before .before .before .before .before .before .before .before .before .before .before .before .before .before .before .before .before .args .p) (q .0) in
+    (omega (arith, h .0, r .drives-high), omega (arith, pointer-is (c .before .before .before .before .before .before .before .before .before .before .before), h .3, r .stripes-high))
 
 same-length : tie.Need-same-length
 same-length c = search needs
@@ -72,18 +70,17 @@ same-length-3 c = search needs
 
 returns : tie.Need-returns
 returns c =
-    let a = c .before .before .before .before .before .before .before .before .before .before .before .before .before .before .before .before .before .before .before .before .args in
+    let a = c .before .before .before .before .before .before .before .before .before .before .before .before .before .before .before .before .before .before .before .args in
     let p = a .p in
     let d = a .drive in
-    let st = a .state in
     let i = a .i in
     let k : Disk = mkDisk (a .image .now) (a .pointers .now) in
     let z = zone-is (c .before .before .before .before .before .before .before .before .before .before .before .before .before .before) in
     let n = pointer-is (c .before .before .before .before .before .before .before .before .before .before .before .before) in (
-      c .before .before .before .before .before .before .before .before .before .put-chunk .ensures ∙ ap (λ (x : ℕ). storeDisk p (put d x (slotBlock p (a .inflight .now) i d) (recordBytes (flightRec p st i d))) k) z,
+      c .before .before .before .before .before .before .before .before .before .put-chunk .ensures ∙ ap (λ (x : ℕ). storeDisk p (put d x (slotBlock p (a .inflight .now) i d) (recordBytes (flightRec p (alone (a .row)) 0 d))) k) z,
       (
         c .before .before .before .show-chunk .ensures ∙ (λ j. set (a .compact .now) (compactAt p d (z j) (n j - 1)) (compactEntry p (a .stripe))),
-        c .mark-landed .ensures ∙ ap (λ (x : ℕ). markLanded st i d (x - 1)) n,
+        c .mark-landed .ensures ∙ ap (λ (x : ℕ). markRow (a .row) d (x - 1)) n,
       ),
     )
 
@@ -91,7 +88,6 @@ pub store-chunk-spec : {M : Type 1} → statement M
 store-chunk-spec =
     tie.close
     (tie.spec
-    open-segment-requires
     zone-on-requires
     pointer-requires
     cast-offset

@@ -1,10 +1,11 @@
 use Prim.Native.Nat.{ℕ, _+_, _<_}
-use Rattle.defs.specs.Drives.{View, viewOf, zoneOn}
-use Rattle.defs.specs.Landing.{serialAt, landedCand}
+use Rattle.defs.specs.Drives.{zoneOn}
+use Rattle.defs.specs.Landing.{landedCand}
 use Rattle.defs.specs.Layout.{Rec, dataDrive}
 use Rattle.defs.specs.Memory.{stripeIn, entryIn, offsetIn}
 use Rattle.defs.specs.Params.{placeOf}
 use Rattle.laws.specs.Geometry.{ranged, data-count-high, data-below, zone-on-lt}
+use Rattle.waits.specs.Alone.{alone}
 use borrow.Author.Needs.{needs}
 use mathlib.Core.Path.{_≡_, ap, _∙_, subst, sym}
 use native.Mathlib.Omega.{arith}
@@ -12,7 +13,7 @@ use Rattle.pointing.proofs.landed_cand.Statement.{statement}
 use Rattle.pointing.proofs.landed_cand.Tie as tie
 
 entry-requires : tie.Need-entry-requires
-entry-requires c κs = let q = c .before .pre in (q .1 .1 .0, omega (arith, q .1 .1 .1, data-count-high (c .before .args .p) (ranged (c .before .args .p) (q .0))))
+entry-requires c κs = let q = c .pre in omega (arith, q .1 .1, data-count-high (c .args .p) (ranged (c .args .p) (q .0)))
 
 cast-data-drive : tie.Need-cast-data-drive
 cast-data-drive c = search needs
@@ -21,47 +22,42 @@ data-drive-requires : tie.Need-data-drive-requires
 data-drive-requires c κs = search needs
 
 offset-in-requires : tie.Need-offset-in-requires
-offset-in-requires c κs = let q = c .before .before .before .before .before .before .pre in (q .1 .1 .0, omega (arith, c .data-drive .ensures .1, ranged (c .before .before .before .before .before .before .args .p) (q .0) .drives-high))
-
-serial-at-requires : tie.Need-serial-at-requires
-serial-at-requires c κs = search needs
+offset-in-requires c κs = let q = c .before .before .before .before .before .pre in omega (arith, c .data-drive .ensures .1, ranged (c .before .before .before .before .before .args .p) (q .0) .drives-high)
 
 zone-on-requires : tie.Need-zone-on-requires
 zone-on-requires c κs = search needs
 
 -- the offset is one of a data block
-low : (c : tie.After-zone-on) → c .before .before .offset-in .result < c .before .before .before .before .before .before .before .before .before .args .p .S
-low c = subst (λ (x : ℕ). x < c .before .before .before .before .before .before .before .before .before .args .p .S) (sym (c .before .before .offset-in .ensures)) (c .before .before .before .before .before .before .before .before .before .pre .1 .1 .2 (c .before .before .before .data-drive .result) (c .before .before .before .data-drive .ensures .1))
+low : (c : tie.After-zone-on) → c .before .offset-in .result < c .before .before .before .before .before .before .before .args .p .S
+low c = subst (λ (x : ℕ). x < c .before .before .before .before .before .before .before .args .p .S) (sym (c .before .offset-in .ensures)) (c .before .before .before .before .before .before .before .pre .1 .2 (c .before .before .data-drive .result) (c .before .before .data-drive .ensures .1))
 
 add-place-of : tie.Need-add-place-of
-add-place-of c = omega (arith, low c, ranged (c .before .before .before .before .before .before .before .before .before .args .p) (c .before .before .before .before .before .before .before .before .before .pre .0) .stripes-high)
+add-place-of c = omega (arith, low c, ranged (c .before .before .before .before .before .before .before .args .p) (c .before .before .before .before .before .before .before .pre .0) .stripes-high)
 
 place-of-requires : tie.Need-place-of-requires
 place-of-requires c κs =
-    let q = c .before .before .before .before .before .before .before .before .before .pre in
-    let p = c .before .before .before .before .before .before .before .before .before .args .p in
-    let z = zone-on-lt p (c .before .before .before .before .before .before .before .before .before .args .segment) (c .before .before .before .data-drive .result) (q .1 .0 .1) in
-    (q .0, (c .before .before .before .data-drive .ensures .1, omega (arith, c .zone-on .ensures, z), data-below p (ranged p (q .0)) (1 + c .before .before .offset-in .result) (omega (arith, low c))))
+    let q = c .before .before .before .before .before .before .before .pre in
+    let p = c .before .before .before .before .before .before .before .args .p in
+    let z = zone-on-lt p (c .before .before .before .before .before .before .before .args .segment) (c .before .before .data-drive .result) (q .1 .0) in
+    (q .0, (c .before .before .data-drive .ensures .1, omega (arith, c .zone-on .ensures, z), data-below p (ranged p (q .0)) (1 + c .before .offset-in .result) (omega (arith, low c))))
 
 returns : tie.Need-returns
 unfolding landedCand entryIn
-returns c ps h =
-    let a = c .before .before .before .before .before .before .before .before .before .before .args in
+returns c v h =
+    let a = c .before .before .before .before .before .before .before .before .args in
     let p = a .p in
-    let st = a .state in
-    let i = a .i in
-    let v : View = viewOf p (a .image .now) ps in
+    let st = alone (a .row) in
+    let i : ℕ = 0 in
     let s = stripeIn st i in
-    let e = c .before .before .before .before .before .before .before .before .entry .ensures in
-    let n = c .before .before .before .before .before .before .before .before .entry .result .stripe in
+    let e = c .before .before .before .before .before .before .before .entry .ensures in
+    let n = c .before .before .before .before .before .before .before .entry .result .stripe in
     let f : n ≡ s = ap (λ (r : Rec). r .stripe) e in
-    let d : c .before .before .before .before .data-drive .result ≡ dataDrive p s (a .k) = c .before .before .before .before .data-drive .ensures .0 ∙ ap (λ (x : ℕ). dataDrive p x (a .k)) f in
-    let o : c .before .before .before .offset-in .result ≡ offsetIn st i (dataDrive p s (a .k)) = c .before .before .before .offset-in .ensures ∙ ap (offsetIn st i) d in
-    let t : c .before .before .serial-at .result .0 ≡ serialAt v (a .segment) = c .before .before .serial-at .ensures ps h in
+    let d : c .before .before .before .data-drive .result ≡ dataDrive p s (a .k) = c .before .before .before .data-drive .ensures .0 ∙ ap (λ (x : ℕ). dataDrive p x (a .k)) f in
+    let o : c .before .before .offset-in .result ≡ offsetIn st i (dataDrive p s (a .k)) = c .before .before .offset-in .ensures ∙ ap (offsetIn st i) d in
     let z : c .before .zone-on .result ≡ zoneOn (a .segment) (dataDrive p s (a .k)) = c .before .zone-on .ensures ∙ ap (zoneOn (a .segment)) d in
     let w : c .place-of .result .0 ≡ placeOf p (dataDrive p s (a .k)) (zoneOn (a .segment) (dataDrive p s (a .k))) (1 + offsetIn st i (dataDrive p s (a .k))) =
     c .place-of .ensures .0 ∙ (λ j. placeOf p (d j) (z j) (1 + o j)) in
-    λ j. record { address = e j .address; stamp = e j .stamp; serial = t j; drive = d j; offset = o j; place = w j }
+    λ j. record { address = e j .address; stamp = e j .stamp; serial = h j; drive = d j; offset = o j; place = w j }
 
 pub landed-cand-spec : {M : Type 1} → statement M
 landed-cand-spec =
@@ -71,7 +67,6 @@ landed-cand-spec =
     cast-data-drive
     data-drive-requires
     offset-in-requires
-    serial-at-requires
     zone-on-requires
     add-place-of
     place-of-requires

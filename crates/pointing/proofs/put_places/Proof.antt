@@ -1,3 +1,4 @@
+use Rattle.waits.specs.Alone.{alone}
 use Prim.Native.Nat.{ℕ, _+_, _-_, _≤_, _<_}
 use Rattle.defs.specs.Layout.{Rec}
 use Rattle.defs.specs.Lists.{upFrom, below}
@@ -15,36 +16,36 @@ use Rattle.pointing.proofs.put_places.Statement.{statement}
 use Rattle.pointing.proofs.put_places.Tie as tie
 
 abbrev Inv-loop : tie.InvT-loop
-Inv-loop p addresses₀ state i places n k₀ addresses k =
-    (n ≡ filledIn state i) × (k ≤ n) × (length addresses ≡ length addresses₀)
-    × (putAll p state i places (upFrom k (n - k)) addresses ≡ putAll p state i places (below (filledIn state i)) addresses₀)
+Inv-loop p addresses₀ row places n k₀ addresses k =
+    (n ≡ filledIn (alone row) 0) × (k ≤ n) × (length addresses ≡ length addresses₀)
+    × (putAll p (alone row) 0 places (upFrom k (n - k)) addresses ≡ putAll p (alone row) 0 places (below (filledIn (alone row) 0)) addresses₀)
 
 abbrev μ-loop : tie.MeasureT-loop
-μ-loop p addresses₀ state i places n k₀ addresses k = n - k
+μ-loop p addresses₀ row places n k₀ addresses k = n - k
 
 filled-in-requires : tie.Need-filled-in-requires Inv-loop μ-loop
-filled-in-requires c κs = c .before .pre .1 .1
+filled-in-requires c κs = tt
 
 loop-holds : tie.Need-loop-holds Inv-loop μ-loop
 loop-holds c =
     let a = c .before .before .args in
     let e = c .filled-in .ensures in
-    (e, omega arith, refl, ap (λ (x : List ℕ). putAll (a .p) (a .state) (a .i) (a .t5) x (a .addresses .now)) (sym (below-start (c .filled-in .result)) ∙ ap below e))
+    (e, omega arith, refl, ap (λ (x : List ℕ). putAll (a .p) (alone (a .row)) 0 (a .t4) x (a .addresses .now)) (sym (below-start (c .filled-in .result)) ∙ ap below e))
 
 -- a filled position
 low : (c : tie.In-loop Inv-loop μ-loop) → c .before .loop .k < 8
 low c =
     let p = c .before .before .before .before .args .p in
-    omega (arith, c .loop-test .taken, c .before .before .filled-in .ensures, c .before .before .before .before .pre .1 .2, data-count-high p (ranged p (c .before .before .before .before .pre .0)))
+    omega (arith, c .loop-test .taken, c .before .before .filled-in .ensures, c .before .before .before .before .pre .1 .1, data-count-high p (ranged p (c .before .before .before .before .pre .0)))
 
 entry-requires : tie.Need-entry-requires Inv-loop μ-loop
-entry-requires c κs = (c .before .before .before .before .pre .1 .1, low c)
+entry-requires c κs = low c
 
-mul-t17 : tie.Need-mul-t17 Inv-loop μ-loop
-mul-t17 c = omega (arith, low (c .before .before .before))
+mul-t16 : tie.Need-mul-t16 Inv-loop μ-loop
+mul-t16 c = omega (arith, low (c .before .before .before))
 
-array-read-t20 : tie.Need-array-read-t20 Inv-loop μ-loop
-array-read-t20 c = omega (arith, low (c .before .before .before))
+array-read-t19 : tie.Need-array-read-t19 Inv-loop μ-loop
+array-read-t19 c = omega (arith, low (c .before .before .before))
 
 set-place-requires : tie.Need-set-place-requires Inv-loop μ-loop
 unfolding addressesLen
@@ -60,12 +61,12 @@ loop-again : tie.Need-loop-again Inv-loop μ-loop
 loop-again c =
     let a = c .before .before .before .before .before .before .args in
     let p = a .p in
-    let st = a .state in
-    let i = a .i in
+    let st = alone (a .row) in
+    let i : ℕ = 0 in
     let l = c .before .before .before .loop in
     let n = c .before .before .before .before .filled-in .result in
     let k = l .k in
-    let qs = a .t5 in
+    let qs = a .t4 in
     let e : c .before .entry .result .address .0 ≡ entryIn st i k .address = ap (λ (r : Rec). r .address) (c .before .entry .ensures) in
     let t : List ℕ = upFrom (k + 1) (n - (k + 1)) in
     let f : putAll p st i qs t (c .if1 .addresses) ≡ putAll p st i qs (upFrom k (n - k)) (l .addresses) =
@@ -83,7 +84,7 @@ returns : tie.Need-returns Inv-loop μ-loop
 returns c =
     let a = c .before .before .before .before .args in
     let l = c .before .loop in
-    sym (put-end (a .p) (a .state) (a .i) (a .t5) (l .k) (c .before .before .filled-in .result) (l .addresses) (omega (arith, c .loop-test .left))) ∙ l .inv .3
+    sym (put-end (a .p) (alone (a .row)) 0 (a .t4) (l .k) (c .before .before .filled-in .result) (l .addresses) (omega (arith, c .loop-test .left))) ∙ l .inv .3
 
 pub put-places-spec : {M : Type 1} → statement M
 put-places-spec =
@@ -94,8 +95,8 @@ put-places-spec =
     filled-in-requires
     loop-holds
     entry-requires
-    mul-t17
-    array-read-t20
+    mul-t16
+    array-read-t19
     set-place-requires
     add-k
     loop-less

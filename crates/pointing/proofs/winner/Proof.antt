@@ -6,6 +6,7 @@ use Rattle.defs.specs.Memory.{filledIn}
 use Rattle.defs.specs.Rank.{Cand, best, placeOr, candsOf}
 use Rattle.pointing.specs.Winners.{rest-first, rest-turn, rest-last}
 use Rattle.rank.specs.Ranked.{rankedBest}
+use Rattle.waits.specs.Alone.{alone}
 use borrow.Author.Needs.{needs}
 use mathlib.Core.List.{map}
 use mathlib.Core.Path.{_≡_, sym, ap, _∙_}
@@ -14,16 +15,16 @@ use Rattle.pointing.proofs.winner.Statement.{statement}
 use Rattle.pointing.proofs.winner.Tie as tie
 
 abbrev Inv-loop : tie.InvT-loop
-Inv-loop p image pointers addresses segment state i address n b₀ k₀ b k =
-    (n ≡ filledIn state i) × (k ≤ n)
-    × (best (rankedBest b) (candsOf (address .0) (map (landedCand p (viewOf p image pointers) segment state i) (upFrom k (n - k))))
-    ≡ best (held p (viewOf p image pointers) addresses (address .0)) (candsOf (address .0) (landedCands p (viewOf p image pointers) segment state i)))
+Inv-loop p image pointers addresses segment serial row address n b₀ k₀ b k =
+    (n ≡ filledIn (alone row) 0) × (k ≤ n)
+    × (best (rankedBest b) (candsOf (address .0) (map (landedCand p (viewOf p image pointers) segment (alone row) 0) (upFrom k (n - k))))
+    ≡ best (held p (viewOf p image pointers) addresses (address .0)) (candsOf (address .0) (landedCands p (viewOf p image pointers) segment (alone row) 0)))
 
 abbrev μ-loop : tie.MeasureT-loop
-μ-loop p image pointers addresses segment state i address n b₀ k₀ b k = n - k
+μ-loop p image pointers addresses segment serial row address n b₀ k₀ b k = n - k
 
 filled-in-requires : tie.Need-filled-in-requires Inv-loop μ-loop
-filled-in-requires c κs = c .before .before .before .pre .1 .1 .1 .1
+filled-in-requires c κs = tt
 
 held-requires : tie.Need-held-requires Inv-loop μ-loop
 held-requires c κs = let q = c .before .before .before .before .pre in (q .0, (q .1 .0, q .1 .1 .0))
@@ -35,14 +36,14 @@ loop-holds c =
     let e = c .before .filled-in .ensures in (
       e,
       omega arith,
-      rest-first (a .p) v (a .segment) (a .state) (a .i) (a .address .0) (rankedBest (c .held .result)) (c .before .filled-in .result) e
-          ∙ ap (λ (x : Opt Cand). best x (candsOf (a .address .0) (landedCands (a .p) v (a .segment) (a .state) (a .i)))) (c .held .ensures),
+      rest-first (a .p) v (a .segment) (alone (a .row)) 0 (a .address .0) (rankedBest (c .held .result)) (c .before .filled-in .result) e
+          ∙ ap (λ (x : Opt Cand). best x (candsOf (a .address .0) (landedCands (a .p) v (a .segment) (alone (a .row)) 0))) (c .held .ensures),
     )
 
 compete-requires : tie.Need-compete-requires Inv-loop μ-loop
 compete-requires c κs =
     let q = c .before .before .before .before .before .before .before .pre in
-    (q .0, ((q .1 .0 .image-long, q .1 .1 .1 .0), (q .1 .1 .1 .1, omega (arith, c .loop-test .taken, c .before .before .before .filled-in .ensures, q .1 .1 .1 .2), q .1 .1 .1 .3)))
+    (q .0, (q .1 .1 .1 .0 .0, omega (arith, c .loop-test .taken, c .before .before .before .filled-in .ensures, q .1 .1 .1 .0 .1), q .1 .1 .1 .0 .2))
 
 add-k : tie.Need-add-k Inv-loop μ-loop
 add-k c = omega arith
@@ -58,8 +59,8 @@ loop-again c =
     let n = c .before .before .before .before .filled-in .result in (
       l .inv .0,
       omega arith,
-      rest-turn (a .p) v (a .segment) (a .state) (a .i) (a .address .0) (rankedBest (l .b)) (rankedBest (c .compete .result)) (l .k) n (omega (arith, c .before .loop-test .taken))
-          (λ cs. c .compete .ensures (a .pointers .now) cs (c .before .before .before .before .before .before .before .before .pre .1 .0 .pointers-long)) ∙ l .inv .2,
+      rest-turn (a .p) v (a .segment) (alone (a .row)) 0 (a .address .0) (rankedBest (l .b)) (rankedBest (c .compete .result)) (l .k) n (omega (arith, c .before .loop-test .taken))
+          (λ cs. c .compete .ensures v cs (c .before .before .before .before .before .before .before .before .pre .1 .1 .1 .1)) ∙ l .inv .2,
     )
 
 place-or-requires : tie.Need-place-or-requires Inv-loop μ-loop
@@ -72,7 +73,7 @@ returns c =
     let v : View = viewOf (a .p) (a .image .now) (a .pointers .now) in
     let n = c .before .before .before .before .filled-in .result in
     c .place-or .ensures
-    ∙ ap placeOr (sym (rest-last (a .p) v (a .segment) (a .state) (a .i) (a .address .0) (rankedBest (l .b)) (l .k) n (omega (arith, c .before .loop-test .left))) ∙ l .inv .2)
+    ∙ ap placeOr (sym (rest-last (a .p) v (a .segment) (alone (a .row)) 0 (a .address .0) (rankedBest (l .b)) (l .k) n (omega (arith, c .before .loop-test .left))) ∙ l .inv .2)
 
 pub winner-spec : {M : Type 1} → statement M
 winner-spec =

@@ -1,3 +1,4 @@
+use Rattle.waits.specs.Alone.{alone}
 use Prim.Native.Nat.{ℕ, _+_, _-_, _≤_, _<_}
 use Rattle.defs.specs.Drives.{View, viewOf}
 use Rattle.defs.specs.Landing.{landedCands}
@@ -14,16 +15,16 @@ use Rattle.pointing.proofs.winners.Statement.{statement}
 use Rattle.pointing.proofs.winners.Tie as tie
 
 abbrev Inv-loop : tie.InvT-loop
-Inv-loop p image pointers addresses segment state i n out₀ k₀ out k =
-    (n ≡ filledIn state i) × (k ≤ n) × (length out ≡ 8)
-    × ((h : ℕ) → h < k → entryIn state i h .address < p .L
-    → getD out h 0 ≡ winnerOf p (viewOf p image pointers) addresses (landedCands p (viewOf p image pointers) segment state i) (entryIn state i h .address))
+Inv-loop p image pointers addresses segment serial row n out₀ k₀ out k =
+    (n ≡ filledIn (alone row) 0) × (k ≤ n) × (length out ≡ 8)
+    × ((h : ℕ) → h < k → entryIn (alone row) 0 h .address < p .L
+    → getD out h 0 ≡ winnerOf p (viewOf p image pointers) addresses (landedCands p (viewOf p image pointers) segment (alone row) 0) (entryIn (alone row) 0 h .address))
 
 abbrev μ-loop : tie.MeasureT-loop
-μ-loop p image pointers addresses segment state i n out₀ k₀ out k = n - k
+μ-loop p image pointers addresses segment serial row n out₀ k₀ out k = n - k
 
 filled-in-requires : tie.Need-filled-in-requires Inv-loop μ-loop
-filled-in-requires c κs = c .before .before .before .pre .1 .1 .1 .1
+filled-in-requires c κs = tt
 
 loop-holds : tie.Need-loop-holds Inv-loop μ-loop
 loop-holds c = (c .filled-in .ensures, omega arith, refl, λ h l. absurd (let q : ⊥ = omega arith in q))
@@ -32,17 +33,17 @@ loop-holds c = (c .filled-in .ensures, omega arith, refl, λ h l. absurd (let q 
 low : (c : tie.In-loop Inv-loop μ-loop) → c .before .loop .k < 8
 low c =
     let p = c .before .before .before .before .before .before .args .p in
-    omega (arith, c .loop-test .taken, c .before .before .filled-in .ensures, c .before .before .before .before .before .before .pre .1 .1 .1 .2, data-count-high p (ranged p (c .before .before .before .before .before .before .pre .0)))
+    omega (arith, c .loop-test .taken, c .before .before .filled-in .ensures, c .before .before .before .before .before .before .pre .1 .1 .1 .0 .1, data-count-high p (ranged p (c .before .before .before .before .before .before .pre .0)))
 
 entry-requires : tie.Need-entry-requires Inv-loop μ-loop
-entry-requires c κs = (c .before .before .before .before .before .before .pre .1 .1 .1 .1, low c)
+entry-requires c κs = low c
 
 winner-requires : tie.Need-winner-requires Inv-loop μ-loop
 winner-requires c κs =
     let a = c .before .before .before .before .before .before .before .before .before .before .args in
     let q = c .before .before .before .before .before .before .before .before .before .before .pre in
     let k = c .before .before .before .before .before .loop .k in
-    let e : c .before .before .before .entry .result .address .0 ≡ entryIn (a .state) (a .i) k .address = ap (λ (r : Rec). r .address) (c .before .before .before .entry .ensures) in
+    let e : c .before .before .before .entry .result .address .0 ≡ entryIn (alone (a .row)) 0 k .address = ap (λ (r : Rec). r .address) (c .before .before .before .entry .ensures) in
     let s = q .1 .1 .0 .1 k (omega (arith, c .before .before .before .before .loop-test .taken, c .before .before .before .before .before .before .filled-in .ensures)) (omega (arith, c .if1 .taken, e)) in
     (q .0, (q .1 .0, ((q .1 .1 .0 .0, omega (arith, c .if1 .taken), subst (λ (x : ℕ). Sane (a .p) (placeAt (a .addresses .now) x)) (sym e) s), q .1 .1 .1)))
 
@@ -62,8 +63,8 @@ loop-again : tie.Need-loop-again Inv-loop μ-loop
 loop-again c =
     let a = c .before .before .before .before .before .before .before .before .before .before .args in
     let p = a .p in
-    let st = a .state in
-    let i = a .i in
+    let st = alone (a .row) in
+    let i : ℕ = 0 in
     let l = c .before .before .before .before .before .loop in
     let k = l .k in
     let v : View = viewOf p (a .image .now) (a .pointers .now) in
