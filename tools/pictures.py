@@ -20,6 +20,12 @@ class Drawing:
         text = text.replace("&", "&amp;").replace("<", "&lt;")
         self.parts.append(f'<text x="{x}" y="{y}" {FONT} font-size="{size}" text-anchor="{anchor}" font-weight="{weight}" fill="{fill}">{text}</text>')
 
+    def lines(self, x, y, w, h, lines, fill="#f7fbff"):
+        """a box with its lines in the middle, the first of them bold"""
+        self.box(x, y, w, h, fill, round_=8)
+        for i, line in enumerate(lines):
+            self.text(x + w / 2, y + h / 2 + 4 + (i - (len(lines) - 1) / 2) * 16, line, 12, weight="bold" if i == 0 else "normal")
+
     def arrow(self, points, line="#444444", dash=""):
         d = f' stroke-dasharray="{dash}"' if dash else ""
         at = " ".join(f"{x},{y}" for x, y in points)
@@ -79,34 +85,29 @@ def restart():
     d = Drawing(900, 560)
     d.text(450, 28, "The states of a restart", 17, weight="bold")
 
-    def state(x, y, w, h, lines, fill="#f7fbff"):
-        d.box(x, y, w, h, fill, round_=8)
-        for i, line in enumerate(lines):
-            d.text(x + w / 2, y + h / 2 + 4 + (i - (len(lines) - 1) / 2) * 16, line, 12, weight="bold" if i == 0 else "normal")
-
-    state(330, 48, 240, 44, ["Image and pointers", "tables and state: any contents"], "#eeeeee")
+    d.lines(330, 48, 240, 44, ["Image and pointers", "tables and state: any contents"], "#eeeeee")
     d.arrow([(450, 92), (450, 112)])
-    state(280, 114, 340, 58, ["1, 2  Which segments remain", "dropped: empty on a present drive, or a copy", "of a segment that is still there"])
+    d.lines(280, 114, 340, 58, ["1, 2  Which segments remain", "dropped: empty on a present drive, or a copy", "of a segment that is still there"])
     d.arrow([(450, 172), (450, 192)])
-    state(280, 194, 340, 44, ["3  Which stripes count", "those with a chunk on every present drive"])
+    d.lines(280, 194, 340, 44, ["3  Which stripes count", "those with a chunk on every present drive"])
     d.arrow([(620, 216), (700, 216)])
-    state(702, 190, 170, 52, ["Refused 9", "damaged in zone .."], "#fee0d2")
+    d.lines(702, 190, 170, 52, ["Refused 9", "damaged in zone .."], "#fee0d2")
     d.arrow([(340, 238), (190, 268)])
     d.text(200, 250, "a drive is missing", 12)
-    state(40, 270, 260, 52, ["5  Nothing is stored", "the array is read-only"])
+    d.lines(40, 270, 260, 52, ["5  Nothing is stored", "the array is read-only"])
     d.arrow([(560, 238), (600, 268)])
     d.text(668, 256, "all drives are there", 12)
-    state(440, 270, 340, 44, ["4  Dropped segments are reset", "one store for each drive"])
+    d.lines(440, 270, 340, 44, ["4  Dropped segments are reset", "one store for each drive"])
     d.arrow([(500, 314), (400, 346)])
     d.arrow([(610, 314), (610, 346)])
     d.arrow([(720, 314), (800, 346)])
-    state(320, 348, 170, 64, ["All S stripes count", "missing footers", "are stored"])
-    state(525, 348, 170, 64, ["0 to c - 1, none loose", "stays open;", "nothing is stored"])
-    state(712, 348, 176, 64, ["Ragged", "headers, then stripes into", "an empty zone, then resets"])
+    d.lines(320, 348, 170, 64, ["All S stripes count", "missing footers", "are stored"])
+    d.lines(525, 348, 170, 64, ["0 to c - 1, none loose", "stays open;", "nothing is stored"])
+    d.lines(712, 348, 176, 64, ["Ragged", "headers, then stripes into", "an empty zone, then resets"])
     for x in (405, 610, 800):
         d.arrow([(x, 412), (x, 446), (560 if x == 610 else (540 if x < 610 else 640), 464)] if x != 610 else [(x, 412), (600, 464)])
     d.arrow([(170, 322), (170, 490), (398, 490)])
-    state(400, 466, 340, 52, ["Tables and state from what the drives say", "answer: the number of uncounted stripes"], "#e5f5e0")
+    d.lines(400, 466, 340, 52, ["Tables and state from what the drives say", "answer: the number of uncounted stripes"], "#e5f5e0")
     d.text(450, 546, "A power cut at any store: the next restart begins at the top, and every acknowledged write is still there (demand 3).", 12)
     d.save("restart.svg")
 
@@ -116,29 +117,24 @@ def chain():
     d = Drawing(900, 560)
     d.text(450, 28, "From a C function to the demands", 17, weight="bold")
 
-    def step(x, y, w, h, lines, fill="#f7fbff"):
-        d.box(x, y, w, h, fill, round_=8)
-        for i, line in enumerate(lines):
-            d.text(x + w / 2, y + h / 2 + 4 + (i - (len(lines) - 1) / 2) * 16, line, 12, weight="bold" if i == 0 else "normal")
-
-    step(250, 46, 400, 44, ["sorgizhed_write, sorgizhed_restart, ..", "include/sorgizhed.h, crates/cabi"], "#eeeeee")
+    d.lines(250, 46, 400, 44, ["sorgizhed_write, sorgizhed_restart, ..", "include/sorgizhed.h, crates/cabi"], "#eeeeee")
     d.arrow([(450, 90), (450, 128)])
     d.text(462, 113, "contract of each: answer and all lent bytes equal", 12, "start")
-    step(250, 130, 400, 58, ["callBytes p l c", "one call on six lent buffers, the state as bytes", "defs: Engine"])
+    d.lines(250, 130, 400, 58, ["callBytes p l c", "one call on six lent buffers, the state as bytes", "defs: Engine"])
     d.arrow([(300, 188), (150, 226)])
     d.text(60, 212, "any call, any bytes", 12, "start")
-    step(20, 228, 270, 58, ["Demand 1, zone rules", "of every call; spec_demands: Answering,", "Rules; proved in proof_answers"], "#e5f5e0")
+    d.lines(20, 228, 270, 58, ["Demand 1, zone rules", "of every call; spec_demands: Answering,", "Rules; proved in proof_answers"], "#e5f5e0")
     d.arrow([(450, 188), (450, 226)])
     d.text(462, 212, "lists of calls, each step callBytes", 12, "start")
-    step(310, 228, 270, 58, ["Demand 2", "after a restart and uncut calls", "Tables, Layouts; proved in proof_demands"], "#e5f5e0")
+    d.lines(310, 228, 270, 58, ["Demand 2", "after a restart and uncut calls", "Tables, Layouts; proved in proof_demands"], "#e5f5e0")
     d.arrow([(600, 188), (740, 226)])
-    step(600, 228, 280, 58, ["Demand 3", "every history from empty drives", "Histories; proved in proof_bytes"], "#e5f5e0")
-    step(250, 330, 400, 58, ["proof_bytes", "a state that a call leaves fits its widths and comes back from its", "bytes, so a list of calls on bytes is one with the state a value"])
+    d.lines(600, 228, 280, 58, ["Demand 3", "every history from empty drives", "Histories; proved in proof_bytes"], "#e5f5e0")
+    d.lines(250, 330, 400, 58, ["proof_bytes", "a state that a call leaves fits its widths and comes back from its", "bytes, so a list of calls on bytes is one with the state a value"])
     d.arrow([(445, 330), (445, 288)])
     d.arrow([(600, 330), (740, 288)])
-    step(40, 432, 480, 74, ["Demand 2, the state a value: AfterRestart onValues", "proof_layout (layout), proof_flights (landings, parity),", "proof_rebuilt (rebuild), tablesay (tables, reads, refusal 9)"])
+    d.lines(40, 432, 480, 74, ["Demand 2, the state a value: AfterRestart onValues", "proof_layout (layout), proof_flights (landings, parity),", "proof_rebuilt (rebuild), tablesay (tables, reads, refusal 9)"])
     d.arrow([(330, 432), (370, 390)])
-    step(560, 432, 320, 74, ["Demand 3, the state a value", "demand3 over runs, restarts, rebuilds, bridge;", "the crash machine: machine"])
+    d.lines(560, 432, 320, 74, ["Demand 3, the state a value", "demand3 over runs, restarts, rebuilds, bridge;", "the crash machine: machine"])
     d.arrow([(680, 432), (580, 390)])
     d.text(450, 540, "Every arrow is an equation or a theorem that the checker has accepted; nothing between a C function and a demand is by hand.", 12)
     d.save("chain.svg")
