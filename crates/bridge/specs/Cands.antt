@@ -137,7 +137,10 @@ pub rec-of : (p : Params) (gone : ℕ) (g : Segment) (s d : ℕ) → pieceOf p g
 unfolding pieceOf recOf parityPiece
 rec-of p gone g s d = go (isIn gone d)
   where
-    go : (b : Bool) → cond b (mkPiece (parity (p .B) (map (λ (q : Piece). q .block) (map (storedPiece g s) (present p gone)))) (parityRec s (map (λ (q : Piece). q .rec) (map (storedPiece g s) (present p gone))))) (storedPiece g s d) .rec
+    go :
+        (b : Bool)
+        → cond b (mkPiece (parity (p .B) (map (λ (q : Piece). q .block) (map (storedPiece g s) (present p gone))))
+        (parityRec s (map (λ (q : Piece). q .rec) (map (storedPiece g s) (present p gone))))) (storedPiece g s d) .rec
         ≡ cond b (parityRec s (map (storedRec g s) (present p gone))) (storedRec g s d)
     go true = ap (parityRec s) (map-map (λ (q : Piece). q .rec) (storedPiece g s) (present p gone) ∙ same)
       where
@@ -224,7 +227,8 @@ module _ (p : Params) (r : Ranged p) (g : Ghost) (v : View) (k : OnDrives p r g 
   unfolding greatestStamp
   greatest-counted x q =
       let y : (y : Cand) × Has y candsSeen × (y .address ≡ x .addr) × (y .stamp ≡ x .stamp) = of-counted x q in
-      let b : y .0 .stamp ≤ greatest (map (λ (c : Cand). c .stamp) candsSeen) = greatest-most (y .0 .stamp) (map (λ (c : Cand). c .stamp) candsSeen) (has-map (λ (c : Cand). c .stamp) candsSeen (y .0) (y .1)) in
+      let b : y .0 .stamp ≤ greatest (map (λ (c : Cand). c .stamp) candsSeen) =
+      greatest-most (y .0 .stamp) (map (λ (c : Cand). c .stamp) candsSeen) (has-map (λ (c : Cand). c .stamp) candsSeen (y .0) (y .1)) in
       omega (arith, b, y .3)
 
   -- the stamp that a restart's table reads

@@ -121,7 +121,9 @@ module _ (p : Params) (q : Zone) (low : q .pointer ≤ length (q .blocks)) where
           × (recordOf (getD (q .blocks) (suc o) noChunk .spare) .stripe ≡ s)
           × (valueOf (getD (q .blocks) (suc o) noChunk .block) (recordOf (getD (q .blocks) (suc o) noChunk .spare)) ≡ x)
       go (yes l) (b, e) = unfold chunkItem in
-          let e′ : chunk (recordOf (getD (q .blocks) (suc k) noChunk .spare) .stripe) (valueOf (getD (q .blocks) (suc k) noChunk .block) (recordOf (getD (q .blocks) (suc k) noChunk .spare))) ≡ chunk s x =
+          let e′ : chunk (recordOf (getD (q .blocks) (suc k) noChunk .spare) .stripe)
+          (valueOf (getD (q .blocks) (suc k) noChunk .block) (recordOf (getD (q .blocks) (suc k) noChunk .spare)))
+          ≡ chunk s x =
           sym (item-data p k (getD (q .blocks) (suc k) noChunk) l) ∙ e in
           (k, refl, l, b, chunk-num e′, chunk-val e′)
       go (no l) (b, e) = absurd (chunk-foot (sym e ∙ item-foot p k (getD (q .blocks) (suc k) noChunk) (omega arith)))

@@ -180,7 +180,10 @@ module _ (p : Params) (r : Ranged p) (g : Ghost) (dk : Disk) (w : Whole p dk) (k
       where
         go : Dec (f .d ≡ m) → off < p .S
         go (yes e) = subst (λ (x : ℕ). x < p .S) (sym (off-lost e)) (counted-has p r g v k m c (f .z) (f .s) (f .cnt) .0)
-        go (no n) = subst (λ (x : ℕ). x < p .S) (sym (off-here n)) (stored-below p (zoneAt v (f .d) (f .z)) (offsetOn (G (f .z)) (f .d) (f .s)) (offset-on p r g v k m c (f .z) (f .s) (f .d) zb (f .drv) n (chunk-on (f .d) (f .drv) n) .0) .0)
+        go (no n) =
+            subst (λ (x : ℕ). x < p .S) (sym (off-here n))
+            (stored-below p (zoneAt v (f .d) (f .z)) (offsetOn (G (f .z)) (f .d) (f .s))
+            (offset-on p r g v k m c (f .z) (f .s) (f .d) zb (f .drv) n (chunk-on (f .d) (f .drv) n) .0) .0)
 
     block-few : 1 + off < capacity p
     block-few = omega (arith, off-few, capacity-few p r)
@@ -206,10 +209,17 @@ module _ (p : Params) (r : Ranged p) (g : Ghost) (dk : Disk) (w : Whole p dk) (k
     no-place-fault : placeFaults p v (named m) (x .place) ≡ []
     unfolding placeFaults
     no-place-fault =
-        cond-false (leb (p .N) (placeDrive p (x .place))) (0 ∷ []) (consIf (not (between 1 (p .S) (placeBlock p (x .place))) || (not (isIn (named m) (placeDrive p (x .place))) && leb (pointerAt v (placeDrive p (x .place)) (placeZone p (x .place))) (placeBlock p (x .place)))) (placeZone p (x .place)) [])
+        cond-false (leb (p .N) (placeDrive p (x .place))) (0 ∷ [])
+        (consIf (not (between 1 (p .S) (placeBlock p (x .place)))
+        || (not (isIn (named m) (placeDrive p (x .place)))
+        && leb (pointerAt v (placeDrive p (x .place)) (placeZone p (x .place))) (placeBlock p (x .place)))) (placeZone p (x .place)) [])
         (lt-leb (p .N) (placeDrive p (x .place)) (omega (arith, place-d, f .drv)))
-        ∙ nothing (not (between 1 (p .S) (placeBlock p (x .place))) || (not (isIn (named m) (placeDrive p (x .place))) && leb (pointerAt v (placeDrive p (x .place)) (placeZone p (x .place))) (placeBlock p (x .place)))) (placeZone p (x .place))
-        (or-false (not (between 1 (p .S) (placeBlock p (x .place)))) (not (isIn (named m) (placeDrive p (x .place))) && leb (pointerAt v (placeDrive p (x .place)) (placeZone p (x .place))) (placeBlock p (x .place)))
+        ∙ nothing (not (between 1 (p .S) (placeBlock p (x .place)))
+        || (not (isIn (named m) (placeDrive p (x .place)))
+        && leb (pointerAt v (placeDrive p (x .place)) (placeZone p (x .place))) (placeBlock p (x .place)))) (placeZone p (x .place))
+        (or-false (not (between 1 (p .S) (placeBlock p (x .place))))
+        (not (isIn (named m) (placeDrive p (x .place)))
+        && leb (pointerAt v (placeDrive p (x .place)) (placeZone p (x .place))) (placeBlock p (x .place)))
         (ap not (between-of 1 (p .S) (placeBlock p (x .place)) (omega (arith, place-b)) (omega (arith, place-b, off-few))))
         (rw (place-d, place-z, place-b) (go (ℕ-discrete (f .d) m))))
       where
@@ -220,7 +230,13 @@ module _ (p : Params) (r : Ranged p) (g : Ghost) (dk : Disk) (w : Whole p dk) (k
         go : Dec (f .d ≡ m) → (not (isIn (named m) (f .d)) && leb (pointerAt v (f .d) (f .z)) (1 + off)) ≡ false
         go (yes e) = and-false-1 (not (isIn (named m) (f .d))) (leb (pointerAt v (f .d) (f .z)) (1 + off)) (ap not (is-named p r m (f .d) (f .drv) ∙ eq-eqb (f .d) m e))
         go (no n) = and-false-2 (not (isIn (named m) (f .d))) (leb (pointerAt v (f .d) (f .z)) (1 + off)) (lt-leb (pointerAt v (f .d) (f .z)) (1 + off)
-            (omega (arith, off-here n, pointer-is v (f .d) (f .z), stored-below p (zoneAt v (f .d) (f .z)) (offsetOn (G (f .z)) (f .d) (f .s)) (offset-on p r g v k m c (f .z) (f .s) (f .d) zb (f .drv) n (chunk-on (f .d) (f .drv) n) .0) .1)))
+            (omega (
+              arith,
+              off-here n,
+              pointer-is v (f .d) (f .z),
+              stored-below p (zoneAt v (f .d) (f .z)) (offsetOn (G (f .z)) (f .d) (f .s))
+                  (offset-on p r g v k m c (f .z) (f .s) (f .d) zb (f .drv) n (chunk-on (f .d) (f .drv) n) .0) .1,
+            )))
 
     -- the block that is read is the piece's
     read-stored : f .d ≢ m → readPiece p v (named m) (compactTable p (segments p v (named m))) (here (x .place)) .block ≡ pieceOf p (named m) (G (f .z)) (f .s) (f .d) .block
@@ -236,14 +252,17 @@ module _ (p : Params) (r : Ranged p) (g : Ghost) (dk : Disk) (w : Whole p dk) (k
     unfolding storedAt chunkAt
     block-at d l n =
         ap (λ (i : ℕ). getD (zoneAt v d (f .z) .blocks) i noChunk .block)
-        (ap (λ (i : ℕ). 1 + i) (shown-first p r g v k m c (f .z) (f .s) d (f .rem) l n (chunk-on d l n)) ∙ (let e : 1 + offsetOn (G (f .z)) d (f .s) ≡ suc (offsetOn (G (f .z)) d (f .s)) = omega arith in e))
+        (ap (λ (i : ℕ). 1 + i) (shown-first p r g v k m c (f .z) (f .s) d (f .rem) l n (chunk-on d l n))
+        ∙ (let e : 1 + offsetOn (G (f .z)) d (f .s) ≡ suc (offsetOn (G (f .z)) d (f .s)) = omega arith in e))
         ∙ sym (ap (λ (y : Piece). y .block) (stored-piece p r g v k m c (f .z) (f .s) d zb l n (chunk-on d l n)))
 
     read-decoded : f .d ≡ m → readPiece p v (named m) (compactTable p (segments p v (named m))) (away (x .place)) .block ≡ pieceOf p (named m) (G (f .z)) (f .s) (f .d) .block
     unfolding readPiece decodedAt parityPiece
     read-decoded e =
         rw (place-z, place-b) (
-        ap (λ (s : ℕ). parity (p .B) (map (λ (q : Piece). q .block) (map (λ d. storedAt p v (named m) d (f .z) (firstOr 0 (shownAt p v (compactTable p (segments p v (named m))) d (f .z) s))) (present p (named m)))))
+        ap (λ (s : ℕ). parity (p .B) (map (λ (q : Piece). q .block)
+        (map (λ d. storedAt p v (named m) d (f .z) (firstOr 0 (shownAt p v (compactTable p (segments p v (named m))) d (f .z) s)))
+        (present p (named m)))))
         (let i : 1 + off - 1 ≡ f .s = omega (arith, off-lost e) in i)
         ∙ ap (parity (p .B)) (same (present p (named m)) (λ d i. present-has p r m d i))
         ∙ sym (ap (λ (y : Piece). y .block) (ap (pieceOf p (named m) (G (f .z)) (f .s)) e ∙ piece-lost p r g v k m c (f .z) (f .s) (subst (λ (y : ℕ). y < p .N) e (f .drv)))))
@@ -256,7 +275,9 @@ module _ (p : Params) (r : Ranged p) (g : Ghost) (dk : Disk) (w : Whole p dk) (k
 
     no-decode-fault : f .d ≡ m → decodeFaults p v (named m) (compactTable p (segments p v (named m))) (away (x .place)) ≡ []
     unfolding decodeFaults shown
-    no-decode-fault e = nothing (any isNil (map (λ d. shownAt p v (compactTable p (segments p v (named m))) d (placeZone p (x .place)) (placeBlock p (x .place) - 1)) (present p (named m)))) (placeZone p (x .place)) go
+    no-decode-fault e =
+        nothing (any isNil (map (λ d. shownAt p v (compactTable p (segments p v (named m))) d (placeZone p (x .place)) (placeBlock p (x .place) - 1))
+        (present p (named m)))) (placeZone p (x .place)) go
       where
         nothing : (b : Bool) (z : ℕ) → b ≡ false → consIf b z [] ≡ []
         nothing true z e = true≢false (sym e)
@@ -278,7 +299,8 @@ module _ (p : Params) (r : Ranged p) (g : Ghost) (dk : Disk) (w : Whole p dk) (k
     piece-long = go (ℕ-discrete (f .d) m)
       where
         go : Dec (f .d ≡ m) → length (pieceOf p (named m) (G (f .z)) (f .s) (f .d) .block) ≡ p .B
-        go (no n) = ap (λ (y : Piece). length (y .block)) (piece-here p r g v k m c (f .z) (f .s) (f .d) (f .drv) n) ∙ stored-long p r g v k m c (f .z) (f .s) (f .d) zb (f .drv) n (chunk-on (f .d) (f .drv) n)
+        go (no n) =
+            ap (λ (y : Piece). length (y .block)) (piece-here p r g v k m c (f .z) (f .s) (f .d) (f .drv) n) ∙ stored-long p r g v k m c (f .z) (f .s) (f .d) zb (f .drv) n (chunk-on (f .d) (f .drv) n)
         go (yes e) = ap (λ (y : Piece). length (y .block)) (ap (pieceOf p (named m) (G (f .z)) (f .s)) e ∙ piece-lost p r g v k m c (f .z) (f .s) (subst (λ (y : ℕ). y < p .N) e (f .drv)))
             ∙ parity-long
           where
@@ -299,7 +321,8 @@ module _ (p : Params) (r : Ranged p) (g : Ghost) (dk : Disk) (w : Whole p dk) (k
         found : (b : Bool) → isIn (named m) (f .d) ≡ b → lookup p (mem .state .missing) (mem .addresses) a ≡ cond b (away (x .place)) (here (x .place))
         found b q = unfold lookup in (
             ap₂ (λ (n i : ℕ). cond (eqb i neverPlace) nowhere (cond (isIn n (placeDrive p i)) (away i) (here i))) (t .missing) entry
-            ∙ cond-false (eqb (x .place) neverPlace) nowhere (cond (isIn (named m) (placeDrive p (x .place))) (away (x .place)) (here (x .place))) (ne-eqb (x .place) neverPlace (omega (arith, place-low)))
+            ∙ cond-false (eqb (x .place) neverPlace) nowhere (cond (isIn (named m) (placeDrive p (x .place))) (away (x .place)) (here (x .place)))
+            (ne-eqb (x .place) neverPlace (omega (arith, place-low)))
             ∙ ap (λ (y : Bool). cond y (away (x .place)) (here (x .place))) (ap (isIn (named m)) place-d ∙ q))
 
         go : Dec (f .d ≡ m) → seenAt p (mkWorld dk mem) a ≡ got (pieceOf p (named m) (G (f .z)) (f .s) (f .d) .block)
@@ -307,7 +330,8 @@ module _ (p : Params) (r : Ranged p) (g : Ghost) (dk : Disk) (w : Whole p dk) (k
             seen-here p dk mem a h₁ h₂ l (t .ok) (x .place) (found false (not-named p r m (f .d) (f .drv) n)) (ap (λ (i : ℕ). placeFaults p v i (x .place)) (t .missing) ∙ no-place-fault)
             ∙ ap got (ap₂ (λ (i : ℕ) (cs : List ℕ). readPiece p v i cs (here (x .place)) .block) (t .missing) (t .compact) ∙ read-stored n)
         go (yes n) =
-            seen-away p dk mem a h₁ h₂ l (t .ok) (x .place) (found true (is-named p r m (f .d) (f .drv) ∙ eq-eqb (f .d) m n)) (ap (λ (i : ℕ). placeFaults p v i (x .place)) (t .missing) ∙ no-place-fault)
+            seen-away p dk mem a h₁ h₂ l (t .ok) (x .place) (found true (is-named p r m (f .d) (f .drv) ∙ eq-eqb (f .d) m n))
+            (ap (λ (i : ℕ). placeFaults p v i (x .place)) (t .missing) ∙ no-place-fault)
             (ap₂ (λ (i : ℕ) (cs : List ℕ). decodeFaults p v i cs (away (x .place))) (t .missing) (t .compact) ∙ no-decode-fault n)
             ∙ ap got (ap₂ (λ (i : ℕ) (cs : List ℕ). readPiece p v i cs (away (x .place)) .block) (t .missing) (t .compact) ∙ read-decoded n)
 

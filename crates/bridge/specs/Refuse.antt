@@ -15,7 +15,8 @@ use Rattle.defs.specs.Calls.{Check, ninth, ruled, firstRefusal}
 use Rattle.defs.specs.Calls.Check.{rule}
 use Rattle.defs.specs.Counts.{paddingAddress, lastCount}
 use Rattle.defs.specs.Drives.{Chunk, mkChunk, noChunk, Zone, noZone, View, zoneAt, pointerAt, chunkAt, segmentNumbers, zoneOn, dataStored, blocksOf, footersOf, zeroSpare}
-use Rattle.defs.specs.Faults.{pointerFaults, sameChunk, headerFault, serialFault, outside, twice, stripeFault, badRec, storedBad, decodedBad, addressFault, footersStored, sameBlocks, footerFaultIn, footerFault, clashes, segmentFault, segmentFaults, imageChecks}
+use Rattle.defs.specs.Faults.{pointerFaults, sameChunk, headerFault, serialFault, outside, twice, stripeFault, badRec, storedBad, decodedBad, addressFault}
+use Rattle.defs.specs.Faults.{footersStored, sameBlocks, footerFaultIn, footerFault, clashes, segmentFault, segmentFaults, imageChecks}
 use Rattle.defs.specs.Layout.{parityDrive, isData, group, inGroupOf, headerBlock, headerSerial, headerCopied, Rec, mkRec, recordOf, footerBlock}
 use Rattle.defs.specs.Lists.Opt.{none}
 use Rattle.defs.specs.Lists.{upFrom, below, all, any, consIf, keep, isNil, sameList}
@@ -182,18 +183,23 @@ module _ (p : Params) (r : Ranged p) (g : Ghost) (v : View) (k : OnDrives p r g 
     unfolding headerFault
     header-fine = none-present p r m
         (λ d. not (sameChunk (getD (getD (G z .zonesBy) d noZone .blocks) 0 noChunk) (headerBlock p d (zoneOn (G z .seg) d) (G z .serial) (G z .copied)) zeroSpare)) (λ d l n.
-        ap not (subst (λ (q : Zone). sameChunk (getD (q .blocks) 0 noChunk) (headerBlock p d (zoneOn (G z .seg) d) (G z .serial) (G z .copied)) zeroSpare ≡ true) (sym (zones-by p r g v k m c z d l)) (one d l n)))
+        ap not (subst (λ (q : Zone). sameChunk (getD (q .blocks) 0 noChunk) (headerBlock p d (zoneOn (G z .seg) d) (G z .serial) (G z .copied))
+        zeroSpare
+        ≡ true) (sym (zones-by p r g v k m c z d l)) (one d l n)))
       where
         one : (d : ℕ) → d < p .N → d ≢ m → sameChunk (getD (zoneAt v d z .blocks) 0 noChunk) (headerBlock p d (zoneOn (G z .seg) d) (G z .serial) (G z .copied)) zeroSpare ≡ true
         one d l n =
             let t : d ≢ g .un = trusted p r g v k m c d l n in
             let a : (headerSerial (headerAt v d z) ≡ g .hd .ser z) × (headerCopied (headerAt v d z) ≡ g .hd .cop z) = head-serials p r g v k d z l t b (begun d l n) in
-            let w : (headerSerial (headerAt v (lowDrive p (named m)) z) ≡ g .hd .ser z) × (headerCopied (headerAt v (lowDrive p (named m)) z) ≡ g .hd .cop z) = low-serials p r g v k m c z (R? .left) in
+            let w : (headerSerial (headerAt v (lowDrive p (named m)) z) ≡ g .hd .ser z) × (headerCopied (headerAt v (lowDrive p (named m)) z) ≡ g .hd .cop z) =
+            low-serials p r g v k m c z (R? .left) in
             let h : blockIn (zoneAt v d z) 0 ≡ mkChunk (headerBlock p d z (headerSerial (headerAt v d z)) (headerCopied (headerAt v d z))) zeroSpare = whole d l n in
-            let e : mkChunk (headerBlock p d z (headerSerial (headerAt v d z)) (headerCopied (headerAt v d z))) zeroSpare ≡ mkChunk (headerBlock p d (zoneOn (G z .seg) d) (G z .serial) (G z .copied)) zeroSpare =
+            let e : mkChunk (headerBlock p d z (headerSerial (headerAt v d z)) (headerCopied (headerAt v d z))) zeroSpare
+            ≡ mkChunk (headerBlock p d (zoneOn (G z .seg) d) (G z .serial) (G z .copied)) zeroSpare =
             ap₂ (λ (x y : ℕ). mkChunk (headerBlock p d z x y) zeroSpare) (a .0 ∙ sym (w .0) ∙ sym (segment-fields p r g v k m c z .1)) (a .1 ∙ sym (w .1) ∙ sym (segment-fields p r g v k m c z .2))
             ∙ ap (λ (x : ℕ). mkChunk (headerBlock p d x (G z .serial) (G z .copied)) zeroSpare) (sym (on d)) in
-            subst (λ (x : Chunk). sameChunk x (headerBlock p d (zoneOn (G z .seg) d) (G z .serial) (G z .copied)) zeroSpare ≡ true) (sym (h ∙ e)) (chunk-self (headerBlock p d (zoneOn (G z .seg) d) (G z .serial) (G z .copied)) zeroSpare)
+            subst (λ (x : Chunk). sameChunk x (headerBlock p d (zoneOn (G z .seg) d) (G z .serial) (G z .copied)) zeroSpare ≡ true) (sym (h ∙ e))
+            (chunk-self (headerBlock p d (zoneOn (G z .seg) d) (G z .serial) (G z .copied)) zeroSpare)
           where
             on : (d : ℕ) → zoneOn (G z .seg) d ≡ z
             on d = unfold zoneOn in segment-fields p r g v k m c z .0
@@ -206,10 +212,12 @@ module _ (p : Params) (r : Ranged p) (g : Ghost) (v : View) (k : OnDrives p r g 
 
     -- ---- stripe numbers
     off-rec : (d o : ℕ) → d < p .N → d ≢ m → o < dataStored p (zoneAt v d z)
-        → Off (itemsIn p v d z) (suc o) (chunk (recordOf (blockIn (zoneAt v d z) (suc o) .spare) .stripe) (valueOf (blockIn (zoneAt v d z) (suc o) .block) (recordOf (blockIn (zoneAt v d z) (suc o) .spare))))
+        → Off (itemsIn p v d z) (suc o) (chunk (recordOf (blockIn (zoneAt v d z) (suc o) .spare) .stripe)
+        (valueOf (blockIn (zoneAt v d z) (suc o) .block) (recordOf (blockIn (zoneAt v d z) (suc o) .spare))))
     off-rec d o l n w =
         let s : (o < p .S) × (suc o < zoneAt v d z .pointer) = stored-below p (zoneAt v d z) o w in
-        subst (λ (y : List Item). Off y (suc o) (chunk (recordOf (blockIn (zoneAt v d z) (suc o) .spare) .stripe) (valueOf (blockIn (zoneAt v d z) (suc o) .block) (recordOf (blockIn (zoneAt v d z) (suc o) .spare)))))
+        subst (λ (y : List Item). Off y (suc o) (chunk (recordOf (blockIn (zoneAt v d z) (suc o) .spare) .stripe)
+        (valueOf (blockIn (zoneAt v d z) (suc o) .block) (recordOf (blockIn (zoneAt v d z) (suc o) .spare)))))
         (sym (items-in p v d z)) (unfold chunkItem in chunk-of p (zoneAt v d z) (zone-low p r g v k d z l (trusted p r g v k m c d l n) b) o (s .0) (s .1))
 
     stripes-fine : stripeFault p (named m) (G z) ≡ false
@@ -236,10 +244,14 @@ module _ (p : Params) (r : Ranged p) (g : Ghost) (v : View) (k : OnDrives p r g 
         once d l n = twice-none (spareRecs p (zoneAt v d z)) (λ i j a a′ e.
             let ia : i < dataStored p (zoneAt v d z) = omega (arith, a, length-spareRecs p (zoneAt v d z)) in
             let ja : j < dataStored p (zoneAt v d z) = omega (arith, a′, length-spareRecs p (zoneAt v d z)) in
-            let q : recordOf (blockIn (zoneAt v d z) (suc i) .spare) .stripe ≡ recordOf (blockIn (zoneAt v d z) (suc j) .spare) .stripe = ap (λ (x : Rec). x .stripe) (sym (at d i a)) ∙ e ∙ ap (λ (x : Rec). x .stripe) (at d j a′) in
+            let q : recordOf (blockIn (zoneAt v d z) (suc i) .spare) .stripe ≡ recordOf (blockIn (zoneAt v d z) (suc j) .spare) .stripe =
+            ap (λ (x : Rec). x .stripe) (sym (at d i a)) ∙ e ∙ ap (λ (x : Rec). x .stripe) (at d j a′) in
             let w : suc i ≡ suc j = zone-facts p r g v k d z l (trusted p r g v k m c d l n) .once (suc i) (suc j) (recordOf (blockIn (zoneAt v d z) (suc j) .spare) .stripe)
-            (valueOf (blockIn (zoneAt v d z) (suc i) .block) (recordOf (blockIn (zoneAt v d z) (suc i) .spare))) (valueOf (blockIn (zoneAt v d z) (suc j) .block) (recordOf (blockIn (zoneAt v d z) (suc j) .spare)))
-            (subst (λ (s : ℕ). Off (itemsIn p v d z) (suc i) (chunk s (valueOf (blockIn (zoneAt v d z) (suc i) .block) (recordOf (blockIn (zoneAt v d z) (suc i) .spare))))) q (off-rec d i l n ia)) (off-rec d j l n ja) in
+            (valueOf (blockIn (zoneAt v d z) (suc i) .block) (recordOf (blockIn (zoneAt v d z) (suc i) .spare)))
+            (valueOf (blockIn (zoneAt v d z) (suc j) .block) (recordOf (blockIn (zoneAt v d z) (suc j) .spare)))
+            (subst (λ (s : ℕ). Off (itemsIn p v d z) (suc i)
+            (chunk s (valueOf (blockIn (zoneAt v d z) (suc i) .block) (recordOf (blockIn (zoneAt v d z) (suc i) .spare))))) q
+            (off-rec d i l n ia)) (off-rec d j l n ja) in
             omega (arith, w))
 
     -- ---- addresses
@@ -303,7 +315,9 @@ module _ (p : Params) (r : Ranged p) (g : Ghost) (v : View) (k : OnDrives p r g 
 
     addresses-fine : addressFault p (named m) (G z) ≡ false
     unfolding addressFault
-    addresses-fine = or-false (any (λ d. any (storedBad p d) (recsOn (G z) d)) (present p (named m))) (any (λ d. any (decodedBad p (named m) (G z) d) (counted p (named m) (G z))) (absent p (named m))) stored-fine decoded-fine
+    addresses-fine =
+        or-false (any (λ d. any (storedBad p d) (recsOn (G z) d)) (present p (named m)))
+        (any (λ d. any (decodedBad p (named m) (G z) d) (counted p (named m) (G z))) (absent p (named m))) stored-fine decoded-fine
 
     -- ---- footers
     footers-fine : footerFault p (named m) (G z) ≡ false
@@ -327,7 +341,9 @@ module _ (p : Params) (r : Ranged p) (g : Ghost) (v : View) (k : OnDrives p r g 
       one h (y, j, e) = rw e (go (ℕ-discrete y z))
         where
           go : Dec (y ≡ z) → test? (G y) ≡ false
-          go (yes q) = and-false-1 (not (eqb (G y .seg) (G z .seg))) (eqb (G y .serial) (G z .serial)) (ap not (eq-eqb (G y .seg) (G z .seg) (segment-fields p r g v k m c y .0 ∙ q ∙ sym (segment-fields p r g v k m c z .0))))
+          go (yes q) =
+              and-false-1 (not (eqb (G y .seg) (G z .seg))) (eqb (G y .serial) (G z .serial))
+              (ap not (eq-eqb (G y .seg) (G z .seg) (segment-fields p r g v k m c y .0 ∙ q ∙ sym (segment-fields p r g v k m c z .0))))
           go (no q) = and-false-2 (not (eqb (G y .seg) (G z .seg))) (eqb (G y .serial) (G z .serial)) (ne-eqb (G y .serial) (G z .serial) (λ w.
               q (k .facts .swap .serials y z (seg-used p r g v k m c y j) (seg-used p r g v k m c z i) (sym (serial-is p r g v k m c y j) ∙ w ∙ serial-is p r g v k m c z i))))
 
@@ -346,12 +362,17 @@ module _ (p : Params) (r : Ranged p) (g : Ghost) (v : View) (k : OnDrives p r g 
   segment-fine z i =
       let gs : List Segment = segments p v (named m) in
       let h₁ : (headerFault p (named m) (G z) || serialFault gs (G z)) ≡ false = or-false (headerFault p (named m) (G z)) (serialFault gs (G z)) (header-fine z i) (serials-fine z i) in
-      let h₂ : (headerFault p (named m) (G z) || serialFault gs (G z) || stripeFault p (named m) (G z)) ≡ false = or-false (headerFault p (named m) (G z) || serialFault gs (G z)) (stripeFault p (named m) (G z)) h₁ (stripes-fine z i) in
+      let h₂ : (headerFault p (named m) (G z) || serialFault gs (G z) || stripeFault p (named m) (G z)) ≡ false =
+      or-false (headerFault p (named m) (G z) || serialFault gs (G z)) (stripeFault p (named m) (G z)) h₁ (stripes-fine z i) in
       let h₃ : (headerFault p (named m) (G z) || serialFault gs (G z) || stripeFault p (named m) (G z) || addressFault p (named m) (G z)) ≡ false =
       or-false (headerFault p (named m) (G z) || serialFault gs (G z) || stripeFault p (named m) (G z)) (addressFault p (named m) (G z)) h₂ (addresses-fine z i) in
       let h₄ : (headerFault p (named m) (G z) || serialFault gs (G z) || stripeFault p (named m) (G z) || addressFault p (named m) (G z) || footerFault p (named m) (G z)) ≡ false =
       or-false (headerFault p (named m) (G z) || serialFault gs (G z) || stripeFault p (named m) (G z) || addressFault p (named m) (G z)) (footerFault p (named m) (G z)) h₃ (footers-fine z i) in
-      or-false (headerFault p (named m) (G z) || serialFault gs (G z) || stripeFault p (named m) (G z) || addressFault p (named m) (G z) || footerFault p (named m) (G z)) (not (G z .full) && leb 2 (length (unsealed gs))) h₄
+      or-false (headerFault p (named m) (G z)
+      || serialFault gs (G z)
+      || stripeFault p (named m) (G z)
+      || addressFault p (named m) (G z)
+      || footerFault p (named m) (G z)) (not (G z .full) && leb 2 (length (unsealed gs))) h₄
       (and-false-2 (not (G z .full)) (leb 2 (length (unsealed gs))) (lt-leb 2 (length (unsealed gs)) (omega (arith, one-unsealed))))
 
   segments-fine : segmentFaults p (named m) (segments p v (named m)) ≡ []
@@ -396,6 +417,8 @@ module _ (p : Params) (r : Ranged p) (g : Ghost) (v : View) (k : OnDrives p r g 
       let a₁ : (not (inRange p) || not (namesDrive p m)) ≡ false = or-false (not (inRange p)) (not (namesDrive p m)) (ap not h₁) (ap not h₂) in
       let a₂ : not long ≡ false = ap not h₃ in
       let a₈ : (rewrites p (named m) gs && isNil (freeZones p gs)) ≡ false = and-false-2 (rewrites p (named m) gs) (isNil (freeZones p gs)) free-zone in
-      ap₂ (λ (x y : Bool). ruled 1 x (ruled 2 y (firstRefusal (imageChecks p v (named m) gs ++ (rule 6 (rewrites p (named m) gs && eqb (greatestSerial gs) lastCount) ∷ rule 8 (rewrites p (named m) gs && isNil (freeZones p gs)) ∷ []))))) a₁ a₂
+      ap₂ (λ (x y : Bool). ruled 1 x (ruled 2 y (firstRefusal
+      (imageChecks p v (named m) gs ++ (rule 6 (rewrites p (named m) gs && eqb (greatestSerial gs) lastCount) ∷ rule 8
+      (rewrites p (named m) gs && isNil (freeZones p gs)) ∷ []))))) a₁ a₂
       ∙ image-passes (rule 6 (rewrites p (named m) gs && eqb (greatestSerial gs) lastCount) ∷ rule 8 (rewrites p (named m) gs && isNil (freeZones p gs)) ∷ [])
       ∙ ap₂ (λ (x y : Bool). ruled 6 x (ruled 8 y none)) h₆ a₈

@@ -68,11 +68,17 @@ replicate-has (suc n) a x (inr i) = replicate-has n a x i
 pub idle-ok : (p : Params) → Ranged p → (gone stamp serial opened next : ℕ) → gone < 2 ^ p .N → ones gone ≤ 1 → opened ≤ p .Z → next ≤ p .S
     → stateOk p (idleState 1 gone stamp serial opened next) ≡ true
 idle-ok p r gone stamp serial opened next h₁ h₂ h₃ h₄ =
-    go (all (slotOk p (idleState 1 gone stamp serial opened next)) slots) (has-all (slotOk p (idleState 1 gone stamp serial opened next)) slots (λ i m. idle-slot p r 1 gone stamp serial opened next i))
+    go (all (slotOk p (idleState 1 gone stamp serial opened next)) slots)
+    (has-all (slotOk p (idleState 1 gone stamp serial opened next)) slots (λ i m. idle-slot p r 1 gone stamp serial opened next i))
   where
     go : (b : Bool) → b ≡ true → stateOk p (idleState 1 gone stamp serial opened next) ≡ true
     go b e = unfold stateOk idleState in
-        and-both (eqb 1 1 && ltb gone (2 ^ p .N) && leb (ones gone) 1 && leb opened (p .Z) && leb next (p .S) && all (slotOk p (idleState 1 gone stamp serial opened next)) slots) (all (λ o. ltb o (p .S)) (replicate 64 0))
+        and-both (eqb 1 1
+        && ltb gone (2 ^ p .N)
+        && leb (ones gone) 1
+        && leb opened (p .Z)
+        && leb next (p .S)
+        && all (slotOk p (idleState 1 gone stamp serial opened next)) slots) (all (λ o. ltb o (p .S)) (replicate 64 0))
         (and-both (eqb 1 1 && ltb gone (2 ^ p .N) && leb (ones gone) 1 && leb opened (p .Z) && leb next (p .S)) (all (slotOk p (idleState 1 gone stamp serial opened next)) slots)
         (and-both (eqb 1 1 && ltb gone (2 ^ p .N) && leb (ones gone) 1 && leb opened (p .Z)) (leb next (p .S))
         (and-both (eqb 1 1 && ltb gone (2 ^ p .N) && leb (ones gone) 1) (leb opened (p .Z))
@@ -153,16 +159,26 @@ module _ (p : Params) (r : Ranged p) (g : Ghost) (v : View) (k : OnDrives p r g 
     addresses = refl;
     compact = refl;
     missing = unfold idleState in refl;
-    ok = idle-ok p r (named m) (greatestStamp (candidates p (named m) (segments p v (named m)))) (greatestSerial (segments p v (named m))) (openOf us) (nextOf p us) (named-lt p r m nm) (named-ones m) open-low next-low;
+    ok =
+        idle-ok p r (named m) (greatestStamp (candidates p (named m) (segments p v (named m)))) (greatestSerial (segments p v (named m))) (openOf us)
+        (nextOf p us) (named-lt p r m nm) (named-ones m) open-low next-low;
   }
 
   pub restart-lent : (dk : Disk) → Whole p dk → length fl ≡ inflightLen p → lentOk p dk (restartMemory p v (named m) fl) ≡ true
   unfolding lentOk restartMemory
   restart-lent dk w l =
-      and-both (eqb (length (dk .image)) (imageLen p) && eqb (length (dk .pointers)) (pointersLen p) && eqb (length (addressTable p (candidates p (named m) (segments p v (named m))))) (addressesLen p) && eqb (length (compactTable p (segments p v (named m)))) (compactLen p)) (eqb (length fl) (inflightLen p))
-      (and-both (eqb (length (dk .image)) (imageLen p) && eqb (length (dk .pointers)) (pointersLen p) && eqb (length (addressTable p (candidates p (named m) (segments p v (named m))))) (addressesLen p)) (eqb (length (compactTable p (segments p v (named m)))) (compactLen p))
-      (and-both (eqb (length (dk .image)) (imageLen p) && eqb (length (dk .pointers)) (pointersLen p)) (eqb (length (addressTable p (candidates p (named m) (segments p v (named m))))) (addressesLen p))
-      (and-both (eqb (length (dk .image)) (imageLen p)) (eqb (length (dk .pointers)) (pointersLen p)) (eq-eqb (length (dk .image)) (imageLen p) (w .image-long)) (eq-eqb (length (dk .pointers)) (pointersLen p) (w .pointers-long)))
+      and-both (eqb (length (dk .image)) (imageLen p)
+      && eqb (length (dk .pointers)) (pointersLen p)
+      && eqb (length (addressTable p (candidates p (named m) (segments p v (named m))))) (addressesLen p)
+      && eqb (length (compactTable p (segments p v (named m)))) (compactLen p)) (eqb (length fl) (inflightLen p))
+      (and-both (eqb (length (dk .image)) (imageLen p)
+      && eqb (length (dk .pointers)) (pointersLen p)
+      && eqb (length (addressTable p (candidates p (named m) (segments p v (named m))))) (addressesLen p))
+      (eqb (length (compactTable p (segments p v (named m)))) (compactLen p))
+      (and-both (eqb (length (dk .image)) (imageLen p) && eqb (length (dk .pointers)) (pointersLen p))
+      (eqb (length (addressTable p (candidates p (named m) (segments p v (named m))))) (addressesLen p))
+      (and-both (eqb (length (dk .image)) (imageLen p)) (eqb (length (dk .pointers)) (pointersLen p))
+      (eq-eqb (length (dk .image)) (imageLen p) (w .image-long)) (eq-eqb (length (dk .pointers)) (pointersLen p) (w .pointers-long)))
       (eq-eqb (length (addressTable p (candidates p (named m) (segments p v (named m))))) (addressesLen p) (length-addresses p (candidates p (named m) (segments p v (named m))))))
       (eq-eqb (length (compactTable p (segments p v (named m)))) (compactLen p) (length-compact p r g v k m c)))
       (eq-eqb (length fl) (inflightLen p) l)

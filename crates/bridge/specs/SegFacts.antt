@@ -37,7 +37,10 @@ module _ (p : Params) (r : Ranged p) (g : Ghost) (v : View) (k : OnDrives p r g 
   abbrev G : ℕ → Segment
   G z = segmentOf p v (named m) z
 
-  pub segment-fields : (z : ℕ) → (G z .seg ≡ z) × (G z .serial ≡ headerSerial (headerAt v (lowDrive p (named m)) z)) × (G z .copied ≡ headerCopied (headerAt v (lowDrive p (named m)) z)) × (G z .full ≡ sealedIn p v (named m) z)
+  pub segment-fields :
+      (z : ℕ)
+      → (G z .seg ≡ z) × (G z .serial ≡ headerSerial (headerAt v (lowDrive p (named m)) z)) ×
+      (G z .copied ≡ headerCopied (headerAt v (lowDrive p (named m)) z)) × (G z .full ≡ sealedIn p v (named m) z)
   unfolding segmentOf
   segment-fields z = (refl, refl, refl, refl)
 
@@ -64,7 +67,8 @@ module _ (p : Params) (r : Ranged p) (g : Ghost) (v : View) (k : OnDrives p r g 
     pub ragged-of : G z .full ≡ false → Ragged (parOf p r) m (itemsIn p v) z
     unfolding sealedIn zoneOn
     ragged-of e =
-        let a : (d : ℕ) × Has d (present p (named m)) × (eqb (pointerAt v d z) (capacity p) ≡ false) = all-false (λ d. eqb (pointerAt v d z) (capacity p)) (present p (named m)) (sym (segment-fields z .3) ∙ e) in
+        let a : (d : ℕ) × Has d (present p (named m)) × (eqb (pointerAt v d z) (capacity p) ≡ false) =
+        all-false (λ d. eqb (pointerAt v d z) (capacity p)) (present p (named m)) (sym (segment-fields z .3) ∙ e) in
         let l : (a .0 < p .N) × (a .0 ≢ m) = present-has p r m (a .0) (a .1) in
         let t : a .0 ≢ g .un = trusted p r g v k m c (a .0) (l .0) (l .1) in
         let n : length (itemsIn p v (a .0) z) ≡ pointerAt v (a .0) z = zone-len p r g v k (a .0) z (l .0) t seg-low in

@@ -96,7 +96,12 @@ pub follows-nil : (p : Params) (v : View) → Follows p v [] []
 unfolding storeItems
 follows-nil p v = record { sound = tt; items = refl }
 
-pub follows-cons : (p : Params) (v : View) (s : Store) (ss : List Store) (m : m-Store) (ms : List m-Store) → Sound p v s → storeItem p v s ≡ m → Follows p (storeView s v) ss ms → Follows p v (s ∷ ss) (m ∷ ms)
+pub follows-cons :
+    (p : Params) (v : View) (s : Store) (ss : List Store) (m : m-Store) (ms : List m-Store)
+    → Sound p v s
+    → storeItem p v s ≡ m
+    → Follows p (storeView s v) ss ms
+    → Follows p v (s ∷ ss) (m ∷ ms)
 unfolding storeItems
 follows-cons p v s ss m ms a e f = record { sound = (a, f .sound); items = ap₂ (λ (x : m-Store) (y : List m-Store). x ∷ y) e (f .items) }
 
@@ -122,7 +127,8 @@ store-put p v d z b t k = ap (m-put d z) (kind-item p d z (zoneAt v d z) b t k)
 pub items-put-kind : (p : Params) → Ranged p → (v : View) (d z : ℕ) (b t : List ℕ) → Shape p v → d < p .N → z < p .Z → (k : Kind p d z (zoneAt v d z) b t)
     → itemsIn p (storeView (put d z b t) v) ≡ after (itemsIn p v) d z (kindItem p d z (zoneAt v d z) b t k)
 items-put-kind p r v d z b t h l m k =
-    items-put p v h d z b t l m (sound-fits p r v (put d z b t) h (l, m, k) .2) ∙ ap (after (itemsIn p v) d z) (ap (λ (n : ℕ). itemAt p n (mkChunk b t)) (pointer-at-is v d z) ∙ kind-item p d z (zoneAt v d z) b t k)
+    items-put p v h d z b t l m (sound-fits p r v (put d z b t) h (l, m, k) .2)
+    ∙ ap (after (itemsIn p v) d z) (ap (λ (n : ℕ). itemAt p n (mkChunk b t)) (pointer-at-is v d z) ∙ kind-item p d z (zoneAt v d z) b t k)
   where
     pointer-at-is : (v : View) (d z : ℕ) → pointerAt v d z ≡ zoneAt v d z .pointer
     pointer-at-is v d z = unfold pointerAt in refl

@@ -169,7 +169,12 @@ module _ (p : Params) (r : Ranged p) (g : Ghost) (v : View) (k : OnDrives p r g 
       (λ d l. length-flat-below (λ z. compactRow p (rowOf p (segments p v (named m)) d z)) (p .S) (p .Z) (λ z b. row-long d z l b))
       ∙ sym (mul-assoc (p .N) (p .Z) (p .S))
 
-  pub compact-entry : (d z o : ℕ) → d < p .N → z < p .Z → o < p .S → getD (compactTable p (segments p v (named m))) (compactAt p d z o) 0 ≡ getD (compactRow p (rowOf p (segments p v (named m)) d z)) o 0
+  pub compact-entry :
+      (d z o : ℕ)
+      → d < p .N
+      → z < p .Z
+      → o < p .S
+      → getD (compactTable p (segments p v (named m))) (compactAt p d z o) 0 ≡ getD (compactRow p (rowOf p (segments p v (named m)) d z)) o 0
   unfolding compactTable drivesOf compactAt
   compact-entry d z o l b s =
       let e : (d * p .Z + z) * p .S + o ≡ d * (p .Z * p .S) + (z * p .S + o) = omega (arith, add-mul (d * p .Z) z (p .S), mul-assoc d (p .Z) (p .S)) in
@@ -227,10 +232,15 @@ module _ (p : Params) (r : Ranged p) (g : Ghost) (v : View) (k : OnDrives p r g 
     stripeAt : ℕ → ℕ
     stripeAt o = recordOf (blockIn (zoneAt v d z) (suc o) .spare) .stripe
 
-    at-off : (o : ℕ) → o < dataStored p (zoneAt v d z) → Off (itemsIn p v d z) (suc o) (chunk (recordOf (blockIn (zoneAt v d z) (suc o) .spare) .stripe) (valueOf (blockIn (zoneAt v d z) (suc o) .block) (recordOf (blockIn (zoneAt v d z) (suc o) .spare))))
+    at-off :
+        (o : ℕ)
+        → o < dataStored p (zoneAt v d z)
+        → Off (itemsIn p v d z) (suc o) (chunk (recordOf (blockIn (zoneAt v d z) (suc o) .spare) .stripe)
+        (valueOf (blockIn (zoneAt v d z) (suc o) .block) (recordOf (blockIn (zoneAt v d z) (suc o) .spare))))
     at-off o w =
         let j : (o < p .S) × (suc o < zoneAt v d z .pointer) = stored-below p (zoneAt v d z) o w in
-        subst (λ (y : List Item). Off y (suc o) (chunk (recordOf (blockIn (zoneAt v d z) (suc o) .spare) .stripe) (valueOf (blockIn (zoneAt v d z) (suc o) .block) (recordOf (blockIn (zoneAt v d z) (suc o) .spare)))))
+        subst (λ (y : List Item). Off y (suc o) (chunk (recordOf (blockIn (zoneAt v d z) (suc o) .spare) .stripe)
+        (valueOf (blockIn (zoneAt v d z) (suc o) .block) (recordOf (blockIn (zoneAt v d z) (suc o) .spare)))))
         (sym (items-in p v d z)) (unfold chunkItem in chunk-of p (zoneAt v d z) (zone-low p r g v k d z l (trusted p r g v k m c d l n) b) o (j .0) (j .1))
 
     grp-at : (o : ℕ) → o < dataStored p (zoneAt v d z) → group p (recordOf (blockIn (zoneAt v d z) (suc o) .spare) .stripe) ≡ group p o
@@ -241,8 +251,11 @@ module _ (p : Params) (r : Ranged p) (g : Ghost) (v : View) (k : OnDrives p r g 
         → recordOf (blockIn (zoneAt v d z) (suc o) .spare) .stripe ≡ recordOf (blockIn (zoneAt v d z) (suc j) .spare) .stripe → o ≡ j
     same-off o j a a′ e =
         let w : suc o ≡ suc j = zone-facts p r g v k d z l (trusted p r g v k m c d l n) .once (suc o) (suc j) (recordOf (blockIn (zoneAt v d z) (suc j) .spare) .stripe)
-        (valueOf (blockIn (zoneAt v d z) (suc o) .block) (recordOf (blockIn (zoneAt v d z) (suc o) .spare))) (valueOf (blockIn (zoneAt v d z) (suc j) .block) (recordOf (blockIn (zoneAt v d z) (suc j) .spare)))
-        (subst (λ (s : ℕ). Off (itemsIn p v d z) (suc o) (chunk s (valueOf (blockIn (zoneAt v d z) (suc o) .block) (recordOf (blockIn (zoneAt v d z) (suc o) .spare))))) e (at-off o a)) (at-off j a′) in
+        (valueOf (blockIn (zoneAt v d z) (suc o) .block) (recordOf (blockIn (zoneAt v d z) (suc o) .spare)))
+        (valueOf (blockIn (zoneAt v d z) (suc j) .block) (recordOf (blockIn (zoneAt v d z) (suc j) .spare)))
+        (subst (λ (s : ℕ). Off (itemsIn p v d z) (suc o)
+        (chunk s (valueOf (blockIn (zoneAt v d z) (suc o) .block) (recordOf (blockIn (zoneAt v d z) (suc o) .spare))))) e (at-off o a))
+        (at-off j a′) in
         omega (arith, w)
 
     has-shown : Has (offsetOn (G z) d s) (shownAt p v (compactTable p (segments p v (named m))) d z s)
@@ -254,7 +267,8 @@ module _ (p : Params) (r : Ranged p) (g : Ghost) (v : View) (k : OnDrives p r g 
         (of-group (offsetOn (G z) d s) s (j .0) (sym (grp-at (offsetOn (G z) d s) (w .0)) ∙ ap (group p) (w .1)))
         (and-both (ltb (1 + offsetOn (G z) d s) (pointerAt v d z)) (eqb (getD (compactTable p (segments p v (named m))) (compactAt p d z (offsetOn (G z) d s)) 0) (compactEntry p s))
         (lt-ltb (1 + offsetOn (G z) d s) (pointerAt v d z) (omega (arith, j .1, pointer-is v d z)))
-        (eq-eqb (getD (compactTable p (segments p v (named m))) (compactAt p d z (offsetOn (G z) d s)) 0) (compactEntry p s) (compact-chunk d z (offsetOn (G z) d s) i l n (w .0) ∙ ap (compactEntry p) (w .1))))
+        (eq-eqb (getD (compactTable p (segments p v (named m))) (compactAt p d z (offsetOn (G z) d s)) 0) (compactEntry p s)
+        (compact-chunk d z (offsetOn (G z) d s) i l n (w .0) ∙ ap (compactEntry p) (w .1))))
 
     shown-has : (o : ℕ) → Has o (shownAt p v (compactTable p (segments p v (named m))) d z s) → o ≡ offsetOn (G z) d s
     unfolding shownAt
@@ -262,10 +276,14 @@ module _ (p : Params) (r : Ranged p) (g : Ghost) (v : View) (k : OnDrives p r g 
         let a : Has o (groupOffsets p s) × ((ltb (1 + o) (pointerAt v d z) && eqb (getD (compactTable p (segments p v (named m))) (compactAt p d z o) 0) (compactEntry p s)) ≡ true) =
         keep-has (λ o. ltb (1 + o) (pointerAt v d z) && eqb (getD (compactTable p (segments p v (named m))) (compactAt p d z o) 0) (compactEntry p s)) o (groupOffsets p s) x in
         let e : (o < p .S) × (group p o ≡ group p s) = in-group o s (a .0) in
-        let f : 1 + o < pointerAt v d z = ltb-true (1 + o) (pointerAt v d z) (and-left (ltb (1 + o) (pointerAt v d z)) (eqb (getD (compactTable p (segments p v (named m))) (compactAt p d z o) 0) (compactEntry p s)) (a .1)) in
+        let f : 1 + o < pointerAt v d z =
+        ltb-true (1 + o) (pointerAt v d z) (and-left (ltb (1 + o) (pointerAt v d z))
+        (eqb (getD (compactTable p (segments p v (named m))) (compactAt p d z o) 0) (compactEntry p s)) (a .1)) in
         let w : o < dataStored p (zoneAt v d z) = below-stored p (zoneAt v d z) o (e .0) (omega (arith, f, pointer-is v d z)) in
         let t : compactEntry p (recordOf (blockIn (zoneAt v d z) (suc o) .spare) .stripe) ≡ compactEntry p s = sym (compact-chunk d z o i l n w)
-        ∙ eqb-true (getD (compactTable p (segments p v (named m))) (compactAt p d z o) 0) (compactEntry p s) (and-right (ltb (1 + o) (pointerAt v d z)) (eqb (getD (compactTable p (segments p v (named m))) (compactAt p d z o) 0) (compactEntry p s)) (a .1)) in
+        ∙ eqb-true (getD (compactTable p (segments p v (named m))) (compactAt p d z o) 0) (compactEntry p s)
+        (and-right (ltb (1 + o) (pointerAt v d z)) (eqb (getD (compactTable p (segments p v (named m))) (compactAt p d z o) 0) (compactEntry p s))
+        (a .1)) in
         let u : recordOf (blockIn (zoneAt v d z) (suc o) .spare) .stripe ≡ s = same-stripe (recordOf (blockIn (zoneAt v d z) (suc o) .spare) .stripe) s (grp-at o w ∙ e .1) t in
         let y : (offsetOn (G z) d s < dataStored p (zoneAt v d z)) × (recordOf (blockIn (zoneAt v d z) (suc (offsetOn (G z) d s)) .spare) .stripe ≡ s) = offset-on p r g v k m c z s d b l n h in
         same-off o (offsetOn (G z) d s) w (y .0) (u ∙ sym (y .1))

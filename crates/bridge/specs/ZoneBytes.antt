@@ -77,7 +77,9 @@ module _ (p : Params) (h : Ranged p) (q : Zone) (s : ZoneShape p q) where
   pub spare-in : (o : ℕ) → o < p .S → getD (sparesIn p q) o [] ≡ blockIn q (suc o) .spare
   spare-in o l =
       getD-spares (take (p .S) (drop 1 (q .blocks))) o
-      ∙ ap (λ (c : Chunk). c .spare) (getD-take (p .S) (drop 1 (q .blocks)) o noChunk l ∙ getD-drop 1 (q .blocks) o noChunk ∙ ap (λ (k : ℕ). getD (q .blocks) k noChunk) (let e : 1 + o ≡ suc o = omega arith in e))
+      ∙ ap (λ (c : Chunk). c .spare) (getD-take (p .S) (drop 1 (q .blocks)) o noChunk l
+      ∙ getD-drop 1 (q .blocks) o noChunk
+      ∙ ap (λ (k : ℕ). getD (q .blocks) k noChunk) (let e : 1 + o ≡ suc o = omega arith in e))
 
   pub spares-long : AllLong spareLen (sparesIn p q)
   spares-long = long-spares (take (p .S) (drop 1 (q .blocks))) (λ k l.
@@ -160,7 +162,9 @@ module _ (p : Params) (h : Ranged p) (d z : ℕ) (q : Zone) (s : ZoneShape p q) 
   pub bytes-put : (b t : List ℕ) → Kind p d z q b t → ZoneBytes p d z q → ZoneBytes p d z (putZone b t q)
   bytes-put _ _ (header ser cop e a c) f = record {
     low = omega (arith, e, pointer-put (headerBlock p d z ser cop) zeroSpare, capacity-few p h);
-    head = λ l. rw new (let m : mkChunk (headerBlock p d z ser cop) zeroSpare ≡ mkChunk (headerBlock p d z (headerSerial (headerBlock p d z ser cop)) (headerCopied (headerBlock p d z ser cop))) zeroSpare =
+    head =
+        λ l. rw new (let m : mkChunk (headerBlock p d z ser cop) zeroSpare
+        ≡ mkChunk (headerBlock p d z (headerSerial (headerBlock p d z ser cop)) (headerCopied (headerBlock p d z ser cop))) zeroSpare =
         ap₂ (λ (x y : ℕ). mkChunk (headerBlock p d z x y) zeroSpare) (sym (header-serial p d z ser cop a)) (sym (header-copied p d z ser cop c)) in m);
     serials = λ l. rw new (subst (λ (n : ℕ). n < 256 ^ 8) (sym (header-serial p d z ser cop a)) a, subst (λ (n : ℕ). n < 256 ^ 8) (sym (header-copied p d z ser cop c)) c);
     wide = λ o l k. absurd (let j : ⊥ = omega (arith, k, pointer-put (headerBlock p d z ser cop) zeroSpare, e) in j);
@@ -195,7 +199,11 @@ module _ (p : Params) (h : Ranged p) (d z : ℕ) (q : Zone) (s : ZoneShape p q) 
       same : sparesIn p (putZone b zeroSpare q) ≡ sparesIn p q
       same = old-spares b zeroSpare j e
 
-      go : (i : ℕ) → suc (p .S + i) < putZone b zeroSpare q .pointer → Dec (i ≡ j) → blockIn (putZone b zeroSpare q) (suc (p .S + i)) ≡ mkChunk (footerBlock p (sparesIn p (putZone b zeroSpare q)) i) zeroSpare
+      go :
+          (i : ℕ)
+          → suc (p .S + i) < putZone b zeroSpare q .pointer
+          → Dec (i ≡ j)
+          → blockIn (putZone b zeroSpare q) (suc (p .S + i)) ≡ mkChunk (footerBlock p (sparesIn p (putZone b zeroSpare q)) i) zeroSpare
       go i k (yes n) =
           ap (blockIn (putZone b zeroSpare q)) (let m : suc (p .S + i) ≡ q .pointer = omega (arith, n, e) in m)
           ∙ new-block b zeroSpare (unfold capacity in omega (arith, e, l))

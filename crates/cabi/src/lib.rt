@@ -170,7 +170,11 @@ pub extern "C" fn sorgizhed_write(
     block: &[u8],
     count: u64,
 ) -> Told
-    ensures { λ r. ⌜ hears r (lending (now (image .exit)) (now (pointers .exit)) (now (addresses .exit)) (now (compact .exit)) (now (inflight .exit)) (now (state .exit))) (now (block .entry)) ≡ heard (callBytes (mkParams n b z s g l) (lending (now (image .entry)) (now (pointers .entry)) (now (addresses .entry)) (now (compact .entry)) (now (inflight .entry)) (now (state .entry))) (write address (now (block .entry)) count)) ⌝ }
+    ensures { λ r. ⌜
+        hears r (lending (now (image .exit)) (now (pointers .exit)) (now (addresses .exit)) (now (compact .exit)) (now (inflight .exit))
+        (now (state .exit))) (now (block .entry))
+        ≡ heard (callBytes (mkParams n b z s g l) (lending (now (image .entry)) (now (pointers .entry)) (now (addresses .entry))
+        (now (compact .entry)) (now (inflight .entry)) (now (state .entry))) (write address (now (block .entry)) count)) ⌝ }
 {
     let p = Params {
         N: n,
@@ -216,7 +220,11 @@ pub extern "C" fn sorgizhed_read(
     state: &[u8],
     address: u64,
 ) -> Told
-    ensures { λ r. ⌜ hears r (lending (now (image .entry)) (now (pointers .entry)) (now (addresses .entry)) (now (compact .entry)) (now (inflight .entry)) (now (state .entry))) [] ≡ heard (callBytes (mkParams n b z s g l) (lending (now (image .entry)) (now (pointers .entry)) (now (addresses .entry)) (now (compact .entry)) (now (inflight .entry)) (now (state .entry))) (read address)) ⌝ }
+    ensures { λ r. ⌜
+        hears r (lending (now (image .entry)) (now (pointers .entry)) (now (addresses .entry)) (now (compact .entry)) (now (inflight .entry))
+        (now (state .entry))) []
+        ≡ heard (callBytes (mkParams n b z s g l) (lending (now (image .entry)) (now (pointers .entry)) (now (addresses .entry))
+        (now (compact .entry)) (now (inflight .entry)) (now (state .entry))) (read address)) ⌝ }
 {
     let p = Params {
         N: n,
@@ -260,7 +268,11 @@ pub extern "C" fn sorgizhed_fill(
     address: u64,
     block: &mut [u8],
 ) -> Told
-    ensures { λ r. ⌜ hears r (lending (now (image .entry)) (now (pointers .entry)) (now (addresses .entry)) (now (compact .entry)) (now (inflight .entry)) (now (state .entry))) (now (block .exit)) ≡ heard (callBytes (mkParams n b z s g l) (lending (now (image .entry)) (now (pointers .entry)) (now (addresses .entry)) (now (compact .entry)) (now (inflight .entry)) (now (state .entry))) (fill address (now (block .entry)))) ⌝ }
+    ensures { λ r. ⌜
+        hears r (lending (now (image .entry)) (now (pointers .entry)) (now (addresses .entry)) (now (compact .entry)) (now (inflight .entry))
+        (now (state .entry))) (now (block .exit))
+        ≡ heard (callBytes (mkParams n b z s g l) (lending (now (image .entry)) (now (pointers .entry)) (now (addresses .entry))
+        (now (compact .entry)) (now (inflight .entry)) (now (state .entry))) (fill address (now (block .entry)))) ⌝ }
 {
     let p = Params {
         N: n,
@@ -303,7 +315,12 @@ pub extern "C" fn sorgizhed_close(
     inflight: &mut [u8],
     state: &mut [u8],
 ) -> Told
-    ensures { λ r. ⌜ ((count : ℕ) → hears r (lending (now (image .entry)) (now (pointers .entry)) (now (addresses .entry)) (now (compact .entry)) (now (inflight .exit)) (now (state .exit))) [] ≡ heard (callBytes (mkParams n b z s g l) (lending (now (image .entry)) (now (pointers .entry)) (now (addresses .entry)) (now (compact .entry)) (now (inflight .entry)) (now (state .entry))) (close count))) ⌝ }
+    ensures { λ r. ⌜
+        ((count : ℕ)
+        → hears r (lending (now (image .entry)) (now (pointers .entry)) (now (addresses .entry)) (now (compact .entry)) (now (inflight .exit))
+        (now (state .exit))) [] ≡ heard (callBytes (mkParams n b z s g l)
+        (lending (now (image .entry)) (now (pointers .entry)) (now (addresses .entry)) (now (compact .entry)) (now (inflight .entry))
+        (now (state .entry))) (close count))) ⌝ }
 {
     let p = Params {
         N: n,
@@ -340,7 +357,11 @@ pub extern "C" fn sorgizhed_land(
     stripe: usize,
     count: u64,
 ) -> Told
-    ensures { λ r. ⌜ hears r (lending (now (image .exit)) (now (pointers .exit)) (now (addresses .exit)) (now (compact .exit)) (now (inflight .entry)) (now (state .exit))) [] ≡ heard (callBytes (mkParams n b z s g l) (lending (now (image .entry)) (now (pointers .entry)) (now (addresses .entry)) (now (compact .entry)) (now (inflight .entry)) (now (state .entry))) (land drive stripe count)) ⌝ }
+    ensures { λ r. ⌜
+        hears r (lending (now (image .exit)) (now (pointers .exit)) (now (addresses .exit)) (now (compact .exit)) (now (inflight .entry))
+        (now (state .exit))) []
+        ≡ heard (callBytes (mkParams n b z s g l) (lending (now (image .entry)) (now (pointers .entry)) (now (addresses .entry))
+        (now (compact .entry)) (now (inflight .entry)) (now (state .entry))) (land drive stripe count)) ⌝ }
 {
     let p = Params {
         N: n,
@@ -386,7 +407,11 @@ pub extern "C" fn sorgizhed_reclaim(
     state: &mut [u8],
     count: u64,
 ) -> Told
-    ensures { λ r. ⌜ hears r (lending (now (image .exit)) (now (pointers .exit)) (now (addresses .exit)) (now (compact .exit)) (now (inflight .exit)) (now (state .exit))) [] ≡ heard (callBytes (mkParams n b z s g l) (lending (now (image .entry)) (now (pointers .entry)) (now (addresses .entry)) (now (compact .entry)) (now (inflight .entry)) (now (state .entry))) (reclaim count)) ⌝ }
+    ensures { λ r. ⌜
+        hears r (lending (now (image .exit)) (now (pointers .exit)) (now (addresses .exit)) (now (compact .exit)) (now (inflight .exit))
+        (now (state .exit))) []
+        ≡ heard (callBytes (mkParams n b z s g l) (lending (now (image .entry)) (now (pointers .entry)) (now (addresses .entry))
+        (now (compact .entry)) (now (inflight .entry)) (now (state .entry))) (reclaim count)) ⌝ }
 {
     let p = Params {
         N: n,
@@ -431,7 +456,11 @@ pub extern "C" fn sorgizhed_restart(
     missing: usize,
     count: u64,
 ) -> Told
-    ensures { λ r. ⌜ hears r (lending (now (image .exit)) (now (pointers .exit)) (now (addresses .exit)) (now (compact .exit)) (now (inflight .entry)) (now (state .exit))) [] ≡ heard (callBytes (mkParams n b z s g l) (lending (now (image .entry)) (now (pointers .entry)) (now (addresses .entry)) (now (compact .entry)) (now (inflight .entry)) (now (state .entry))) (restart missing count)) ⌝ }
+    ensures { λ r. ⌜
+        hears r (lending (now (image .exit)) (now (pointers .exit)) (now (addresses .exit)) (now (compact .exit)) (now (inflight .entry))
+        (now (state .exit))) []
+        ≡ heard (callBytes (mkParams n b z s g l) (lending (now (image .entry)) (now (pointers .entry)) (now (addresses .entry))
+        (now (compact .entry)) (now (inflight .entry)) (now (state .entry))) (restart missing count)) ⌝ }
 {
     let p = Params {
         N: n,
@@ -477,7 +506,11 @@ pub extern "C" fn sorgizhed_rebuild(
     drive: usize,
     count: u64,
 ) -> Told
-    ensures { λ r. ⌜ hears r (lending (now (image .exit)) (now (pointers .exit)) (now (addresses .exit)) (now (compact .exit)) (now (inflight .entry)) (now (state .exit))) [] ≡ heard (callBytes (mkParams n b z s g l) (lending (now (image .entry)) (now (pointers .entry)) (now (addresses .entry)) (now (compact .entry)) (now (inflight .entry)) (now (state .entry))) (rebuild drive count)) ⌝ }
+    ensures { λ r. ⌜
+        hears r (lending (now (image .exit)) (now (pointers .exit)) (now (addresses .exit)) (now (compact .exit)) (now (inflight .entry))
+        (now (state .exit))) []
+        ≡ heard (callBytes (mkParams n b z s g l) (lending (now (image .entry)) (now (pointers .entry)) (now (addresses .entry))
+        (now (compact .entry)) (now (inflight .entry)) (now (state .entry))) (rebuild drive count)) ⌝ }
 {
     let p = Params {
         N: n,

@@ -55,7 +55,8 @@ module _ (p : Params) (k : Disk) (m : Memory) where
       ∙ ap (λ (x : Disk). mkAfter (closePlan p m .answer) x (closePlan p m .memory) []) (sym (stores-nil (storeDisk p) n k))
       ∙ sym (call-done p (storeDisk p) n k m [] (refusal p k m) (closePlan p m) e (omega arith))
 
-  module _ (none! : refusal p k m ≡ none) (sized : Sized (m .state)) (h : fillingSlot p (m .state) < 8) (few : dataCount p ≤ 8) (room : filledIn (m .state) (fillingSlot p (m .state)) ≤ dataCount p) where
+  module _ (none! : refusal p k m ≡ none) (sized : Sized (m .state)) (h : fillingSlot p (m .state) < 8) (few : dataCount p ≤ 8)
+      (room : filledIn (m .state) (fillingSlot p (m .state)) ≤ dataCount p) where
     abbrev at : ℕ
     at = fillingSlot p (m .state)
 
@@ -63,9 +64,12 @@ module _ (p : Params) (k : Disk) (m : Memory) where
     abbrev pads : Row → PlacedRow
     pads r = paddedRow p at (dataCount p - r .filled) r (m .inflight)
 
-    row-pads : mkAfter (Closed (rowOf (m .state) at .number)) k (mkMemory (putRow (m .state) at (pads (rowOf (m .state) at) .row)) (m .addresses) (m .compact) (pads (rowOf (m .state) at) .inflight)) []
+    row-pads :
+        mkAfter (Closed (rowOf (m .state) at .number)) k
+        (mkMemory (putRow (m .state) at (pads (rowOf (m .state) at) .row)) (m .addresses) (m .compact) (pads (rowOf (m .state) at) .inflight)) []
         ≡ mkAfter (Closed (stripeIn (m .state) at)) k
-        (mkMemory (padded p at (dataCount p - filledIn (m .state) at) (m .state) (m .inflight) .state) (m .addresses) (m .compact) (padded p at (dataCount p - filledIn (m .state) at) (m .state) (m .inflight) .inflight)) []
+        (mkMemory (padded p at (dataCount p - filledIn (m .state) at) (m .state) (m .inflight) .state) (m .addresses) (m .compact)
+        (padded p at (dataCount p - filledIn (m .state) at) (m .state) (m .inflight) .inflight)) []
     unfolding rowOf
     row-pads =
         ap (λ (x : Placed). mkAfter (Closed (stripeIn (m .state) at)) k (mkMemory (x .state) (m .addresses) (m .compact) (x .inflight)) [])
@@ -78,7 +82,9 @@ module _ (p : Params) (k : Disk) (m : Memory) where
         let st = m .state in
         let e : r ≡ rowOf st at = er ∙ ap (rowOf st) ei in
         let w : Row = rowOf st at in
-        (λ j. afterChange st (closedAs (ef j) (ei j) (e j .number) ((el ∙ (λ x. paddedRow p (ei x) (dataCount p - e x .filled) (e x) (m .inflight) .row)) j)) (k .image) (k .pointers) (m .addresses) (m .compact)
+        (λ j. afterChange st
+        (closedAs (ef j) (ei j) (e j .number) ((el ∙ (λ x. paddedRow p (ei x) (dataCount p - e x .filled) (e x) (m .inflight) .row)) j)) (k .image)
+        (k .pointers) (m .addresses) (m .compact)
         ((eg ∙ (λ x. paddedRow p (ei x) (dataCount p - e x .filled) (e x) (m .inflight) .inflight)) j) [])
         ∙ ap (λ (x : State). mkAfter (Closed (w .number)) k (mkMemory x (m .addresses) (m .compact) (pads w .inflight)) []) (closed-state st at (w .number) (pads w .row) h)
         ∙ row-pads ∙ plan-done none! (padded p at (dataCount p - filledIn st at) st (m .inflight)) refl n

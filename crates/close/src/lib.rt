@@ -34,7 +34,10 @@ fn is_left(p: Params, image: &[u8], pointers: &[u8], addresses: &[u8], state: St
     requires { ⌜ inRange p ≡ true ⌝ }
     requires { ⌜ Whole p (mkDisk (now image) (now pointers)) ⌝ }
     requires { ⌜ length (now addresses) ≡ addressesLen p ⌝ }
-    ensures { λ r. ⌜ r ≡ not (isNil (idle p (viewOf p (now (image .entry)) (now (pointers .entry))) state (victim p (viewOf p (now (image .entry)) (now (pointers .entry))) (now (addresses .entry))))) ⌝ }
+    ensures { λ r. ⌜
+        r
+        ≡ not (isNil (idle p (viewOf p (now (image .entry)) (now (pointers .entry))) state
+        (victim p (viewOf p (now (image .entry)) (now (pointers .entry))) (now (addresses .entry))))) ⌝ }
 {
     let v = victim::look(p, image, pointers, addresses, state);
     v.first.0 != Place::NEVER.0
@@ -45,7 +48,11 @@ fn scarce_checks(p: Params, image: &[u8], pointers: &[u8], addresses: &[u8], sta
     requires { ⌜ inRange p ≡ true ⌝ }
     requires { ⌜ Whole p (mkDisk (now image) (now pointers)) ⌝ }
     requires { ⌜ length (now addresses) ≡ addressesLen p ⌝ }
-    ensures { λ r. ⌜ checked r ≡ firstRefusal (rule 5 (not (isNil (idle p (viewOf p (now (image .entry)) (now (pointers .entry))) state (victim p (viewOf p (now (image .entry)) (now (pointers .entry))) (now (addresses .entry)))))) ∷ zones (stateFaults p state ++ tableFaults p (now (addresses .entry))) ∷ []) ⌝ }
+    ensures { λ r. ⌜
+        checked r
+        ≡ firstRefusal (rule 5 (not (isNil (idle p (viewOf p (now (image .entry)) (now (pointers .entry))) state
+        (victim p (viewOf p (now (image .entry)) (now (pointers .entry))) (now (addresses .entry)))))) ∷ zones
+        (stateFaults p state ++ tableFaults p (now (addresses .entry))) ∷ []) ⌝ }
 {
     if is_left(p, image, pointers, addresses, state) {
         return Check::Fail(Answer::Refused(5));
@@ -146,7 +153,11 @@ pub fn close(
     inflight: &mut [u8],
     state: State,
 ) -> Change
-    ensures { λ r. ⌜ ((n : ℕ) → afterChange state r (now (image .entry)) (now (pointers .entry)) (now (addresses .entry)) (now (compact .entry)) (now (inflight .exit)) [] ≡ callDisk p (mkDisk (now (image .entry)) (now (pointers .entry))) (mkMemory state (now (addresses .entry)) (now (compact .entry)) (now (inflight .entry))) (close n)) ⌝ }
+    ensures { λ r. ⌜
+        ((n : ℕ)
+        → afterChange state r (now (image .entry)) (now (pointers .entry)) (now (addresses .entry)) (now (compact .entry)) (now (inflight .exit))
+        [] ≡ callDisk p (mkDisk (now (image .entry)) (now (pointers .entry)))
+        (mkMemory state (now (addresses .entry)) (now (compact .entry)) (now (inflight .entry))) (close n)) ⌝ }
 {
     let f = rows::front_of(state);
     let i = filling::filling_slot(p, f);

@@ -57,7 +57,11 @@ fn entries(
 )
     requires { ⌜ inRange p ≡ true ⌝ }
     requires { ⌜ (length (now image) ≡ imageLen p) × (drive < p .N) × (zone < p .Z) × (n ≤ p .S) × (row + p .S ≤ length (now compact)) ⌝ }
-    ensures { λ _. ⌜ ((ps : List ℕ) → length ps ≡ pointersLen p → now (compact .exit) ≡ splice (now (compact .entry)) row (map (entryOf p full (zoneAt (viewOf p (now (image .entry)) ps) drive zone)) (below n))) ⌝ }
+    ensures { λ _. ⌜
+        ((ps : List ℕ)
+        → length ps ≡ pointersLen p
+        → now (compact .exit) ≡ splice (now (compact .entry)) row
+        (map (entryOf p full (zoneAt (viewOf p (now (image .entry)) ps) drive zone)) (below n))) ⌝ }
 {
     let mut base = 0;
     let mut o = 0;

@@ -118,7 +118,8 @@ module _ (p : Params) (k : Disk) (m : Memory) (a t : ℕ) (b : List ℕ) (n : �
   sent-cut c r ad co e f g =
       let q : mkMemory (stateAfter st r) ad co (m .inflight) ≡ cutMemory p m = cut-memory p m (stateAfter st r) ad co (w .addresses-long) (w .compact-long) (state-cut st r e) f g in
       (λ j. mkAfter (e j) (due-disk j) (q j) [])
-      ∙ sym (cut-prefix p (storeDisk p) n k m [] (sentPlan p (seen p k) m a t b) (subst (λ (x : List Store). n < length x) (sym plan-stores) (ltb-true n (length (openStores p k (m .state))) (sym (h .cut) ∙ c))))
+      ∙ sym (cut-prefix p (storeDisk p) n k m [] (sentPlan p (seen p k) m a t b)
+      (subst (λ (x : List Store). n < length x) (sym plan-stores) (ltb-true n (length (openStores p k (m .state))) (sym (h .cut) ∙ c))))
 
   -- the block sent, the next stripe number being x
   abbrev sentAt : ℕ → SentRow

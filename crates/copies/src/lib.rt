@@ -38,7 +38,12 @@ fn send_copy(
 ) -> Change
     requires { ⌜ CopyReady p (mkDisk (now image) (now pointers)) (mkMemory state (now addresses) (now compact) (now inflight)) ⌝ }
     requires { ⌜ length (now block) ≡ p .B ⌝ }
-    ensures { λ r. ⌜ afterChange state r (now (image .exit)) (now (pointers .exit)) (now (addresses .exit)) (now (compact .exit)) (now (inflight .exit)) [] ≡ outcome p (storeDisk p) count (mkDisk (now (image .entry)) (now (pointers .entry))) (mkMemory state (now (addresses .entry)) (now (compact .entry)) (now (inflight .entry))) [] (due (sentPlan p (viewOf p (now (image .entry)) (now (pointers .entry))) (mkMemory state (now (addresses .entry)) (now (compact .entry)) (now (inflight .entry))) (address .0) (stamp .0) (now (block .entry)))) ⌝ }
+    ensures { λ r. ⌜
+        afterChange state r (now (image .exit)) (now (pointers .exit)) (now (addresses .exit)) (now (compact .exit)) (now (inflight .exit)) []
+        ≡ outcome p (storeDisk p) count (mkDisk (now (image .entry)) (now (pointers .entry)))
+        (mkMemory state (now (addresses .entry)) (now (compact .entry)) (now (inflight .entry))) []
+        (due (sentPlan p (viewOf p (now (image .entry)) (now (pointers .entry)))
+        (mkMemory state (now (addresses .entry)) (now (compact .entry)) (now (inflight .entry))) (address .0) (stamp .0) (now (block .entry)))) ⌝ }
 {
     let f = rows::front_of(state);
     let a = filling::aim_of(p, f);
@@ -87,7 +92,12 @@ pub fn copy_block(
 ) -> Change
     requires { ⌜ CopyReady p (mkDisk (now image) (now pointers)) (mkMemory state (now addresses) (now compact) (now inflight)) ⌝ }
     requires { ⌜ (q .0 < p .N * p .Z * capacity p) × (isOdd p (q .0) ≡ false) ⌝ }
-    ensures { λ r. ⌜ afterChange state r (now (image .exit)) (now (pointers .exit)) (now (addresses .exit)) (now (compact .exit)) (now (inflight .exit)) [] ≡ outcome p (storeDisk p) count (mkDisk (now (image .entry)) (now (pointers .entry))) (mkMemory state (now (addresses .entry)) (now (compact .entry)) (now (inflight .entry))) [] (due (copyPlan p (viewOf p (now (image .entry)) (now (pointers .entry))) (mkMemory state (now (addresses .entry)) (now (compact .entry)) (now (inflight .entry))) (q .0))) ⌝ }
+    ensures { λ r. ⌜
+        afterChange state r (now (image .exit)) (now (pointers .exit)) (now (addresses .exit)) (now (compact .exit)) (now (inflight .exit)) []
+        ≡ outcome p (storeDisk p) count (mkDisk (now (image .entry)) (now (pointers .entry)))
+        (mkMemory state (now (addresses .entry)) (now (compact .entry)) (now (inflight .entry))) []
+        (due (copyPlan p (viewOf p (now (image .entry)) (now (pointers .entry)))
+        (mkMemory state (now (addresses .entry)) (now (compact .entry)) (now (inflight .entry))) (q .0))) ⌝ }
 {
     let r = victim::record_of(p, image, pointers, q);
     let address = r.address;

@@ -303,7 +303,8 @@ module _ (p : Params) (tb ms : List ℕ) (first end : ℕ) (told : Marks tb (p .
       go : Test (eqb z g) → getD (set live z (getD live z 0 + n)) g 0 ≡ length (liveBelow p tb g to)
       go (yes! f) =
           let w : z ≡ g = eqb-true z g f in
-          let m : length (keep (isLiveIn p tb g) (upFrom from (to - from))) ≡ n = ap (λ (x : ℕ). length (keep (isLiveIn p tb x) (upFrom from (to - from)))) (sym w) ∙ live-run z from to low mid high same ∙ sym e in
+          let m : length (keep (isLiveIn p tb g) (upFrom from (to - from))) ≡ n =
+          ap (λ (x : ℕ). length (keep (isLiveIn p tb x) (upFrom from (to - from)))) (sym w) ∙ live-run z from to low mid high same ∙ sym e in
           let v : getD (set live z (getD live z 0 + n)) g 0 ≡ getD live g 0 + n =
           ap (λ (x : ℕ). getD (set live z (getD live z 0 + n)) x 0) (sym w) ∙ getD-set-same live z (getD live z 0 + n) 0 fits ∙ ap (λ (x : ℕ). getD live x 0 + n) w in
           omega (arith, v, so g l, whole, m)

@@ -59,7 +59,8 @@ lost-room p gone d k seg s w hd hz c f =
     (subst (λ (x : ℕ). pointerAt v d (zoneOn x d) < capacity p) (seg-is p v gone seg) (a .0 .2))
   where
     as! : lostStore p gone d (segmentOf p (seen p k) gone seg) s
-        ≡ put d (zoneOn (segmentOf p (seen p k) gone seg .seg) d) (pieceOf p gone (segmentOf p (seen p k) gone seg) s d .block) (recordBytes (pieceOf p gone (segmentOf p (seen p k) gone seg) s d .rec))
+        ≡ put d (zoneOn (segmentOf p (seen p k) gone seg .seg) d) (pieceOf p gone (segmentOf p (seen p k) gone seg) s d .block)
+        (recordBytes (pieceOf p gone (segmentOf p (seen p k) gone seg) s d .rec))
     as! = unfold lostStore putPiece in refl
 
 -- ---- what was read of a group stays while the present drives stay
@@ -152,7 +153,8 @@ module _ (p : Params) (r : Ranged p) (w : Group) (d n : ℕ) (k₀ : Disk) (la :
     stripes-turn c = record {
       upto = omega arith;
       moving = moving-turn p (w .gone) n (groupStores p w d n k₀) k₀ (lostStores p (w .gone) d (found p w d n k₀) ((w .base + k) ∷ []))
-          (lostStores p (w .gone) d (found p w d n k₀) (upFrom (w .base + (k + 1)) (len - (k + 1)))) left x m x′ step this r d (la .lost) (lost-on p (w .gone) d (found p w d n k₀) ((w .base + k) ∷ [])) c;
+          (lostStores p (w .gone) d (found p w d n k₀) (upFrom (w .base + (k + 1)) (len - (k + 1)))) left x m x′ step this r d (la .lost)
+          (lost-on p (w .gone) d (found p w d n k₀) ((w .base + k) ∷ [])) c;
     }
 
 -- ---- the loop over the groups
@@ -182,7 +184,8 @@ module _ (p : Params) (gone seg d n : ℕ) (k₀ : Disk) where
       (moving-as p gone n allStores k₀ (lostStores p gone d (segNow k₀) (upFrom base (p .S - base))) [] left x
       (ap (lostStores p gone d (segNow k₀)) (upFrom-end base (p .S) h) ∙ lost-none p gone d (segNow k₀)) (s .moving))
 
-module _ (p : Params) (r : Ranged p) (gone seg d n : ℕ) (k₀ : Disk) (la : Lacks p gone d) (hz : seg < p .Z) (base left : ℕ) (x : Disk) (s : Groups p gone seg d n k₀ base left x) (h : base < p .S) where
+module _ (p : Params) (r : Ranged p) (gone seg d n : ℕ) (k₀ : Disk) (la : Lacks p gone d) (hz : seg < p .Z) (base left : ℕ) (x : Disk)
+    (s : Groups p gone seg d n k₀ base left x) (h : base < p .S) where
   abbrev ours : Segment
   ours = segNow p gone seg d n k₀ k₀
 

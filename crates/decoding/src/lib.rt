@@ -32,10 +32,18 @@ fn put_lost_with(
     requires { ⌜ inRange p ≡ true ⌝ }
     requires { ⌜ Whole p (mkDisk (now image) (now pointers)) ⌝ }
     requires { ⌜ Lacks p (w .gone) drive ⌝ }
-    requires { ⌜ (length (now block) ≡ p .B) × (length (now at) ≡ 2048) × (w .seg < p .Z) × (w .base < p .S) × (k < groupLen p (w .base)) × (pointerOf p (now pointers) drive (zoneOn (w .seg) drive) < capacity p) ⌝ }
+    requires { ⌜
+        (length (now block) ≡ p .B)
+        × (length (now at) ≡ 2048)
+        × (w .seg < p .Z)
+        × (w .base < p .S)
+        × (k < groupLen p (w .base))
+        × (pointerOf p (now pointers) drive (zoneOn (w .seg) drive) < capacity p) ⌝ }
     requires { ⌜ Reads p (now image) (now pointers) w (now at) ⌝ }
     requires { ⌜ counts p (w .gone) (segmentIn p (now image) (now pointers) w) (w .base + k) ≡ true ⌝ }
-    ensures { λ r. ⌜ Storing p count (lostStore p (w .gone) drive (segmentIn p (now (image .entry)) (now (pointers .entry)) w) (w .base + k) ∷ []) (mkDisk (now (image .entry)) (now (pointers .entry))) r (mkDisk (now (image .exit)) (now (pointers .exit))) ⌝ }
+    ensures { λ r. ⌜
+        Storing p count (lostStore p (w .gone) drive (segmentIn p (now (image .entry)) (now (pointers .entry)) w) (w .base + k) ∷ [])
+        (mkDisk (now (image .entry)) (now (pointers .entry))) r (mkDisk (now (image .exit)) (now (pointers .exit))) ⌝ }
 {
     groups::lost_block(p, image, w, at, k, block);
     let q = groups::lost_rec(p, image, w, at, k);
@@ -62,7 +70,9 @@ fn put_lost(
     requires { ⌜ (length (now at) ≡ 2048) × (w .seg < p .Z) × (w .base < p .S) × (k < groupLen p (w .base)) × (pointerOf p (now pointers) drive (zoneOn (w .seg) drive) < capacity p) ⌝ }
     requires { ⌜ Reads p (now image) (now pointers) w (now at) ⌝ }
     requires { ⌜ counts p (w .gone) (segmentIn p (now image) (now pointers) w) (w .base + k) ≡ true ⌝ }
-    ensures { λ r. ⌜ Storing p count (lostStore p (w .gone) drive (segmentIn p (now (image .entry)) (now (pointers .entry)) w) (w .base + k) ∷ []) (mkDisk (now (image .entry)) (now (pointers .entry))) r (mkDisk (now (image .exit)) (now (pointers .exit))) ⌝ }
+    ensures { λ r. ⌜
+        Storing p count (lostStore p (w .gone) drive (segmentIn p (now (image .entry)) (now (pointers .entry)) w) (w .base + k) ∷ [])
+        (mkDisk (now (image .entry)) (now (pointers .entry))) r (mkDisk (now (image .exit)) (now (pointers .exit))) ⌝ }
 {
     let mut block = [0u8; 4096];
     let b = p.B;
@@ -86,7 +96,9 @@ fn put_if(
     requires { ⌜ (length (now at) ≡ 2048) × (w .seg < p .Z) × (w .base < p .S) × (k < groupLen p (w .base)) ⌝ }
     requires { ⌜ Reads p (now image) (now pointers) w (now at) ⌝ }
     requires { ⌜ AllFit p (viewOf p (now image) (now pointers)) (lostStores p (w .gone) drive (segmentIn p (now image) (now pointers) w) ((w .base + k) ∷ [])) ⌝ }
-    ensures { λ r. ⌜ Storing p count (lostStores p (w .gone) drive (segmentIn p (now (image .entry)) (now (pointers .entry)) w) ((w .base + k) ∷ [])) (mkDisk (now (image .entry)) (now (pointers .entry))) r (mkDisk (now (image .exit)) (now (pointers .exit))) ⌝ }
+    ensures { λ r. ⌜
+        Storing p count (lostStores p (w .gone) drive (segmentIn p (now (image .entry)) (now (pointers .entry)) w) ((w .base + k) ∷ []))
+        (mkDisk (now (image .entry)) (now (pointers .entry))) r (mkDisk (now (image .exit)) (now (pointers .exit))) ⌝ }
 {
     if !groups::counts(p, w.gone, at, k) {
         return Made {
@@ -114,7 +126,10 @@ fn put_group(
     requires { ⌜ w .full ≡ sealedIn p (viewOf p (now image) (now pointers)) (w .gone) (w .seg) ⌝ }
     requires { ⌜ recsFault p (w .gone) (segmentIn p (now image) (now pointers) w) ≡ false ⌝ }
     requires { ⌜ AllFit p (viewOf p (now image) (now pointers)) (lostStores p (w .gone) drive (segmentIn p (now image) (now pointers) w) (upFrom (w .base) (groupLen p (w .base)))) ⌝ }
-    ensures { λ r. ⌜ Storing p count (lostStores p (w .gone) drive (segmentIn p (now (image .entry)) (now (pointers .entry)) w) (upFrom (w .base) (groupLen p (w .base)))) (mkDisk (now (image .entry)) (now (pointers .entry))) r (mkDisk (now (image .exit)) (now (pointers .exit))) ⌝ }
+    ensures { λ r. ⌜
+        Storing p count
+        (lostStores p (w .gone) drive (segmentIn p (now (image .entry)) (now (pointers .entry)) w) (upFrom (w .base) (groupLen p (w .base))))
+        (mkDisk (now (image .entry)) (now (pointers .entry))) r (mkDisk (now (image .exit)) (now (pointers .exit))) ⌝ }
 {
     groups::index_group(p, image, pointers, w, at);
     let len = groups::group_len(p, w.base);
@@ -150,7 +165,9 @@ fn put_groups_with(
     requires { ⌜ full ≡ sealedIn p (viewOf p (now image) (now pointers)) gone seg ⌝ }
     requires { ⌜ recsFault p gone (segmentOf p (viewOf p (now image) (now pointers)) gone seg) ≡ false ⌝ }
     requires { ⌜ AllFit p (viewOf p (now image) (now pointers)) (lostStores p gone drive (segmentOf p (viewOf p (now image) (now pointers)) gone seg) (below (p .S))) ⌝ }
-    ensures { λ r. ⌜ Storing p count (lostStores p gone drive (segmentOf p (viewOf p (now (image .entry)) (now (pointers .entry))) gone seg) (below (p .S))) (mkDisk (now (image .entry)) (now (pointers .entry))) r (mkDisk (now (image .exit)) (now (pointers .exit))) ⌝ }
+    ensures { λ r. ⌜
+        Storing p count (lostStores p gone drive (segmentOf p (viewOf p (now (image .entry)) (now (pointers .entry))) gone seg) (below (p .S)))
+        (mkDisk (now (image .entry)) (now (pointers .entry))) r (mkDisk (now (image .exit)) (now (pointers .exit))) ⌝ }
 {
     let mut left = count;
     let mut base = 0;
@@ -189,7 +206,9 @@ pub fn put_groups(
     requires { ⌜ full ≡ sealedIn p (viewOf p (now image) (now pointers)) gone seg ⌝ }
     requires { ⌜ recsFault p gone (segmentOf p (viewOf p (now image) (now pointers)) gone seg) ≡ false ⌝ }
     requires { ⌜ AllFit p (viewOf p (now image) (now pointers)) (lostStores p gone drive (segmentOf p (viewOf p (now image) (now pointers)) gone seg) (below (p .S))) ⌝ }
-    ensures { λ r. ⌜ Storing p count (lostStores p gone drive (segmentOf p (viewOf p (now (image .entry)) (now (pointers .entry))) gone seg) (below (p .S))) (mkDisk (now (image .entry)) (now (pointers .entry))) r (mkDisk (now (image .exit)) (now (pointers .exit))) ⌝ }
+    ensures { λ r. ⌜
+        Storing p count (lostStores p gone drive (segmentOf p (viewOf p (now (image .entry)) (now (pointers .entry))) gone seg) (below (p .S)))
+        (mkDisk (now (image .entry)) (now (pointers .entry))) r (mkDisk (now (image .exit)) (now (pointers .exit))) ⌝ }
 {
     let mut at = [0u16; 2048];
     put_groups_with(p, image, pointers, &mut at, gone, seg, full, drive, count)

@@ -13,22 +13,41 @@ use Rattle.defs.specs.Bytes.{beFrom, beOf, toBe, leOf, toLe, part, splic
 use Rattle.defs.specs.Calls.{ninth, ruled, firstRefusal, decided, cutMemory, limited, outcome}
 use Rattle.defs.specs.Closing.{padded, closeChecks, closePlan, closeVerdict}
 use Rattle.defs.specs.Counts.{neverPlace}
-use Rattle.defs.specs.Drives.{noChunk, noZone, stored, View, zoneAt, pointerAt, chunkAt, chunkOf, zoneOf, driveOf, viewOf, putZone, resetZone, setZone, storeView, pointerByte, pointerOf, setPointer, storeDisk, storeAll, segmentNumbers, zoneOn, placeSegment, emptyOnAll, emptyZones, sealedIn, dataStored, blocksOf, sparesOf, recordIn, recordAt, footersOf, zeroSpare, headerStores, footerStores, resetStores}
+use Rattle.defs.specs.Drives.{noChunk, noZone, stored, View, zoneAt, pointerAt, chunkAt, chunkOf, zoneOf, driveOf, viewOf, putZone, resetZone, setZone}
+use Rattle.defs.specs.Drives.{storeView, pointerByte, pointerOf, setPointer, storeDisk, storeAll, segmentNumbers, zoneOn, placeSegment, emptyOnAll}
+use Rattle.defs.specs.Drives.{emptyZones, sealedIn, dataStored, blocksOf, sparesOf, recordIn, recordAt, footersOf, zeroSpare, headerStores, footerStores}
+use Rattle.defs.specs.Drives.{resetStores}
 use Rattle.defs.specs.Engine.{Call, storeCount, lentBlock, verdict, lentOk, callOn, callDisk, Lent, Left, lentDisk, lentMemory, lentAll, leftBy, callBytes}
 use Rattle.defs.specs.Engine.Call.{write, land, fill, restart}
-use Rattle.defs.specs.Faults.{pointerFaults, sameChunk, headerFault, serialFault, outside, twice, stripeFault, badRec, storedBad, decodedBad, addressFault, footersStored, sameBlocks, footerFaultIn, footerFault, clashes, segmentFault, segmentFaults, imageChecks}
-use Rattle.defs.specs.Landing.{slotOf, ready, waiting, completes, seals, flightRec, misplaced, overfull, entryFaults, landFaults, serialAt, heldCand, held, landedCand, landedCands, pointed, landChecks, sealStores, writesIn, landStore, landPlan, landVerdict}
-use Rattle.defs.specs.Layout.{parityDrive, dataDrive, dataPosition, isData, dataDrives, group, inGroupOf, groupOffsets, compactEntry, headerWidths, headerVersion, headerValues, headerFields, headerBlock, headerSerial, headerCopied, mkRec, recordFields, recordBytes, recordOf, footerBlock, footerRecord}
-use Rattle.defs.specs.Lists.{upFrom, below, all, any, isMember, consIf, keep, tally, isNil, sucUnless, indexOf, flat, total, greatest, least, firstOr, sameList, padTo, pieces, zipped, powers, only, isIn}
-use Rattle.defs.specs.Memory.{slotCount, slots, cell, idleState, zeroState, stateSections, sectionLen, sectionAt, stateLen, numbersAt, sectionOf, numberOf, stateNumbers, sectionBytes, stateBytes, stateOf, stripeIn, filledIn, landedIn, isWrite, entryIn, entriesIn, offsetIn, openSegment, isFree, isFull, isFilling, inFlight, freeSlot, fillingSlot, hasFilling, holdsAt, holds, slotOk, stateOk, stateFaults, setStamp, setOpen, setClosed, beginStripe, addEntry, landedMask, markLanded, freeStripe, placeAt, setPlace, compactAt, shownAt, slotByte, slotBlock, setSlotBlock, setSlotParity}
-use Rattle.defs.specs.Params.{mkParams, between, blockSizes, dataCount, mostAddresses, inRange, recordWidths, spareLen, perFooter, footers, capacity, unitLen, zoneLen, driveLen, imageLen, pointersLen, addressesLen, compactLen, inflightLen, placeOf, placeBlock, placeZone, placeDrive, placeByte, noDrive, named, drivesOf, present, absent}
+use Rattle.defs.specs.Faults.{pointerFaults, sameChunk, headerFault, serialFault, outside, twice, stripeFault, badRec, storedBad, decodedBad}
+use Rattle.defs.specs.Faults.{addressFault, footersStored, sameBlocks, footerFaultIn, footerFault, clashes, segmentFault, segmentFaults, imageChecks}
+use Rattle.defs.specs.Landing.{slotOf, ready, waiting, completes, seals, flightRec, misplaced, overfull, entryFaults, landFaults, serialAt, heldCand}
+use Rattle.defs.specs.Landing.{held, landedCand, landedCands, pointed, landChecks, sealStores, writesIn, landStore, landPlan, landVerdict}
+use Rattle.defs.specs.Layout.{parityDrive, dataDrive, dataPosition, isData, dataDrives, group, inGroupOf, groupOffsets, compactEntry, headerWidths}
+use Rattle.defs.specs.Layout.{headerVersion, headerValues, headerFields, headerBlock, headerSerial, headerCopied, mkRec, recordFields, recordBytes}
+use Rattle.defs.specs.Layout.{recordOf, footerBlock, footerRecord}
+use Rattle.defs.specs.Lists.{upFrom, below, all, any, isMember, consIf, keep, tally, isNil, sucUnless, indexOf, flat, total, greatest, least, firstOr}
+use Rattle.defs.specs.Lists.{sameList, padTo, pieces, zipped, powers, only, isIn}
+use Rattle.defs.specs.Memory.{slotCount, slots, cell, idleState, zeroState, stateSections, sectionLen, sectionAt, stateLen, numbersAt, sectionOf}
+use Rattle.defs.specs.Memory.{numberOf, stateNumbers, sectionBytes, stateBytes, stateOf, stripeIn, filledIn, landedIn, isWrite, entryIn, entriesIn}
+use Rattle.defs.specs.Memory.{offsetIn, openSegment, isFree, isFull, isFilling, inFlight, freeSlot, fillingSlot, hasFilling, holdsAt, holds, slotOk}
+use Rattle.defs.specs.Memory.{stateOk, stateFaults, setStamp, setOpen, setClosed, beginStripe, addEntry, landedMask, markLanded, freeStripe, placeAt}
+use Rattle.defs.specs.Memory.{setPlace, compactAt, shownAt, slotByte, slotBlock, setSlotBlock, setSlotParity}
+use Rattle.defs.specs.Params.{mkParams, between, blockSizes, dataCount, mostAddresses, inRange, recordWidths, spareLen, perFooter, footers, capacity}
+use Rattle.defs.specs.Params.{unitLen, zoneLen, driveLen, imageLen, pointersLen, addressesLen, compactLen, inflightLen, placeOf, placeBlock, placeZone}
+use Rattle.defs.specs.Params.{placeDrive, placeByte, noDrive, named, drivesOf, present, absent}
 use Rattle.defs.specs.Parity.{parityRec, parityPiece}
 use Rattle.defs.specs.Rank.{beats, better, best, placeOr, candsOf}
 use Rattle.defs.specs.Read.{placeFaults, lookup, foundFaults, shown, decodeFaults, storedAt, decodedAt, readPiece, readAnswer, readChecks, readVerdict, fillVerdict}
 use Rattle.defs.specs.Rebuild.{namesMissing, rebuildChecks, rebuiltZone, rebuildStores, rebuildVerdict}
-use Rattle.defs.specs.Reclaim.{placesIn, tableFaults, segmentPlaces, liveIn, flying, victimOf, fewer, fewest, victim, isNone, victimSegment, victimLive, idle, reclaimChecks, clearedRow, cleared, resetPlan, copyPlan, reclaimVerdict}
-use Rattle.defs.specs.Restart.{freeZones, isWhole, isRagged, missingFooters, renumbered, movedPieces, movedOn, movedStripe, movedStripes, rewriteStores, dropStores, mendStores, restartStores, openOf, nextOf, restartMemory, uncountedIn, reportOf, namesDrive, rewrites, restartChecks, restartPlan, restartVerdict}
-use Rattle.defs.specs.Segments.{lowDrive, headerAt, leftBy1, isCopy, remaining, recordsIn, segmentOf, segments, recsOn, offsetOn, hasChunk, counts, counted, uncounted, storedPiece, pieceOf, putPiece, storedRec, recOf, offsetOf, candOf, segmentCands, candidates, addressTable, compactRow, rowOf, compactTable, greatestStamp, greatestSerial, unsealed}
+use Rattle.defs.specs.Reclaim.{placesIn, tableFaults, segmentPlaces, liveIn, flying, victimOf, fewer, fewest, victim, isNone, victimSegment, victimLive}
+use Rattle.defs.specs.Reclaim.{idle, reclaimChecks, clearedRow, cleared, resetPlan, copyPlan, reclaimVerdict}
+use Rattle.defs.specs.Restart.{freeZones, isWhole, isRagged, missingFooters, renumbered, movedPieces, movedOn, movedStripe, movedStripes, rewriteStores}
+use Rattle.defs.specs.Restart.{dropStores, mendStores, restartStores, openOf, nextOf, restartMemory, uncountedIn, reportOf, namesDrive, rewrites}
+use Rattle.defs.specs.Restart.{restartChecks, restartPlan, restartVerdict}
+use Rattle.defs.specs.Segments.{lowDrive, headerAt, leftBy1, isCopy, remaining, recordsIn, segmentOf, segments, recsOn, offsetOn, hasChunk, counts}
+use Rattle.defs.specs.Segments.{counted, uncounted, storedPiece, pieceOf, putPiece, storedRec, recOf, offsetOf, candOf, segmentCands, candidates}
+use Rattle.defs.specs.Segments.{addressTable, compactRow, rowOf, compactTable, greatestStamp, greatestSerial, unsealed}
 use Rattle.defs.specs.Write.{mustOpen, opens, noStamp, noSerial, otherGroup, mustWait, scarce, placed, openedBy, slotFor, begunBy, sending, writeChecks, writePlan, writeVerdict}
 
 -- 01: the small box, and variants of it
@@ -107,7 +126,31 @@ pub record Examples : Type 0 where
   pub m8 : countedBoth small (runs small (fresh small) m8Calls) 2 0 ≡ [] ∷ (0 ∷ []) ∷ []
 
 pub examples-hold : Examples
-unfolding ones onesIn kind values isRefused isRefusedAs isCut finished beFrom beOf toBe leOf toLe part splice xors parity xorAll bytesOf readField ninth ruled firstRefusal decided cutMemory limited outcome padded closeChecks closePlan closeVerdict noChunk noZone stored zoneAt pointerAt chunkAt chunkOf zoneOf driveOf viewOf putZone resetZone setZone storeView pointerByte pointerOf setPointer storeDisk storeAll segmentNumbers zoneOn placeSegment emptyOnAll emptyZones sealedIn dataStored blocksOf sparesOf recordIn recordAt footersOf zeroSpare headerStores footerStores resetStores storeCount lentBlock verdict lentOk callOn callDisk lentDisk lentMemory lentAll leftBy callBytes pointerFaults sameChunk headerFault serialFault outside twice stripeFault badRec storedBad decodedBad addressFault footersStored sameBlocks footerFaultIn footerFault clashes segmentFault segmentFaults imageChecks slotOf ready waiting completes seals flightRec misplaced overfull entryFaults landFaults serialAt heldCand held landedCand landedCands pointed landChecks sealStores writesIn landStore landPlan landVerdict parityDrive dataDrive dataPosition isData dataDrives group inGroupOf groupOffsets compactEntry headerWidths headerVersion headerValues headerFields headerBlock headerSerial headerCopied recordFields recordBytes recordOf footerBlock footerRecord upFrom below all any isMember consIf keep tally isNil sucUnless indexOf flat total greatest least firstOr sameList padTo pieces zipped powers only isIn slotCount slots cell idleState zeroState stateSections sectionLen sectionAt stateLen numbersAt sectionOf numberOf stateNumbers sectionBytes stateBytes stateOf stripeIn filledIn landedIn isWrite entryIn entriesIn offsetIn openSegment isFree isFull isFilling inFlight freeSlot fillingSlot hasFilling holdsAt holds slotOk stateOk stateFaults setStamp setOpen setClosed beginStripe addEntry landedMask markLanded freeStripe placeAt setPlace compactAt shownAt slotByte slotBlock setSlotBlock setSlotParity between blockSizes dataCount mostAddresses inRange recordWidths spareLen perFooter footers capacity unitLen zoneLen driveLen imageLen pointersLen addressesLen compactLen inflightLen placeOf placeBlock placeZone placeDrive placeByte noDrive named drivesOf present absent parityRec parityPiece beats better best placeOr candsOf placeFaults lookup foundFaults shown decodeFaults storedAt decodedAt readPiece readAnswer readChecks readVerdict fillVerdict namesMissing rebuildChecks rebuiltZone rebuildStores rebuildVerdict placesIn tableFaults segmentPlaces liveIn flying victimOf fewer fewest victim isNone victimSegment victimLive idle reclaimChecks clearedRow cleared resetPlan copyPlan reclaimVerdict freeZones isWhole isRagged missingFooters renumbered movedPieces movedOn movedStripe movedStripes rewriteStores dropStores mendStores restartStores openOf nextOf restartMemory uncountedIn reportOf namesDrive rewrites restartChecks restartPlan restartVerdict lowDrive headerAt leftBy1 isCopy remaining recordsIn segmentOf segments recsOn offsetOn hasChunk counts counted uncounted storedPiece pieceOf putPiece storedRec recOf offsetOf candOf segmentCands candidates addressTable compactRow rowOf compactTable greatestStamp greatestSerial unsealed mustOpen opens noStamp noSerial otherGroup mustWait scarce placed openedBy slotFor begunBy sending writeChecks writePlan writeVerdict emptyLent runs fresh viewAfter stampAt blockOf m7First m7Then m7Reads m8Calls stampAndBlock countedBoth
+unfolding ones onesIn kind values isRefused isRefusedAs isCut finished beFrom beOf toBe leOf toLe part splice xors parity xorAll bytesOf readField
+    ninth ruled firstRefusal decided cutMemory limited outcome padded closeChecks closePlan closeVerdict noChunk noZone stored zoneAt pointerAt chunkAt
+    chunkOf zoneOf driveOf viewOf putZone resetZone setZone storeView pointerByte pointerOf setPointer storeDisk storeAll segmentNumbers zoneOn
+    placeSegment emptyOnAll emptyZones sealedIn dataStored blocksOf sparesOf recordIn recordAt footersOf zeroSpare headerStores footerStores resetStores
+    storeCount lentBlock verdict lentOk callOn callDisk lentDisk lentMemory lentAll leftBy callBytes pointerFaults sameChunk headerFault serialFault
+    outside twice stripeFault badRec storedBad decodedBad addressFault footersStored sameBlocks footerFaultIn footerFault clashes segmentFault
+    segmentFaults imageChecks slotOf ready waiting completes seals flightRec misplaced overfull entryFaults landFaults serialAt heldCand held landedCand
+    landedCands pointed landChecks sealStores writesIn landStore landPlan landVerdict parityDrive dataDrive dataPosition isData dataDrives group
+    inGroupOf groupOffsets compactEntry headerWidths headerVersion headerValues headerFields headerBlock headerSerial headerCopied recordFields
+    recordBytes recordOf footerBlock footerRecord upFrom below all any isMember consIf keep tally isNil sucUnless indexOf flat total greatest least
+    firstOr sameList padTo pieces zipped powers only isIn slotCount slots cell idleState zeroState stateSections sectionLen sectionAt stateLen numbersAt
+    sectionOf numberOf stateNumbers sectionBytes stateBytes stateOf stripeIn filledIn landedIn isWrite entryIn entriesIn offsetIn openSegment isFree
+    isFull isFilling inFlight freeSlot fillingSlot hasFilling holdsAt holds slotOk stateOk stateFaults setStamp setOpen setClosed beginStripe addEntry
+    landedMask markLanded freeStripe placeAt setPlace compactAt shownAt slotByte slotBlock setSlotBlock setSlotParity between blockSizes dataCount
+    mostAddresses inRange recordWidths spareLen perFooter footers capacity unitLen zoneLen driveLen imageLen pointersLen addressesLen compactLen
+    inflightLen placeOf placeBlock placeZone placeDrive placeByte noDrive named drivesOf present absent parityRec parityPiece beats better best placeOr
+    candsOf placeFaults lookup foundFaults shown decodeFaults storedAt decodedAt readPiece readAnswer readChecks readVerdict fillVerdict namesMissing
+    rebuildChecks rebuiltZone rebuildStores rebuildVerdict placesIn tableFaults segmentPlaces liveIn flying victimOf fewer fewest victim isNone
+    victimSegment victimLive idle reclaimChecks clearedRow cleared resetPlan copyPlan reclaimVerdict freeZones isWhole isRagged missingFooters
+    renumbered movedPieces movedOn movedStripe movedStripes rewriteStores dropStores mendStores restartStores openOf nextOf restartMemory uncountedIn
+    reportOf namesDrive rewrites restartChecks restartPlan restartVerdict lowDrive headerAt leftBy1 isCopy remaining recordsIn segmentOf segments recsOn
+    offsetOn hasChunk counts counted uncounted storedPiece pieceOf putPiece storedRec recOf offsetOf candOf segmentCands candidates addressTable
+    compactRow rowOf compactTable greatestStamp greatestSerial unsealed mustOpen opens noStamp noSerial otherGroup mustWait scarce placed openedBy
+    slotFor begunBy sending writeChecks writePlan writeVerdict emptyLent runs fresh viewAfter stampAt blockOf m7First m7Then m7Reads m8Calls
+    stampAndBlock countedBoth
 examples-hold = record {
   box = (refl, refl, refl);
   m1 = (refl, refl, refl);

@@ -16,7 +16,9 @@ use Rattle.defs.specs.Drives.Store.{put}
 use Rattle.defs.specs.Layout.{dataDrive, dataPosition, isData, group, compactEntry, headerSerial, Rec, recordBytes}
 use Rattle.defs.specs.Lists.{Opt, below, any, consIf, tally, indexOf, flat, isIn}
 use Rattle.defs.specs.Lists.Opt.{none, some}
-use Rattle.defs.specs.Memory.{Memory, mkMemory, slotCount, slots, stripeIn, filledIn, landedIn, isWrite, entryIn, entriesIn, offsetIn, openSegment, isFree, isFull, inFlight, stateFaults, setClosed, landedMask, markLanded, freeStripe, placeAt, setPlace, compactAt, slotBlock}
+use Rattle.defs.specs.Memory.{Memory, mkMemory, slotCount, slots, stripeIn, filledIn, landedIn, isWrite, entryIn, entriesIn, offsetIn, openSegment}
+use Rattle.defs.specs.Memory.{isFree, isFull, inFlight, stateFaults, setClosed, landedMask, markLanded, freeStripe, placeAt, setPlace, compactAt}
+use Rattle.defs.specs.Memory.{slotBlock}
 use Rattle.defs.specs.Params.{between, inRange, footers, capacity, placeOf, placeBlock, placeDrive, drivesOf}
 use Rattle.defs.specs.Parity.{parityRec}
 use Rattle.defs.specs.Rank.{Cand, best, placeOr, candsOf}

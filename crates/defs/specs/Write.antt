@@ -13,7 +13,8 @@ use Rattle.defs.specs.Counts.{lastCount, aStamp}
 use Rattle.defs.specs.Drives.{View, Store, emptyZones, headerStores}
 use Rattle.defs.specs.Layout.{dataDrive, group}
 use Rattle.defs.specs.Lists.{any, isNil, firstOr}
-use Rattle.defs.specs.Memory.{Memory, mkMemory, slotCount, stripeIn, filledIn, isFull, inFlight, freeSlot, fillingSlot, hasFilling, stateFaults, setStamp, setOpen, beginStripe, addEntry, setSlotBlock, setSlotParity}
+use Rattle.defs.specs.Memory.{Memory, mkMemory, slotCount, stripeIn, filledIn, isFull, inFlight, freeSlot, fillingSlot, hasFilling, stateFaults}
+use Rattle.defs.specs.Memory.{setStamp, setOpen, beginStripe, addEntry, setSlotBlock, setSlotParity}
 use Rattle.defs.specs.Params.{inRange}
 
 -- 01, Write: a stripe that begins now needs a new segment

@@ -49,12 +49,15 @@ module _ (p : Params) (h : Ranged p) (g : Ghost) (v : View) (k : OnDrives p h g 
   sixth long h₃ h₆ =
       let a₁ : (not (inRange p) || not (namesDrive p d)) ≡ false = or-false (not (inRange p)) (not (namesDrive p d)) (ap not h₁) (ap not h₂) in
       let a₂ : not long ≡ false = ap not h₃ in
-      ap₂ (λ (x y : Bool). ruled 1 x (ruled 2 y (firstRefusal (imageChecks p v (named d) gs₀ ++ (rule 6 (rewrites p (named d) gs₀ && eqb (greatestSerial gs₀) lastCount) ∷ rule 8 (rewrites p (named d) gs₀ && isNil (freeZones p gs₀)) ∷ []))))) a₁ a₂
+      ap₂ (λ (x y : Bool). ruled 1 x (ruled 2 y (firstRefusal
+      (imageChecks p v (named d) gs₀ ++ (rule 6 (rewrites p (named d) gs₀ && eqb (greatestSerial gs₀) lastCount) ∷ rule 8
+      (rewrites p (named d) gs₀ && isNil (freeZones p gs₀)) ∷ []))))) a₁ a₂
       ∙ image-passes p h g v k known d ch (rule 6 (rewrites p (named d) gs₀ && eqb (greatestSerial gs₀) lastCount) ∷ rule 8 (rewrites p (named d) gs₀ && isNil (freeZones p gs₀)) ∷ [])
       ∙ ap (λ (x : Bool). ruled 6 x (ruled 8 (rewrites p (named d) gs₀ && isNil (freeZones p gs₀)) none)) h₆
 
 -- the call, on bytes
-module _ (p : Params) (h : Ranged p) (k : Disk) (m : Memory) (d n : ℕ) (g : Ghost) (on : OnDrives p h g (seen p k)) (known : (x : Val) → InV x (g .sent) → (0 < x .stamp) × (x .addr < p .L)) (ch : Choice (parOf p h) (g .un) d)
+module _ (p : Params) (h : Ranged p) (k : Disk) (m : Memory) (d n : ℕ) (g : Ghost) (on : OnDrives p h g (seen p k))
+    (known : (x : Val) → InV x (g .sent) → (0 < x .stamp) × (x .addr < p .L)) (ch : Choice (parOf p h) (g .un) d)
     (ord : inOrder p (mkWorld k m) d ≡ true) (al : isRefusedAs 6 (callDisk p k m (restart d n) .answer) ≡ false) where
   abbrev v₁ : View
   v₁ = seen p k
@@ -66,7 +69,11 @@ module _ (p : Params) (h : Ranged p) (k : Disk) (m : Memory) (d n : ℕ) (g : Gh
   parts = unfold inOrder in go ord
     where
       go : (inRange p && namesDrive p d && lentOk p k m) ≡ true → (inRange p ≡ true) × (namesDrive p d ≡ true) × (lentOk p k m ≡ true)
-      go q = (and-left (inRange p) (namesDrive p d) (and-left (inRange p && namesDrive p d) (lentOk p k m) q), and-right (inRange p) (namesDrive p d) (and-left (inRange p && namesDrive p d) (lentOk p k m) q), and-right (inRange p && namesDrive p d) (lentOk p k m) q)
+      go q = (
+        and-left (inRange p) (namesDrive p d) (and-left (inRange p && namesDrive p d) (lentOk p k m) q),
+        and-right (inRange p) (namesDrive p d) (and-left (inRange p && namesDrive p d) (lentOk p k m) q),
+        and-right (inRange p && namesDrive p d) (lentOk p k m) q,
+      )
 
   pub boot-six : (rewrites p (named d) (segments p (seen p k) (named d)) && eqb (greatestSerial (segments p (seen p k) (named d))) lastCount) ≡ false
   boot-six = false-of (rewrites p (named d) gs && eqb (greatestSerial gs) lastCount) (λ q. true-false (isRefusedAs 6 (callDisk p k m (restart d n) .answer)) (was q) al)
@@ -75,18 +82,38 @@ module _ (p : Params) (h : Ranged p) (k : Disk) (m : Memory) (d n : ℕ) (g : Gh
       six = unfold isRefusedAs isRefused kind values in refl
 
       was : (rewrites p (named d) gs && eqb (greatestSerial gs) lastCount) ≡ true → isRefusedAs 6 (callDisk p k m (restart d n) .answer) ≡ true
-      was q = ap (λ (r : After Disk). isRefusedAs 6 (r .answer)) (refused-after p k m (restart d n) (Refused 6) (unfold decides in sixth p h g v₁ on known d ch (parts .0) (parts .1) (lentOk p k m) (parts .2) q)) ∙ six
+      was q =
+          ap (λ (r : After Disk). isRefusedAs 6 (r .answer))
+          (refused-after p k m (restart d n) (Refused 6)
+          (unfold decides in sixth p h g v₁ on known d ch (parts .0) (parts .1) (lentOk p k m) (parts .2) q))
+          ∙ six
 
-  pub boot-is : callDisk p k m (restart d n) ≡ limited (leb (length (restartStores p (named d) (segments p (seen p k) (named d)))) n) p (storeDisk p) n k m [] (restartPlan p (seen p k) d (segments p (seen p k) (named d)) (m .inflight))
+  pub boot-is :
+      callDisk p k m (restart d n)
+      ≡ limited (leb (length (restartStores p (named d) (segments p (seen p k) (named d)))) n) p (storeDisk p) n k m []
+      (restartPlan p (seen p k) d (segments p (seen p k) (named d)) (m .inflight))
   boot-is = unfold callDisk callOn verdict restartVerdict storeCount lentBlock in (
-      ap (λ (o : Opt Answer). outcome p (storeDisk p) n k m [] (decided o (restartPlan p v₁ d gs (m .inflight)))) (not-refused p h g v₁ on known d ch (parts .0) (parts .1) (lentOk p k m) (parts .2) boot-six) ∙ done)
+      ap (λ (o : Opt Answer). outcome p (storeDisk p) n k m [] (decided o (restartPlan p v₁ d gs (m .inflight))))
+      (not-refused p h g v₁ on known d ch (parts .0) (parts .1) (lentOk p k m) (parts .2) boot-six)
+      ∙ done)
     where
-      done : outcome p (storeDisk p) n k m [] (decided none (restartPlan p v₁ d gs (m .inflight))) ≡ limited (leb (length (restartStores p (named d) gs)) n) p (storeDisk p) n k m [] (restartPlan p v₁ d gs (m .inflight))
+      done :
+          outcome p (storeDisk p) n k m [] (decided none (restartPlan p v₁ d gs (m .inflight)))
+          ≡ limited (leb (length (restartStores p (named d) gs)) n) p (storeDisk p) n k m [] (restartPlan p v₁ d gs (m .inflight))
       done = unfold decided outcome restartPlan in refl
 
   pub boot-lent : length (m .inflight) ≡ inflightLen p
   boot-lent = unfold lentOk in eqb-true (length (m .inflight)) (inflightLen p)
-      (and-right (eqb (length (k .image)) (imageLen p) && eqb (length (k .pointers)) (pointersLen p) && eqb (length (m .addresses)) (addressesLen p) && eqb (length (m .compact)) (compactLen p)) (eqb (length (m .inflight)) (inflightLen p)) (reveal (parts .2)))
+      (and-right (eqb (length (k .image)) (imageLen p)
+      && eqb (length (k .pointers)) (pointersLen p)
+      && eqb (length (m .addresses)) (addressesLen p)
+      && eqb (length (m .compact)) (compactLen p)) (eqb (length (m .inflight)) (inflightLen p)) (reveal (parts .2)))
     where
-      reveal : lentOk p k m ≡ true → (eqb (length (k .image)) (imageLen p) && eqb (length (k .pointers)) (pointersLen p) && eqb (length (m .addresses)) (addressesLen p) && eqb (length (m .compact)) (compactLen p) && eqb (length (m .inflight)) (inflightLen p)) ≡ true
+      reveal :
+          lentOk p k m ≡ true
+          → (eqb (length (k .image)) (imageLen p)
+          && eqb (length (k .pointers)) (pointersLen p)
+          && eqb (length (m .addresses)) (addressesLen p)
+          && eqb (length (m .compact)) (compactLen p)
+          && eqb (length (m .inflight)) (inflightLen p)) ≡ true
       reveal q = unfold lentOk in q

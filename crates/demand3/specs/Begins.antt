@@ -42,7 +42,13 @@ use Rattle.runs.specs.Resumed.{reached-to, reached-forget}
 use Rattle.runs.specs.Sends.{length-forget, forget-waits}
 
 finds : (p : Params) (h : Ranged p) (g : Ghost) (u : View) (b : Bool) (z n : ℕ) → Opened p h g u b z n → Finds p u b z n
-finds p h g u b z n o = record { is = subst (λ (k : ℕ). ((b ≡ true) × (openOf (unsealed (segments p u k)) ≡ suc z) × (nextOf p (unsealed (segments p u k)) ≡ n)) ⊎ ((b ≡ false) × (openOf (unsealed (segments p u k)) ≡ 0))) none-named (o .is); less = o .less; full = o .full }
+finds p h g u b z n o =
+    record {
+      is = subst (λ (k : ℕ). ((b ≡ true) × (openOf (unsealed (segments p u k)) ≡ suc z) × (nextOf p (unsealed (segments p u k)) ≡ n))
+          ⊎ ((b ≡ false) × (openOf (unsealed (segments p u k)) ≡ 0))) none-named (o .is);
+      less = o .less;
+      full = o .full;
+    }
 
 module _ (p : Params) (h : Ranged p) (v : View) (ss : List Send) (n : ℕ) (g : Ghost) (a : List Val) (c : Bool) (m : Mode) (T : Track) (r : Reached p h v ss n g a c m T)
     (u : View) (D : RestartDone p h g a c u) (fl : List ℕ) where
@@ -118,5 +124,11 @@ module _ (p : Params) (h : Ranged p) (v : View) (ss : List Send) (n : ℕ) (g : 
     refl,
   )
 
-  pub begins : (x : Live p h u (restartMemory p u (named noDrive) fl .state) (restartMemory p u (named noDrive) fl .inflight) (restartMemory p u (named noDrive) fl .addresses) (map forget ss) (length ss)) × (x .g ≡ doneGhost)
-  begins = subst (λ (k : ℕ). (x : Live p h u (restartMemory p u k fl .state) (restartMemory p u k fl .inflight) (restartMemory p u k fl .addresses) (map forget ss) (length ss)) × (x .g ≡ doneGhost)) (sym none-named) begins₀
+  pub begins :
+      (x : Live p h u (restartMemory p u (named noDrive) fl .state) (restartMemory p u (named noDrive) fl .inflight)
+      (restartMemory p u (named noDrive) fl .addresses) (map forget ss) (length ss))
+      × (x .g ≡ doneGhost)
+  begins =
+      subst (λ (k : ℕ). (x : Live p h u (restartMemory p u k fl .state) (restartMemory p u k fl .inflight) (restartMemory p u k fl .addresses)
+      (map forget ss) (length ss))
+      × (x .g ≡ doneGhost)) (sym none-named) begins₀

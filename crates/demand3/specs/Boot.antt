@@ -67,14 +67,17 @@ module _ (p : Params) (h : Ranged p) (s : Hist) (n : ℕ) (x : Stands p h s n) w
     -- all of it
     pub boot-done : (d c : ℕ) (q : Report) (k : Disk) (m : Memory) (b : List ℕ) → w ≡ mkWorld k m
         → Holds p h (hist w (map forget (s .sends)) (named d) (some (record { world = w; sentThen = length (map forget (s .sends)) }))) → Booted p h s (restart d c) (mkAfter (Restarted q) k m b)
-    boot-done d c q k m b e y = subst (λ (z : Hist). RestartOk p s (Restarted q) z × Holds p h z) (ap (λ (u : World). hist u (map forget (s .sends)) (named d) (some (record { world = u; sentThen = length (map forget (s .sends)) }))) e ∙ sym (leaves-finished s d c q k m b)) (
-      record {
-        not-refused = unfold isRefused kind in refl;
-        reads = λ f i l. boot-reads i l;
-        same = λ f. boot-same (named d) (some (record { world = w; sentThen = length (map forget (s .sends)) }));
-      },
-      y,
-    )
+    boot-done d c q k m b e y =
+        subst (λ (z : Hist). RestartOk p s (Restarted q) z × Holds p h z)
+        (ap (λ (u : World). hist u (map forget (s .sends)) (named d) (some (record { world = u; sentThen = length (map forget (s .sends)) }))) e
+        ∙ sym (leaves-finished s d c q k m b)) (
+          record {
+            not-refused = unfold isRefused kind in refl;
+            reads = λ f i l. boot-reads i l;
+            same = λ f. boot-same (named d) (some (record { world = w; sentThen = length (map forget (s .sends)) }));
+          },
+          y,
+        )
 
   -- it was cut
   pub boot-cut : (d c : ℕ) (k : Disk) (m : Memory) (b : List ℕ) → Holds p h (hist (mkWorld k m) (map forget (s .sends)) (named d) (s .mark)) → Booted p h s (restart d c) (mkAfter Cut k m b)

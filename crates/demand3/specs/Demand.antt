@@ -14,7 +14,8 @@ use Rattle.defs.specs.Demands.{RestartOk, ClaimOf, Allowed, Claims, Demand3Valu
 use Rattle.defs.specs.Drives.{zoneAt, Disk}
 use Rattle.defs.specs.Engine.{Call, lentOk, callDisk}
 use Rattle.defs.specs.Engine.Call.{write, land, close, reclaim, read, fill, restart, rebuild}
-use Rattle.defs.specs.History.{World, mkWorld, Event, callOf, restartOf, inOrder, swapped, before, happens, onlyIf, orderly, restartIn, worldAfter, sentAfter, untrustedAfter, Hist, marked, step, emptyDisk, began, namesAll, allowed}
+use Rattle.defs.specs.History.{World, mkWorld, Event, callOf, restartOf, inOrder, swapped, before, happens, onlyIf, orderly, restartIn, worldAfter, sentAfter}
+use Rattle.defs.specs.History.{untrustedAfter, Hist, marked, step, emptyDisk, began, namesAll, allowed}
 use Rattle.defs.specs.History.Event.{calls, boots}
 use Rattle.defs.specs.Lists.Opt.{none, some}
 use Rattle.defs.specs.Memory.{Memory}
@@ -57,7 +58,10 @@ module _ (p : Params) (h : Ranged p) (s : Hist) (H : Holds p h s) where
 
   -- ---- a restart in order, on drives k with memory m: as the drives are, but for the drive that it names
   booted : (k : Disk) (m : Memory) (d c : ℕ) → Whole p k → ((e y : ℕ) → e ≢ d → zoneAt (seen p k) e y ≡ zoneAt (seen p (s .world .disk)) e y) → (p .N ≤ d → k ≡ s .world .disk)
-      → inOrder p (mkWorld k m) d ≡ true → isRefusedAs 6 (callDisk p k m (restart d c) .answer) ≡ false → namesAll (s .untrusted) (some d) ≡ true → Booted p h s (restart d c) (callDisk p k m (restart d c))
+      → inOrder p (mkWorld k m) d ≡ true
+      → isRefusedAs 6 (callDisk p k m (restart d c) .answer) ≡ false
+      → namesAll (s .untrusted) (some d) ≡ true
+      → Booted p h s (restart d c) (callDisk p k m (restart d c))
   booted k m d c wk same out ord al us = ⊎-elim
       (λ (l : d < p .N). boot-missing p h s (N .0) (N .1) k wk m d c l (λ e y b n. same e y n) us ord al)
       (λ (e : d ≡ noDrive). none-lost e (out (far e)) ord al us)
@@ -75,17 +79,39 @@ module _ (p : Params) (h : Ranged p) (s : Hist) (H : Holds p h s) where
       far : d ≡ noDrive → p .N ≤ d
       far e = unfold noDrive in (let q : d ≡ 255 = e in omega (arith, q, h .drives-high))
 
-      none-lost : d ≡ noDrive → k ≡ s .world .disk → inOrder p (mkWorld k m) d ≡ true → isRefusedAs 6 (callDisk p k m (restart d c) .answer) ≡ false → namesAll (s .untrusted) (some d) ≡ true → Booted p h s (restart d c) (callDisk p k m (restart d c))
-      none-lost e f = subst (λ (i : ℕ). inOrder p (mkWorld k m) i ≡ true → isRefusedAs 6 (callDisk p k m (restart i c) .answer) ≡ false → namesAll (s .untrusted) (some i) ≡ true → Booted p h s (restart i c) (callDisk p k m (restart i c))) (sym e)
-          (subst (λ (z : Disk). inOrder p (mkWorld z m) noDrive ≡ true → isRefusedAs 6 (callDisk p z m (restart noDrive c) .answer) ≡ false → namesAll (s .untrusted) (some noDrive) ≡ true → Booted p h s (restart noDrive c) (callDisk p z m (restart noDrive c))) (sym f)
+      none-lost :
+          d ≡ noDrive
+          → k ≡ s .world .disk
+          → inOrder p (mkWorld k m) d ≡ true
+          → isRefusedAs 6 (callDisk p k m (restart d c) .answer) ≡ false
+          → namesAll (s .untrusted) (some d) ≡ true
+          → Booted p h s (restart d c) (callDisk p k m (restart d c))
+      none-lost e f =
+          subst (λ (i : ℕ). inOrder p (mkWorld k m) i ≡ true
+          → isRefusedAs 6 (callDisk p k m (restart i c) .answer) ≡ false
+          → namesAll (s .untrusted) (some i) ≡ true
+          → Booted p h s (restart i c) (callDisk p k m (restart i c))) (sym e)
+          (subst (λ (z : Disk). inOrder p (mkWorld z m) noDrive ≡ true
+          → isRefusedAs 6 (callDisk p z m (restart noDrive c) .answer) ≡ false
+          → namesAll (s .untrusted) (some noDrive) ≡ true
+          → Booted p h s (restart noDrive c) (callDisk p z m (restart noDrive c))) (sym f)
           (λ ord al us. boot-healthy p h s (N .0) (N .1) m c us ord al))
 
   -- ---- a restart, whatever its event
   abbrev Both : Event → Type 0
   Both e = ClaimOf p s e (restartIn p (s .world) e) × Holds p h (step p s e)
 
-  ordered-event : (e : Event) (d c : ℕ) (k : Disk) (m : Memory) → happens p (s .world) e ≡ callDisk p k m (restart d c) → step p s e ≡ leaves s (restart d c) (callDisk p k m (restart d c)) → restartIn p (s .world) e ≡ some d
-      → Whole p k → ((e y : ℕ) → e ≢ d → zoneAt (seen p k) e y ≡ zoneAt (seen p (s .world .disk)) e y) → (p .N ≤ d → k ≡ s .world .disk) → inOrder p (mkWorld k m) d ≡ true → allowed p s e ≡ true → Both e
+  ordered-event :
+      (e : Event) (d c : ℕ) (k : Disk) (m : Memory)
+      → happens p (s .world) e ≡ callDisk p k m (restart d c)
+      → step p s e ≡ leaves s (restart d c) (callDisk p k m (restart d c))
+      → restartIn p (s .world) e ≡ some d
+      → Whole p k
+      → ((e y : ℕ) → e ≢ d → zoneAt (seen p k) e y ≡ zoneAt (seen p (s .world .disk)) e y)
+      → (p .N ≤ d → k ≡ s .world .disk)
+      → inOrder p (mkWorld k m) d ≡ true
+      → allowed p s e ≡ true
+      → Both e
   ordered-event e d c k m hp st rs wk same out ord al = (
     subst (ClaimOf p s e) (sym rs) (subst (λ (r : After Disk). RestartOk p s (r .answer) (step p s e)) (sym hp) (subst (RestartOk p s (callDisk p k m (restart d c) .answer)) (sym st) (b .0))),
     subst (Holds p h) (sym st) (b .1),
@@ -98,7 +124,10 @@ module _ (p : Params) (h : Ranged p) (s : Hist) (H : Holds p h s) where
           reveal q = unfold allowed in q
 
       six : isRefusedAs 6 (callDisk p k m (restart d c) .answer) ≡ false
-      six = ap (λ (r : After Disk). isRefusedAs 6 (r .answer)) (sym hp) ∙ not-true (isRefusedAs 6 (happens p (s .world) e .answer)) (and-left (not (isRefusedAs 6 (happens p (s .world) e .answer))) (namesAll (s .untrusted) (restartIn p (s .world) e)) al′)
+      six =
+          ap (λ (r : After Disk). isRefusedAs 6 (r .answer)) (sym hp)
+          ∙ not-true (isRefusedAs 6 (happens p (s .world) e .answer))
+          (and-left (not (isRefusedAs 6 (happens p (s .world) e .answer))) (namesAll (s .untrusted) (restartIn p (s .world) e)) al′)
 
       us : namesAll (s .untrusted) (some d) ≡ true
       us = ap (namesAll (s .untrusted)) (sym rs) ∙ and-right (not (isRefusedAs 6 (happens p (s .world) e .answer))) (namesAll (s .untrusted) (restartIn p (s .world) e)) al′
@@ -117,7 +146,9 @@ module _ (p : Params) (h : Ranged p) (s : Hist) (H : Holds p h s) where
       is b q = unfold restartIn before callOf restartOf orderly in ap (λ (x : Bool). onlyIf x (some d)) q
 
       go : Test (inOrder p (s .world) d) → Both (calls (restart d c))
-      go (yes! q) = ordered-event (calls (restart d c)) d c (s .world .disk) (s .world .memory) (unfold happens before callOf in refl) (call-leaves p s (restart d c)) (is true q ∙ (unfold onlyIf in refl)) whole? (λ e y n. refl) (λ l. refl) q al
+      go (yes! q) =
+          ordered-event (calls (restart d c)) d c (s .world .disk) (s .world .memory) (unfold happens before callOf in refl)
+          (call-leaves p s (restart d c)) (is true q ∙ (unfold onlyIf in refl)) whole? (λ e y n. refl) (λ l. refl) q al
       go (no! q) = (
         none-claimed (calls (restart d c)) (is false q ∙ (unfold onlyIf in refl)),
         subst (Holds p h) (sym (refused-any p s (restart d c) (λ f. true-false (inOrder p (s .world) d) (passed (reveal f)) q))) H,
@@ -127,9 +158,13 @@ module _ (p : Params) (h : Ranged p) (s : Hist) (H : Holds p h s) where
               → firstRefusal (restartChecks p (lentOk p (s .world .disk) (s .world .memory)) (seen p (s .world .disk)) d (segments p (seen p (s .world .disk)) (named d))) ≡ none
           reveal f = unfold decides in f
 
-          passed : firstRefusal (restartChecks p (lentOk p (s .world .disk) (s .world .memory)) (seen p (s .world .disk)) d (segments p (seen p (s .world .disk)) (named d))) ≡ none → inOrder p (s .world) d ≡ true
+          passed :
+              firstRefusal (restartChecks p (lentOk p (s .world .disk) (s .world .memory)) (seen p (s .world .disk)) d
+              (segments p (seen p (s .world .disk)) (named d))) ≡ none
+              → inOrder p (s .world) d ≡ true
           passed f = unfold inOrder in and-both (inRange p && namesDrive p d) (lentOk p (s .world .disk) (s .world .memory))
-              (and-both (inRange p) (namesDrive p d) (not-false (inRange p) (or-l (not (inRange p)) (not (namesDrive p d)) (two f .0))) (not-false (namesDrive p d) (or-r (not (inRange p)) (not (namesDrive p d)) (two f .0))))
+              (and-both (inRange p) (namesDrive p d) (not-false (inRange p) (or-l (not (inRange p)) (not (namesDrive p d)) (two f .0)))
+              (not-false (namesDrive p d) (or-r (not (inRange p)) (not (namesDrive p d)) (two f .0))))
               (not-false (lentOk p (s .world .disk) (s .world .memory)) (two f .1))
             where
               two : firstRefusal (restartChecks p (lentOk p (s .world .disk) (s .world .memory)) (seen p (s .world .disk)) d (segments p (seen p (s .world .disk)) (named d))) ≡ none
@@ -157,7 +192,9 @@ module _ (p : Params) (h : Ranged p) (s : Hist) (H : Holds p h s) where
 
           is : restartIn p (s .world) (boots d c m im ps) ≡ none
           is = unfold restartIn callOf restartOf in (ap (λ (x : World). orderly p x (some d)) was ∙ (unfold orderly in (ap (λ (x : Bool). onlyIf x (some d)) q ∙ (unfold onlyIf in refl))))
-      go (yes! q) = ordered-event (boots d c m im ps) d c k m hp st is (swapped-whole p (s .world .disk) whole? d im ps) (swapped-ok p (s .world .disk) whole? d im ps .others) (swapped-none p (s .world .disk) whole? d im ps) ord al
+      go (yes! q) =
+          ordered-event (boots d c m im ps) d c k m hp st is (swapped-whole p (s .world .disk) whole? d im ps)
+          (swapped-ok p (s .world .disk) whole? d im ps .others) (swapped-none p (s .world .disk) whole? d im ps) ord al
         where
           was : before p (s .world) (boots d c m im ps) ≡ mkWorld k m
           was = unfold before in cond-true (inOrder p (mkWorld (s .world .disk) m) d) (mkWorld (swapped p (s .world .disk) d im ps) m) (mkWorld (s .world .disk) m) q
@@ -228,7 +265,9 @@ empty-holds p h k e = rests 0 (record {
 }) (inl refl)
   where
     go : Go (parOf p h) (start (parOf p h)) (mst (start (parOf p h) .g) (itemsIn p (seen p k)) [] false off) noTrack noTrack
-    go = go-view (parOf p h) (start (parOf p h)) (start (parOf p h) .g) (λ d z. []) (itemsIn p (seen p k)) [] false off noTrack noTrack (sym (empty-items p h k e)) (unfold start in go-none (parOf p h) (start (parOf p h)) noTrack)
+    go =
+        go-view (parOf p h) (start (parOf p h)) (start (parOf p h) .g) (λ d z. []) (itemsIn p (seen p k)) [] false off noTrack noTrack
+        (sym (empty-items p h k e)) (unfold start in go-none (parOf p h) (start (parOf p h)) noTrack)
 
     I : Inv (parOf p h) (mst (start (parOf p h) .g) (itemsIn p (seen p k)) [] false off) × Tracked (mst (start (parOf p h) .g) (itemsIn p (seen p k)) [] false off) noTrack
     I = go-start (parOf p h) (mst (start (parOf p h) .g) (itemsIn p (seen p k)) [] false off) noTrack go

@@ -76,7 +76,9 @@ module _ (p : Params) (h : Ranged p) (s : Hist) (n : ℕ) (x : Stands p h s n) w
         go (no! f) q = eqb-true (s .untrusted) (named noDrive) (sym (ap (λ (b : Bool). b || eqb (s .untrusted) (named noDrive)) f) ∙ q) ∙ none-named
 
     none? : p .N ≤ x .g .un
-    none? = ⊎-elim (λ (q : (s .untrusted ≡ 0) × (p .N ≤ x .g .un)). q .1) (λ (q : (x .g .un < p .N) × (s .untrusted ≡ named (x .g .un))). absurd (named-not p h (x .g .un) (q .0) (sym (q .1) ∙ zero?))) (x .trust)
+    none? =
+        ⊎-elim (λ (q : (s .untrusted ≡ 0) × (p .N ≤ x .g .un)). q .1)
+        (λ (q : (x .g .un < p .N) × (s .untrusted ≡ named (x .g .un))). absurd (named-not p h (x .g .un) (q .0) (sym (q .1) ∙ zero?))) (x .trust)
 
     on₀ : OnDrives p h (x .g) (seen p (s .world .disk))
     on₀ = linked-on p h v₀ (x .g) (x .a) (x .c) (x .m) (stands-linked p h s n x)
@@ -135,15 +137,21 @@ module _ (p : Params) (h : Ranged p) (s : Hist) (n : ℕ) (x : Stands p h s n) w
       known′ y i = (stands-known p h s n x) y (subst (λ (l : List Val). InV y l) (D .same .sent) i)
 
       shows₀ : (i : ℕ) → i < p .L → Shows p (D .g′ .sent) K i (seenAt p (mkWorld k m′) i)
-      shows₀ i l = unfold readOn in shows-read p h (D .g′) k wk (D .set .on) known′ noDrive (none-choice p h (D .g′) u (D .set)) m′ (restart-tabled p h (D .g′) u (D .set .on) noDrive (none-choice p h (D .g′) u (D .set)) nm (mem .inflight)) in-range
-          (restart-lent p h (D .g′) u (D .set .on) noDrive (none-choice p h (D .g′) u (D .set)) nm (mem .inflight) k wk (boot-lent p h k₀ mem noDrive c (x .g) on₀ (stands-known p h s n x) (inl none?) ord al)) i l
+      shows₀ i l =
+          unfold readOn in shows-read p h (D .g′) k wk (D .set .on) known′ noDrive (none-choice p h (D .g′) u (D .set)) m′
+          (restart-tabled p h (D .g′) u (D .set .on) noDrive (none-choice p h (D .g′) u (D .set)) nm (mem .inflight)) in-range
+          (restart-lent p h (D .g′) u (D .set .on) noDrive (none-choice p h (D .g′) u (D .set)) nm (mem .inflight) k wk
+          (boot-lent p h k₀ mem noDrive c (x .g) on₀ (stands-known p h s n x) (inl none?) ord al)) i l
 
       shows : (i : ℕ) → i < p .L → Shows p (x .g .sent) K i (seenAt p (mkWorld k m′) i)
       shows i l = shows-more p (D .g′ .sent) (x .g .sent) K K i (seenAt p (mkWorld k m′) i) (λ y j. subst (λ (l : List Val). InV y l) (D .same .sent) j) refl (shows₀ i l)
 
       -- what is read is no later than the greatest stamp
       K-low : (i : ℕ) → K i ≤ stampTop p u
-      K-low i = ⊎-elim (λ (e : K i ≡ 0). omega (arith, e)) (λ (y : (y : Val) × Counted (parOf p h) (D .g′ .hd) (itemsIn p u) (D .g′ .un) y × (y .addr ≡ i) × (y .stamp ≡ K i)). omega (arith, top (y .0) (y .1), y .3)) (rd .some i)
+      K-low i =
+          ⊎-elim (λ (e : K i ≡ 0). omega (arith, e)) (λ
+          (y : (y : Val) × Counted (parOf p h) (D .g′ .hd) (itemsIn p u) (D .g′ .un) y × (y .addr ≡ i) × (y .stamp ≡ K i)). omega
+          (arith, top (y .0) (y .1), y .3)) (rd .some i)
         where
           rd : Reads (parOf p h) (D .g′ .hd) (itemsIn p u) (D .g′ .un) K
           rd = unfold readOn in ends-reads p h (D .g′) u (D .set)
@@ -164,7 +172,9 @@ module _ (p : Params) (h : Ranged p) (s : Hist) (n : ℕ) (x : Stands p h s n) w
             shows = y .shows;
           })) (shows₀ i l)
 
-      live : (y : Live p h u (m′ .state) (m′ .inflight) (m′ .addresses) (map forget (s .sends)) (length (s .sends))) × (y .g ≡ doneGhost p h v₀ (s .sends) n (x .g) (x .a) (x .c) (x .m) (x .T) (x .reached) u D (mem .inflight))
+      live :
+          (y : Live p h u (m′ .state) (m′ .inflight) (m′ .addresses) (map forget (s .sends)) (length (s .sends)))
+          × (y .g ≡ doneGhost p h v₀ (s .sends) n (x .g) (x .a) (x .c) (x .m) (x .T) (x .reached) u D (mem .inflight))
       live = begins p h v₀ (s .sends) n (x .g) (x .a) (x .c) (x .m) (x .T) (x .reached) u D (mem .inflight)
 
       runs-on : Holds p h (hist (mkWorld k m′) (map forget (s .sends)) (named noDrive) (some (record { world = mkWorld k m′; sentThen = length (map forget (s .sends)) })))
@@ -181,7 +191,13 @@ module _ (p : Params) (h : Ranged p) (s : Hist) (n : ℕ) (x : Stands p h s n) w
         q = restartPlan p v₀ noDrive gs (mem .inflight)
 
         go : (b : Bool) → Booted p h s (restart noDrive c) (limited b p (storeDisk p) c k₀ mem [] (restartPlan p v₀ noDrive gs (mem .inflight)))
-        go true = unfold limited restartPlan in subst (λ (w : View). Booted p h s (restart noDrive c) (mkAfter (Restarted (reportOf p (named noDrive) gs)) (storeAll (storeDisk p) ss k₀) (restartMemory p w (named noDrive) (mem .inflight)) []))
+        go true =
+            unfold limited restartPlan in subst (λ (w : View). Booted p h s (restart noDrive c)
+            (mkAfter (Restarted (reportOf p (named noDrive) gs)) (storeAll (storeDisk p) ss k₀)
+            (restartMemory p w (named noDrive) (mem .inflight)) []))
             (seen-stores p h k₀ (x .whole) ss right?)
-            (finishes (storeAll (storeDisk p) ss k₀) (whole-all p h k₀ (x .whole) ss right?) (subst (RestartDone p h (x .g) (x .a) (x .c)) (sym (seen-stores p h k₀ (x .whole) ss right?)) (both .1)) [])
-        go false = unfold limited restartPlan in cuts (storeAll (storeDisk p) (take c ss) k₀) (whole-cut p h k₀ (x .whole) ss right? c) [] (subst (CutTo p h (x .g) (x .a) (x .c)) (sym (seen-cut p h k₀ (x .whole) ss right? c)) (both .0 c))
+            (finishes (storeAll (storeDisk p) ss k₀) (whole-all p h k₀ (x .whole) ss right?)
+            (subst (RestartDone p h (x .g) (x .a) (x .c)) (sym (seen-stores p h k₀ (x .whole) ss right?)) (both .1)) [])
+        go false =
+            unfold limited restartPlan in cuts (storeAll (storeDisk p) (take c ss) k₀) (whole-cut p h k₀ (x .whole) ss right? c) []
+            (subst (CutTo p h (x .g) (x .a) (x .c)) (sym (seen-cut p h k₀ (x .whole) ss right? c)) (both .0 c))

@@ -91,7 +91,9 @@ module _ (p : Params) (h : Ranged p) (s : Hist) (n : ℕ) (x : Stands p h s n) (
     m = off;
     T = x .T;
     whole = wk;
-    reached = reached-to p h v₀ (map forget (s .sends)) n (x .g) (x .a) (x .c) (x .m) (x .T) forgot (seen p k) (withUn (x .g) d) (x .c) off n (l .inv) (l .shape) (l .bytes) (λ y i. i) (forgot .marked) (forgot .still);
+    reached =
+        reached-to p h v₀ (map forget (s .sends)) n (x .g) (x .a) (x .c) (x .m) (x .T) forgot (seen p k) (withUn (x .g) d) (x .c) off n (l .inv)
+        (l .shape) (l .bytes) (λ y i. i) (forgot .marked) (forgot .still);
     trust = inr (dl, refl);
     mark = mark-moves p (x .g) (withUn (x .g) d) n (s .mark) (λ y i. i) refl (x .mark);
   }) (inl (unfold cutMemory in refl))
@@ -107,7 +109,9 @@ module _ (p : Params) (h : Ranged p) (s : Hist) (n : ℕ) (x : Stands p h s n) (
     m = ro;
     T = x .T;
     whole = wk;
-    reached = reached-to p h v₀ (s .sends) n (x .g) (x .a) (x .c) (x .m) (x .T) (x .reached) (seen p k) (withUn (withUn (x .g) d) (p .N)) (x .c) ro n (l .inv) (l .shape) (l .bytes) (λ y i. i) (x .reached .marked) (x .reached .still);
+    reached =
+        reached-to p h v₀ (s .sends) n (x .g) (x .a) (x .c) (x .m) (x .T) (x .reached) (seen p k) (withUn (withUn (x .g) d) (p .N)) (x .c) ro n
+        (l .inv) (l .shape) (l .bytes) (λ y i. i) (x .reached .marked) (x .reached .still);
     trust = inl (refl, omega arith);
     mark = mark-moves p (x .g) (withUn (withUn (x .g) d) (p .N)) n (s .mark) (λ y i. i) refl (x .mark);
   }) (inr (d, dl, is, inl (omega arith)))
@@ -120,12 +124,16 @@ module _ (p : Params) (h : Ranged p) (s : Hist) (n : ℕ) (x : Stands p h s n) (
       q = mkPlan ss Rebuilt (s .world .memory) []
 
       call-is : callDisk p k₀ (s .world .memory) (rebuild d c) ≡ limited (leb (length ss) c) p (storeDisk p) c k₀ (s .world .memory) [] (mkPlan ss Rebuilt (s .world .memory) [])
-      call-is = unfold callDisk callOn verdict rebuildVerdict storeCount lentBlock in (ap (λ (o : Opt Answer). outcome p (storeDisk p) c k₀ (s .world .memory) [] (decided o (mkPlan ss Rebuilt (s .world .memory) []))) e ∙ (unfold decided outcome in refl))
+      call-is =
+          unfold callDisk callOn verdict rebuildVerdict storeCount lentBlock in
+          (ap (λ (o : Opt Answer). outcome p (storeDisk p) c k₀ (s .world .memory) [] (decided o (mkPlan ss Rebuilt (s .world .memory) []))) e
+          ∙ (unfold decided outcome in refl))
 
       go : (b : Bool) → Holds p h (leaves s (rebuild d c) (limited b p (storeDisk p) c k₀ (s .world .memory) [] (mkPlan ss Rebuilt (s .world .memory) [])))
       go true = unfold limited in subst (Holds p h) (sym (rebuild-leaves s d c (storeAll (storeDisk p) ss k₀) (s .world .memory) []))
           (done? (storeAll (storeDisk p) ss k₀) (whole-all p h k₀ (x .whole) ss right?)
-          (subst (λ (w : View). Linked p h w (withUn (withUn (x .g) d) (p .N)) (x .a) (x .c) ro) (sym (seen-stores p h k₀ (x .whole) ss right?)) (rebuild-end p h v₀ (x .g) (x .a) (x .c) (x .m) lk d dl ch)))
+          (subst (λ (w : View). Linked p h w (withUn (withUn (x .g) d) (p .N)) (x .a) (x .c) ro) (sym (seen-stores p h k₀ (x .whole) ss right?))
+          (rebuild-end p h v₀ (x .g) (x .a) (x .c) (x .m) lk d dl ch)))
       go false = unfold limited in subst (Holds p h) (sym (rebuild-leaves-cut s d c (storeAll (storeDisk p) (take c ss) k₀) (cutMemory p (s .world .memory)) []))
           (cut? (storeAll (storeDisk p) (take c ss) k₀) (whole-cut p h k₀ (x .whole) ss right? c)
           (subst (λ (w : View). Linked p h w (withUn (x .g) d) (x .a) (x .c) off) (sym (seen-cut p h k₀ (x .whole) ss right? c)) (rebuild-cut p h v₀ (x .g) (x .a) (x .c) (x .m) lk d dl ch c)))
@@ -145,21 +153,32 @@ module _ (p : Params) (h : Ranged p) (s : Hist) (n : ℕ) (x : Stands p h s n) w
       go : (o : Opt Answer) → firstRefusal (decides p long (seen p (s .world .disk)) (s .world .memory) (rebuild e c) .checks) ≡ o → Holds p h (step p s (calls (rebuild e c)))
       go (some a) f = as-it-was (inr (d, dl, is, ch)) (rebuild e c) (refused-step p s (rebuild e c) a f)
       go none f = subst (Holds p h) (sym (call-leaves p s (rebuild e c))) (subst (λ (i : ℕ). Holds p h (leaves s (rebuild i c) (callDisk p (s .world .disk) (s .world .memory) (rebuild i c)))) one
-          (rebuilt-ok p h s n x d c dl ch is (subst (λ (i : ℕ). firstRefusal (rebuildChecks p long (seen p (s .world .disk)) (s .world .memory) i (segments p (seen p (s .world .disk)) (named i))) ≡ none) (sym one) f′)))
+          (rebuilt-ok p h s n x d c dl ch is (subst (λ (i : ℕ). firstRefusal
+          (rebuildChecks p long (seen p (s .world .disk)) (s .world .memory) i (segments p (seen p (s .world .disk)) (named i)))
+          ≡ none) (sym one) f′)))
         where
           f′ : firstRefusal (rebuildChecks p long (seen p (s .world .disk)) (s .world .memory) e (segments p (seen p (s .world .disk)) (named e))) ≡ none
           f′ = reveal f
             where
-              reveal : firstRefusal (decides p long (seen p (s .world .disk)) (s .world .memory) (rebuild e c) .checks) ≡ none → firstRefusal (rebuildChecks p long (seen p (s .world .disk)) (s .world .memory) e (segments p (seen p (s .world .disk)) (named e))) ≡ none
+              reveal :
+                  firstRefusal (decides p long (seen p (s .world .disk)) (s .world .memory) (rebuild e c) .checks) ≡ none
+                  → firstRefusal
+                  (rebuildChecks p long (seen p (s .world .disk)) (s .world .memory) e (segments p (seen p (s .world .disk)) (named e))) ≡ none
               reveal f = unfold decides in f
 
           one : d ≡ e
           one = named-same d e (omega (arith, dl, h .drives-high)) (sym is ∙ same f′)
             where
-              same : firstRefusal (rebuildChecks p long (seen p (s .world .disk)) (s .world .memory) e (segments p (seen p (s .world .disk)) (named e))) ≡ none → s .world .memory .state .missing ≡ named e
+              same :
+                  firstRefusal (rebuildChecks p long (seen p (s .world .disk)) (s .world .memory) e (segments p (seen p (s .world .disk)) (named e)))
+                  ≡ none
+                  → s .world .memory .state .missing ≡ named e
               same f = unfold rebuildChecks namesMissing in
-                  let q : (ltb e (p .N) && eqb (s .world .memory .state .missing) (named e)) ≡ true = not-false (ltb e (p .N) && eqb (s .world .memory .state .missing) (named e)) (or-r (not (inRange p)) (not (ltb e (p .N) && eqb (s .world .memory .state .missing) (named e)))
-                  (passes (rule 1 (not (inRange p) || not (ltb e (p .N) && eqb (s .world .memory .state .missing) (named e))) ∷ rule 2 (not long) ∷ imageChecks p (seen p (s .world .disk)) (named e) (segments p (seen p (s .world .disk)) (named e))) f .0)) in
+                  let q : (ltb e (p .N) && eqb (s .world .memory .state .missing) (named e))
+                  ≡ true = not-false (ltb e (p .N) && eqb (s .world .memory .state .missing) (named e)) (or-r (not (inRange p))
+                  (not (ltb e (p .N) && eqb (s .world .memory .state .missing) (named e)))
+                  (passes (rule 1 (not (inRange p) || not (ltb e (p .N) && eqb (s .world .memory .state .missing) (named e))) ∷ rule 2 (not long) ∷
+                  imageChecks p (seen p (s .world .disk)) (named e) (segments p (seen p (s .world .disk)) (named e))) f .0)) in
                   eqb-true (s .world .memory .state .missing) (named e) (and-right (ltb e (p .N)) (eqb (s .world .memory .state .missing) (named e)) q)
 
   pub rest-step : Quiet p (x .g .un) (s .world .memory .state) → (c : Call) → restartOf c ≡ none → Holds p h (step p s (calls c))

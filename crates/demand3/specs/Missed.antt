@@ -89,7 +89,9 @@ module _ (p : Params) (h : Ranged p) (s : Hist) (n : ℕ) (x : Stands p h s n) w
     tab = restart-tabled p h (withUn (x .g) d) u on d (inr refl) nm (mem .inflight)
 
     shows : (i : ℕ) → i < p .L → Shows p (x .g .sent) K i (seenAt p (mkWorld k m′) i)
-    shows i l = unfold missingRead in shows-read p h (withUn (x .g) d) k wk on (stands-known p h s n x) d (inr refl) m′ tab (parts p h k mem d c (withUn (x .g) d) on (stands-known p h s n x) (inr refl) ord al .0)
+    shows i l =
+        unfold missingRead in shows-read p h (withUn (x .g) d) k wk on (stands-known p h s n x) d (inr refl) m′ tab
+        (parts p h k mem d c (withUn (x .g) d) on (stands-known p h s n x) (inr refl) ord al .0)
         (restart-lent p h (withUn (x .g) d) u on d (inr refl) nm (mem .inflight) k wk (boot-lent p h k mem d c (withUn (x .g) d) on (stands-known p h s n x) (inr refl) ord al)) i l
 
     abbrev g′ : Ghost
@@ -106,20 +108,35 @@ module _ (p : Params) (h : Ranged p) (s : Hist) (n : ℕ) (x : Stands p h s n) w
       m = ro;
       T = x .T;
       whole = wk;
-      reached = reached-to p h v₀ (map forget (s .sends)) n (x .g) (x .a) (x .c) (x .m) (x .T) (reached-forget p h v₀ (s .sends) n (x .g) (x .a) (x .c) (x .m) (x .T) (x .reached)) u g′ false ro (length (map forget (s .sends)))
+      reached =
+          reached-to p h v₀ (map forget (s .sends)) n (x .g) (x .a) (x .c) (x .m) (x .T)
+          (reached-forget p h v₀ (s .sends) n (x .g) (x .a) (x .c) (x .m) (x .T) (x .reached)) u g′ false ro (length (map forget (s .sends)))
           (lk′ .inv) (lk′ .shape) (lk′ .bytes) (λ y i. i) (omega arith) (λ e. refl);
       trust = inr (dl, refl);
       mark = (refl, shows);
     }) (inr (d, dl, tab .missing, inr refl))
 
     no-stores : restartStores p (named d) (segments p (seen p k) (named d)) ≡ []
-    no-stores = unfold restartStores in cond-false (eqb (named d) 0) (dropStores p (segments p u (named d)) ++ flat (mendStores p (segments p u (named d))) (unsealed (segments p u (named d)))) [] (named-some d (omega (arith, dl, h .drives-high)))
+    no-stores =
+        unfold restartStores in cond-false (eqb (named d) 0)
+        (dropStores p (segments p u (named d)) ++ flat (mendStores p (segments p u (named d))) (unsealed (segments p u (named d)))) []
+        (named-some d (omega (arith, dl, h .drives-high)))
 
     pub boot-missing : Booted p h s (restart d c) (callDisk p k mem (restart d c))
     boot-missing = subst (Booted p h s (restart d c)) (sym (boot-is p h k mem d c (withUn (x .g) d) on (stands-known p h s n x) (inr refl) ord al ∙ is))
-        (boot-done p h s n x (mkWorld k m′) K (missing-claim p h (seen p (s .world .disk)) u (x .g) (x .a) (x .c) (x .m) (stands-linked p h s n x) d dl ch sh same) shows d c (reportOf p (named d) (segments p u (named d))) k m′ [] refl stays)
+        (boot-done p h s n x (mkWorld k m′) K
+        (missing-claim p h (seen p (s .world .disk)) u (x .g) (x .a) (x .c) (x .m) (stands-linked p h s n x) d dl ch sh same) shows d c
+        (reportOf p (named d) (segments p u (named d))) k m′ [] refl stays)
       where
-        is : limited (leb (length (restartStores p (named d) (segments p u (named d)))) c) p (storeDisk p) c k mem [] (restartPlan p u d (segments p u (named d)) (mem .inflight)) ≡ mkAfter (Restarted (reportOf p (named d) (segments p u (named d)))) k m′ []
+        is :
+            limited (leb (length (restartStores p (named d) (segments p u (named d)))) c) p (storeDisk p) c k mem []
+            (restartPlan p u d (segments p u (named d)) (mem .inflight))
+            ≡ mkAfter (Restarted (reportOf p (named d) (segments p u (named d)))) k m′ []
         is = unfold restartPlan in (
-            ap (λ (l : List Store). limited (leb (length l) c) p (storeDisk p) c k mem [] (mkPlan l (Restarted (reportOf p (named d) (segments p u (named d)))) (restartMemory p (storeAll storeView l u) (named d) (mem .inflight)) [])) no-stores
-            ∙ ap (λ (b : Bool). limited b p (storeDisk p) c k mem [] (mkPlan [] (Restarted (reportOf p (named d) (segments p u (named d)))) (restartMemory p (storeAll storeView [] u) (named d) (mem .inflight)) [])) (le-leb 0 c (omega arith)) ∙ (unfold limited storeAll in refl))
+            ap (λ (l : List Store). limited (leb (length l) c) p (storeDisk p) c k mem []
+            (mkPlan l (Restarted (reportOf p (named d) (segments p u (named d))))
+            (restartMemory p (storeAll storeView l u) (named d) (mem .inflight)) [])) no-stores
+            ∙ ap (λ (b : Bool). limited b p (storeDisk p) c k mem []
+            (mkPlan [] (Restarted (reportOf p (named d) (segments p u (named d))))
+            (restartMemory p (storeAll storeView [] u) (named d) (mem .inflight)) [])) (le-leb 0 c (omega arith))
+            ∙ (unfold limited storeAll in refl))

@@ -34,7 +34,8 @@ module _ (p : Params) (k : Disk) (w : Whole p k) (d : ℕ) (im ps : List ℕ) wh
   pub swapped-none : p .N ≤ d → swapped p k d im ps ≡ k
   unfolding swapped
   swapped-none l = cond-false fits? other k (false-of fits? (λ q.
-      let b : d < p .N = ltb-true d (p .N) (and-left (ltb d (p .N)) (eqb (length im) (driveLen p)) (and-left (ltb d (p .N) && eqb (length im) (driveLen p)) (eqb (length ps) (4 * p .Z)) q)) in let z : ⊥ = omega (arith, b, l) in z))
+      let b : d < p .N = ltb-true d (p .N) (and-left (ltb d (p .N)) (eqb (length im) (driveLen p)) (and-left (ltb d (p .N) && eqb (length im) (driveLen p)) (eqb (length ps) (4 * p .Z)) q)) in
+      let z : ⊥ = omega (arith, b, l) in z))
 
   module _ (q : fits? ≡ true) where
     dl : d < p .N
@@ -71,7 +72,9 @@ module _ (p : Params) (k : Disk) (w : Whole p k) (d : ℕ) (im ps : List ℕ) wh
 
     same : (e y : ℕ) → e ≢ d → zoneAt (seen p other) e y ≡ zoneAt (seen p k) e y
     same e y n = unfold zoneAt in ap (λ (x : List Zone). getD x y noZone) (ap (λ (v : View). getD v e []) view-is
-        ∙ getD-set-other (viewOf p (k .image) (k .pointers)) d e (driveOf p (splice (getD (pieces (driveLen p) (p .N) (k .image)) d []) 0 im) (splice (getD (pieces (4 * p .Z) (p .N) (k .pointers)) d []) 0 ps)) [] n)
+        ∙ getD-set-other (viewOf p (k .image) (k .pointers)) d e
+        (driveOf p (splice (getD (pieces (driveLen p) (p .N) (k .image)) d []) 0 im)
+        (splice (getD (pieces (4 * p .Z) (p .N) (k .pointers)) d []) 0 ps)) [] n)
 
   pub record Swapped (u : Disk) : Type 0 where
     pub image : length (u .image) ≡ length (k .image)
@@ -91,5 +94,10 @@ module _ (p : Params) (k : Disk) (w : Whole p k) (d : ℕ) (im ps : List ℕ) wh
 
   pub swapped-lent : (m : Memory) → lentOk p (swapped p k d im ps) m ≡ lentOk p k m
   unfolding lentOk
-  swapped-lent m = ap₂ (λ (x y : ℕ). eqb x (imageLen p) && eqb y (pointersLen p) && eqb (length (m .addresses)) (addressesLen p) && eqb (length (m .compact)) (compactLen p) && eqb (length (m .inflight)) (inflightLen p))
+  swapped-lent m =
+      ap₂ (λ (x y : ℕ). eqb x (imageLen p)
+      && eqb y (pointersLen p)
+      && eqb (length (m .addresses)) (addressesLen p)
+      && eqb (length (m .compact)) (compactLen p)
+      && eqb (length (m .inflight)) (inflightLen p))
       (swapped-ok .image) (swapped-ok .pointers)

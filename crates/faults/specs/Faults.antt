@@ -239,7 +239,9 @@ module _ (p : Params) (v : View) (gone : ℕ) (flags : List Bool) where
   pub seen-all : (e : Exam) → Keeps p v gone flags → Seen p v gone flags (p .Z) e → e .zone ≡ firstOr (p .Z) (segmentFaults p gone (segments p v gone)) → Examined p gone (segments p v gone) e
   unfolding summed uncountedIn sumOf openBy
   seen-all e k s z =
-      let opens : (w : Segment → ℕ) → total (map (λ g. w (segmentOf p v gone g)) (keep (λ g. getD flags g false && not (sealedIn p v gone g)) (below (p .Z)))) ≡ total (map w (unsealed (segments p v gone))) =
+      let opens : (w : Segment → ℕ)
+      → total (map (λ g. w (segmentOf p v gone g)) (keep (λ g. getD flags g false && not (sealedIn p v gone g)) (below (p .Z)))) ≡ total
+      (map w (unsealed (segments p v gone))) =
       λ w. sym (ap (λ (l : List Segment). total (map w l)) (unsealed-list p v gone flags k)
       ∙ ap total (map-map w (segmentOf p v gone) (keep (λ g. getD flags g false && not (sealedIn p v gone g)) (below (p .Z))))) in
       record {

@@ -164,7 +164,10 @@ module _ (p : Params) (gs : List Segment) (e : Exam) (x : Examined p 0 gs e) (z 
   -- 01, Restart, 4: with none unsealed nothing is ragged
   pub ragged-none : unsealed gs ≡ [] → raggedBy p e ≡ false
   unfolding raggedBy
-  ragged-none nil = (λ i. not (eqb (e .counted) (p .S)) && (not (eqb (top-none p 0 gs e x z nil i) (counted-none p 0 gs e x z nil i)) || not (eqb (part-none p 0 gs e x z nil i) 0))) ∙ and-none (not (eqb (e .counted) (p .S)))
+  ragged-none nil =
+      (λ i. not (eqb (e .counted) (p .S))
+      && (not (eqb (top-none p 0 gs e x z nil i) (counted-none p 0 gs e x z nil i)) || not (eqb (part-none p 0 gs e x z nil i) 0)))
+      ∙ and-none (not (eqb (e .counted) (p .S)))
 
   -- 01, Restart, 4: any unsealed segment is ragged
   pub any-ragged : length (unsealed gs) ≤ 1 → any (isRagged p) (unsealed gs) ≡ raggedBy p e

@@ -110,7 +110,9 @@ fn exam_segment(
     requires { ⌜ Serials p (viewOf p (now image) (now pointers)) gone (now serials) ⌝ }
     requires { ⌜ (g < p .Z) × (many ≡ leb 2 (length (unsealed (segments p (viewOf p (now image) (now pointers)) gone)))) × Seen p (viewOf p (now image) (now pointers)) gone (now kept) g e ⌝ }
     ensures { λ r. ⌜ (faulty p (viewOf p (now (image .entry)) (now (pointers .entry))) gone g ≡ true → r .zone ≡ g) ⌝ }
-    ensures { λ r. ⌜ (faulty p (viewOf p (now (image .entry)) (now (pointers .entry))) gone g ≡ false → Seen p (viewOf p (now (image .entry)) (now (pointers .entry))) gone (now (kept .entry)) (g + 1) r) ⌝ }
+    ensures { λ r. ⌜
+        (faulty p (viewOf p (now (image .entry)) (now (pointers .entry))) gone g ≡ false
+        → Seen p (viewOf p (now (image .entry)) (now (pointers .entry))) gone (now (kept .entry)) (g + 1) r) ⌝ }
 {
     if !kept[g] {
         return e;

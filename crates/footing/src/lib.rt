@@ -33,7 +33,10 @@ fn records_of(p: Params, i: usize) -> usize
 pub fn make_footer(p: Params, image: &[u8], drive: usize, zone: usize, i: usize, block: &mut [u8])
     requires { ⌜ inRange p ≡ true ⌝ }
     requires { ⌜ (length (now image) ≡ imageLen p) × (drive < p .N) × (zone < p .Z) × (i < footers p) × (length (now block) ≡ p .B) ⌝ }
-    ensures { λ _. ⌜ ((ps : List ℕ) → length ps ≡ pointersLen p → now (block .exit) ≡ footerBlock p (sparesOf (take (p .S) (drop 1 (zoneAt (viewOf p (now (image .entry)) ps) drive zone .blocks)))) i) ⌝ }
+    ensures { λ _. ⌜
+        ((ps : List ℕ)
+        → length ps ≡ pointersLen p
+        → now (block .exit) ≡ footerBlock p (sparesOf (take (p .S) (drop 1 (zoneAt (viewOf p (now (image .entry)) ps) drive zone .blocks)))) i) ⌝ }
 {
     blocks::clear(block);
     let n = records_of(p, i);
@@ -119,7 +122,10 @@ fn store_footers(
     requires { ⌜ inRange p ≡ true ⌝ }
     requires { ⌜ Whole p (mkDisk (now image) (now pointers)) ⌝ }
     requires { ⌜ (drive < p .N) × (zone < p .Z) × (0 < n) × (first + n ≤ footers p) × (pointerOf p (now pointers) drive zone + n ≤ capacity p) ⌝ }
-    ensures { λ _. ⌜ mkDisk (now (image .exit)) (now (pointers .exit)) ≡ storeAll (storeDisk p) (footerStores p drive zone (zoneAt (viewOf p (now (image .entry)) (now (pointers .entry))) drive zone) first n) (mkDisk (now (image .entry)) (now (pointers .entry))) ⌝ }
+    ensures { λ _. ⌜
+        mkDisk (now (image .exit)) (now (pointers .exit))
+        ≡ storeAll (storeDisk p) (footerStores p drive zone (zoneAt (viewOf p (now (image .entry)) (now (pointers .entry))) drive zone) first n)
+        (mkDisk (now (image .entry)) (now (pointers .entry))) ⌝ }
 {
     let at = zones::pointer(p, pointers, drive, zone) as usize;
     write_footers(p, image, drive, zone, at, first, n);
@@ -166,7 +172,9 @@ pub fn footer_stores(
     requires { ⌜ inRange p ≡ true ⌝ }
     requires { ⌜ Whole p (mkDisk (now image) (now pointers)) ⌝ }
     requires { ⌜ (drive < p .N) × (zone < p .Z) × (first + n ≤ footers p) × (pointerOf p (now pointers) drive zone + n ≤ capacity p) ⌝ }
-    ensures { λ r. ⌜ Storing p count (footerStores p drive zone (zoneAt (viewOf p (now (image .entry)) (now (pointers .entry))) drive zone) first n) (mkDisk (now (image .entry)) (now (pointers .entry))) r (mkDisk (now (image .exit)) (now (pointers .exit))) ⌝ }
+    ensures { λ r. ⌜
+        Storing p count (footerStores p drive zone (zoneAt (viewOf p (now (image .entry)) (now (pointers .entry))) drive zone) first n)
+        (mkDisk (now (image .entry)) (now (pointers .entry))) r (mkDisk (now (image .exit)) (now (pointers .exit))) ⌝ }
 {
     let m = allowed(n, count);
     if m == 0 {

@@ -99,7 +99,12 @@ fn header_fault(
 ) -> bool
     requires { ⌜ inRange p ≡ true ⌝ }
     requires { ⌜ (length (now image) ≡ imageLen p) × (segment < p .Z) ⌝ }
-    ensures { λ r. ⌜ ((ps : List ℕ) → length ps ≡ pointersLen p → serial .0 ≡ segmentOf p (viewOf p (now (image .entry)) ps) gone segment .serial → copied .0 ≡ segmentOf p (viewOf p (now (image .entry)) ps) gone segment .copied → r ≡ headerFault p gone (segmentOf p (viewOf p (now (image .entry)) ps) gone segment)) ⌝ }
+    ensures { λ r. ⌜
+        ((ps : List ℕ)
+        → length ps ≡ pointersLen p
+        → serial .0 ≡ segmentOf p (viewOf p (now (image .entry)) ps) gone segment .serial
+        → copied .0 ≡ segmentOf p (viewOf p (now (image .entry)) ps) gone segment .copied
+        → r ≡ headerFault p gone (segmentOf p (viewOf p (now (image .entry)) ps) gone segment)) ⌝ }
 {
     let mut d = 0;
     while d < p.N {
@@ -122,7 +127,13 @@ pub fn front_fault(
 ) -> bool
     requires { ⌜ inRange p ≡ true ⌝ }
     requires { ⌜ (length (now image) ≡ imageLen p) × (p .Z ≤ length (now kept)) × (p .Z ≤ length (now serials)) × (g < p .Z) ⌝ }
-    ensures { λ r. ⌜ ((ps : List ℕ) → length ps ≡ pointersLen p → Keeps p (viewOf p (now (image .entry)) ps) gone (now (kept .entry)) → Serials p (viewOf p (now (image .entry)) ps) gone (now (serials .entry)) → r ≡ (headerFault p gone (segmentOf p (viewOf p (now (image .entry)) ps) gone g) || serialFault (segments p (viewOf p (now (image .entry)) ps) gone) (segmentOf p (viewOf p (now (image .entry)) ps) gone g))) ⌝ }
+    ensures { λ r. ⌜
+        ((ps : List ℕ)
+        → length ps ≡ pointersLen p
+        → Keeps p (viewOf p (now (image .entry)) ps) gone (now (kept .entry))
+        → Serials p (viewOf p (now (image .entry)) ps) gone (now (serials .entry))
+        → r ≡ (headerFault p gone (segmentOf p (viewOf p (now (image .entry)) ps) gone g)
+        || serialFault (segments p (viewOf p (now (image .entry)) ps) gone) (segmentOf p (viewOf p (now (image .entry)) ps) gone g))) ⌝ }
 {
     let serial = Serial(serials[g]);
     let low = remains::low_drive(p, gone);

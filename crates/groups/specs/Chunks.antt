@@ -65,7 +65,9 @@ module _ (p : Params) (v : View) (gone seg : ℕ) where
   unfolding recsOn segmentOf drivesOf
   recs-out d k =
       List·getD-eq-default (map (λ d. cond (isIn gone d) [] (recordsIn p (sealedIn p v gone seg) (getD (map (λ d. zoneAt v d (zoneOn seg d)) (below (p .N))) d noZone))) (below (p .N))) [] {n = d}
-      (let e = length-map (below (p .N)) (λ d. cond (isIn gone d) [] (recordsIn p (sealedIn p v gone seg) (getD (map (λ d. zoneAt v d (zoneOn seg d)) (below (p .N))) d noZone))) ∙ length-below (p .N) in omega (arith, e, k))
+      (let e = length-map (below (p .N))
+      (λ d. cond (isIn gone d) [] (recordsIn p (sealedIn p v gone seg) (getD (map (λ d. zoneAt v d (zoneOn seg d)) (below (p .N))) d noZone)))
+      ∙ length-below (p .N) in omega (arith, e, k))
 
   -- 01, Restart, 3: at most S records of a zone are read
   pub recs-short : (d : ℕ) → length (recsOn sg d) ≤ p .S
@@ -273,7 +275,10 @@ module _ (p : Params) (q : ℕ) (rs : List Rec) (g : 0 < p .G) (b : q * p .G < p
       mid = groupRecs p (q * p .G) rs
 
       mid-at : (j : ℕ) → j < length mid → getD mid j (mkRec 0 0 0) ≡ getD rs (q * p .G + j) (mkRec 0 0 0)
-      mid-at j m = unfold groupRecs in (getD-take (groupLen p (q * p .G)) (drop (q * p .G) rs) j (mkRec 0 0 0) (let n = length-group p (q * p .G) rs in omega (arith, n, m)) ∙ getD-drop (q * p .G) rs j (mkRec 0 0 0))
+      mid-at j m =
+          unfold groupRecs in (getD-take (groupLen p (q * p .G)) (drop (q * p .G) rs) j (mkRec 0 0 0)
+          (let n = length-group p (q * p .G) rs in omega (arith, n, m))
+          ∙ getD-drop (q * p .G) rs j (mkRec 0 0 0))
 
       go : Test (any its rs) → cond (any its mid) (indexOf its mid + 1) 0 ≡ cond (any its rs) (indexOf its rs - q * p .G + 1) 0
       go (yes! t) =

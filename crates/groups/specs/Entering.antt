@@ -120,10 +120,13 @@ module _ (p : Params) (d base : ℕ) (rs : List Rec) (old at : List ℕ) (i : �
       → Entering p d base rs old (set at (256 * d + (r .stripe - base)) (i + 1)) (i + 1)
   unfolding nextBad
   entering-next d8 len s t =
-      let y : (leb base (r .stripe) && ltb (r .stripe - base) (groupLen p base)) ≡ true = and-left (leb base (r .stripe) && ltb (r .stripe - base) (groupLen p base)) (eqb (getD at (256 * d + (r .stripe - base)) 0) 0) t in
+      let y : (leb base (r .stripe) && ltb (r .stripe - base) (groupLen p base)) ≡ true =
+      and-left (leb base (r .stripe) && ltb (r .stripe - base) (groupLen p base)) (eqb (getD at (256 * d + (r .stripe - base)) 0) 0) t in
       let u = leb-true base (r .stripe) (and-left (leb base (r .stripe)) (ltb (r .stripe - base) (groupLen p base)) y) in
       let w = ltb-true (r .stripe - base) (groupLen p base) (and-right (leb base (r .stripe)) (ltb (r .stripe - base) (groupLen p base)) y) in
-      let z = eqb-true (getD at (256 * d + (r .stripe - base)) 0) 0 (and-right (leb base (r .stripe) && ltb (r .stripe - base) (groupLen p base)) (eqb (getD at (256 * d + (r .stripe - base)) 0) 0) t) in
+      let z =
+      eqb-true (getD at (256 * d + (r .stripe - base)) 0) 0
+      (and-right (leb base (r .stripe) && ltb (r .stripe - base) (groupLen p base)) (eqb (getD at (256 * d + (r .stripe - base)) 0) 0) t) in
       let en : entryOf done (r .stripe) ≡ 0 = sym (its-entry u w) ∙ z in
       let a : any (λ (q : Rec). eqb (q .stripe) (r .stripe)) done ≡ false = entry-zero done (r .stripe) ∙ ap not (eq-eqb (entryOf done (r .stripe)) 0 en) in
       record {

@@ -199,7 +199,12 @@ cross-none p o n q xs ys h k a b =
     let (i, l, e) = getD-in xs (mkRec 0 0 0) x m in
     let (j, r, f) = getD-in ys (mkRec 0 0 0) y w in
     ne-eqb (y .stripe) (x .stripe)
-    (λ z. b j r (sym (stripe-group p n ys k j r .1) ∙ ap (λ (u : Rec). u .stripe / p .G) (sym f) ∙ ap (λ (u : ℕ). u / p .G) z ∙ ap (λ (u : Rec). u .stripe / p .G) e ∙ stripe-group p o xs h i l .1 ∙ a i l))))
+    (λ z. b j r (sym (stripe-group p n ys k j r .1)
+    ∙ ap (λ (u : Rec). u .stripe / p .G) (sym f)
+    ∙ ap (λ (u : ℕ). u / p .G) z
+    ∙ ap (λ (u : Rec). u .stripe / p .G) e
+    ∙ stripe-group p o xs h i l .1
+    ∙ a i l))))
 
 -- ---- the records of a group, and those behind it
 
@@ -284,7 +289,9 @@ group-step p d q rs g b l = ap (recsBad p d base) (split-group p base rs b l) �
         let n : length xs ≡ p .G = length-group p base rs ∙ (let m : min (groupLen p base) (length rs - base) ≡ p .G = omega (arith, w) in m) in
         bad-append p d base xs ys
         (λ o₁ o₂. cross-none p base (base + length xs) q xs ys o₁ o₂ (λ i k. group-of p q (base + i) (omega arith) (omega (arith, k, n)))
-        (λ i k z. let r = group-back p (base + length xs + i) g in let t : (base ≤ base + length xs + i) × (base + length xs + i < base + p .G) = subst (λ (x : ℕ). (x * p .G ≤ base + length xs + i) × (base + length xs + i < x * p .G + p .G)) z r in
+        (λ i k z. let r = group-back p (base + length xs + i) g in let t : (base ≤ base + length xs + i)
+        × (base + length xs + i < base + p .G) = subst (λ (x : ℕ). (x * p .G ≤ base + length xs + i) × (base + length xs + i < x * p .G + p .G)) z r
+        in
         let y : ⊥ = omega (arith, t .1, n) in y))
         ∙ ap (λ (m : ℕ). recsBad p d base xs || recsBad p d (base + m) ys) n
 

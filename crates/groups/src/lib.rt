@@ -211,7 +211,9 @@ pub fn index_group(p: Params, image: &[u8], pointers: &[u8], w: Group, at: &mut 
     requires { ⌜ (length (now at) ≡ 2048) × (w .seg < p .Z) × (w .base < p .S) × (w .base % p .G ≡ 0) ⌝ }
     requires { ⌜ w .full ≡ sealedIn p (viewOf p (now image) (now pointers)) (w .gone) (w .seg) ⌝ }
     ensures { λ r. ⌜ r ≡ not (groupFault p (w .gone) (segmentIn p (now (image .entry)) (now (pointers .entry)) w) (w .base)) ⌝ }
-    ensures { λ _. ⌜ (recsFault p (w .gone) (segmentIn p (now (image .entry)) (now (pointers .entry)) w) ≡ false → Indexed p (segmentIn p (now (image .entry)) (now (pointers .entry)) w) (w .base) (now (at .exit))) ⌝ }
+    ensures { λ _. ⌜
+        (recsFault p (w .gone) (segmentIn p (now (image .entry)) (now (pointers .entry)) w) ≡ false
+        → Indexed p (segmentIn p (now (image .entry)) (now (pointers .entry)) w) (w .base) (now (at .exit))) ⌝ }
 {
     let mut d = 0;
     while d < p.N {
@@ -352,7 +354,11 @@ fn add_rec(
     requires { ⌜ inRange p ≡ true ⌝ }
     requires { ⌜ (length (now image) ≡ imageLen p) × (length (now at) ≡ 2048) × (w .seg < p .Z) × (w .base < p .S) × (drive < p .N) × (k < groupLen p (w .base)) ⌝ }
     requires { ⌜ AllEntered p (w .gone) (w .base) (now at) k ⌝ }
-    ensures { λ x. ⌜ ((ps : List ℕ) → Reads p (now (image .entry)) ps w (now (at .entry)) → recVal x ≡ cond (isIn (w .gone) drive) (recVal r) (addRec (recVal r) (storedRec (segmentIn p (now (image .entry)) ps w) (w .base + k) drive))) ⌝ }
+    ensures { λ x. ⌜
+        ((ps : List ℕ)
+        → Reads p (now (image .entry)) ps w (now (at .entry))
+        → recVal x ≡ cond (isIn (w .gone) drive) (recVal r)
+        (addRec (recVal r) (storedRec (segmentIn p (now (image .entry)) ps w) (w .base + k) drive))) ⌝ }
 {
     if masks::has_drive(w.gone, drive) {
         return r;
@@ -365,7 +371,10 @@ pub fn lost_rec(p: Params, image: &[u8], w: Group, at: &[u16], k: usize) -> Reco
     requires { ⌜ inRange p ≡ true ⌝ }
     requires { ⌜ (length (now image) ≡ imageLen p) × (length (now at) ≡ 2048) × (w .seg < p .Z) × (w .base < p .S) × (k < groupLen p (w .base)) ⌝ }
     requires { ⌜ AllEntered p (w .gone) (w .base) (now at) k ⌝ }
-    ensures { λ r. ⌜ ((ps : List ℕ) → Reads p (now (image .entry)) ps w (now (at .entry)) → recVal r ≡ parityRec (w .base + k) (map (storedRec (segmentIn p (now (image .entry)) ps w) (w .base + k)) (present p (w .gone)))) ⌝ }
+    ensures { λ r. ⌜
+        ((ps : List ℕ)
+        → Reads p (now (image .entry)) ps w (now (at .entry))
+        → recVal r ≡ parityRec (w .base + k) (map (storedRec (segmentIn p (now (image .entry)) ps w) (w .base + k)) (present p (w .gone)))) ⌝ }
 {
     let mut r = Record {
         address: Address(0),
@@ -406,7 +415,10 @@ pub fn xor_block(
     requires { ⌜ inRange p ≡ true ⌝ }
     requires { ⌜ (length (now image) ≡ imageLen p) × (length (now at) ≡ 2048) × (w .seg < p .Z) × (w .base < p .S) × (drive < p .N) × (k < groupLen p (w .base)) × (length (now block) ≡ p .B) ⌝ }
     requires { ⌜ Entered p (w .base) (now at) drive k ⌝ }
-    ensures { λ _. ⌜ ((ps : List ℕ) → Reads p (now (image .entry)) ps w (now (at .entry)) → now (block .exit) ≡ xors (now (block .entry)) (storedPiece (segmentIn p (now (image .entry)) ps w) (w .base + k) drive .block)) ⌝ }
+    ensures { λ _. ⌜
+        ((ps : List ℕ)
+        → Reads p (now (image .entry)) ps w (now (at .entry))
+        → now (block .exit) ≡ xors (now (block .entry)) (storedPiece (segmentIn p (now (image .entry)) ps w) (w .base + k) drive .block)) ⌝ }
 {
     let zone = shape::zone_on(w.seg, drive);
     let a = shape::block_byte(p, drive, zone, 1 + offset_on(w, at, drive, k));
@@ -448,7 +460,11 @@ fn add_block(
     requires { ⌜ inRange p ≡ true ⌝ }
     requires { ⌜ (length (now image) ≡ imageLen p) × (length (now at) ≡ 2048) × (w .seg < p .Z) × (w .base < p .S) × (drive < p .N) × (k < groupLen p (w .base)) × (length (now block) ≡ p .B) ⌝ }
     requires { ⌜ AllEntered p (w .gone) (w .base) (now at) k ⌝ }
-    ensures { λ _. ⌜ ((ps : List ℕ) → Reads p (now (image .entry)) ps w (now (at .entry)) → now (block .exit) ≡ cond (isIn (w .gone) drive) (now (block .entry)) (xors (now (block .entry)) (storedPiece (segmentIn p (now (image .entry)) ps w) (w .base + k) drive .block))) ⌝ }
+    ensures { λ _. ⌜
+        ((ps : List ℕ)
+        → Reads p (now (image .entry)) ps w (now (at .entry))
+        → now (block .exit) ≡ cond (isIn (w .gone) drive) (now (block .entry))
+        (xors (now (block .entry)) (storedPiece (segmentIn p (now (image .entry)) ps w) (w .base + k) drive .block))) ⌝ }
 {
     if masks::has_drive(w.gone, drive) {
         return;
@@ -461,7 +477,11 @@ pub fn lost_block(p: Params, image: &[u8], w: Group, at: &[u16], k: usize, block
     requires { ⌜ inRange p ≡ true ⌝ }
     requires { ⌜ (length (now image) ≡ imageLen p) × (length (now at) ≡ 2048) × (w .seg < p .Z) × (w .base < p .S) × (k < groupLen p (w .base)) × (length (now block) ≡ p .B) ⌝ }
     requires { ⌜ AllEntered p (w .gone) (w .base) (now at) k ⌝ }
-    ensures { λ _. ⌜ ((ps : List ℕ) → Reads p (now (image .entry)) ps w (now (at .entry)) → now (block .exit) ≡ parityPiece p (w .base + k) (map (storedPiece (segmentIn p (now (image .entry)) ps w) (w .base + k)) (present p (w .gone))) .block) ⌝ }
+    ensures { λ _. ⌜
+        ((ps : List ℕ)
+        → Reads p (now (image .entry)) ps w (now (at .entry))
+        → now (block .exit) ≡ parityPiece p (w .base + k)
+        (map (storedPiece (segmentIn p (now (image .entry)) ps w) (w .base + k)) (present p (w .gone))) .block) ⌝ }
 {
     blocks::clear(block);
     let mut d = 0;

@@ -139,15 +139,23 @@ module _ (p : Params) (k : Disk) (m : Memory) (d s : ℕ) (r : Ready p k m d s) 
       n : ℕ
       n = pointerOf p (k .pointers) d z
 
-      go : Dec (e ≡ d) → pointerOf p (k .pointers) e (zoneOn g e) + cond (eqb e d) 1 0 + footers p ≤ capacity p → pointerOf p (setPointer p (k .pointers) d z (suc n)) e (zoneOn g e) + footers p ≤ capacity p
+      go :
+          Dec (e ≡ d)
+          → pointerOf p (k .pointers) e (zoneOn g e) + cond (eqb e d) 1 0 + footers p ≤ capacity p
+          → pointerOf p (setPointer p (k .pointers) d z (suc n)) e (zoneOn g e) + footers p ≤ capacity p
       go (yes q) h =
           let x : _≡_ {A = ℕ} (cond (eqb e d) 1 0) 1 = ap (λ (y : Bool). cond {A = ℕ} y 1 0) (eq-eqb e d q) in
-          let y : pointerOf p (setPointer p (k .pointers) d z (suc n)) e (zoneOn g e) ≡ suc n = ap (λ (w : ℕ). pointerOf p (setPointer p (k .pointers) d z (suc n)) w (zoneOn g w)) q ∙ pointer-set p (k .pointers) d z (suc n) (r .drive-low) (zone-low p k m d s r) (r .whole .pointers-long) (omega (arith, pointer-room, capacity-high p (ranged p (r .ranged)))) in
+          let y : pointerOf p (setPointer p (k .pointers) d z (suc n)) e (zoneOn g e) ≡ suc n =
+          ap (λ (w : ℕ). pointerOf p (setPointer p (k .pointers) d z (suc n)) w (zoneOn g w)) q
+          ∙ pointer-set p (k .pointers) d z (suc n) (r .drive-low) (zone-low p k m d s r) (r .whole .pointers-long)
+          (omega (arith, pointer-room, capacity-high p (ranged p (r .ranged)))) in
           let w : pointerOf p (k .pointers) e (zoneOn g e) ≡ n = ap (λ (w : ℕ). pointerOf p (k .pointers) w (zoneOn g w)) q in
           omega (arith, x, y, w, h)
       go (no q) h =
           let x : _≡_ {A = ℕ} (cond (eqb e d) 1 0) 0 = ap (λ (y : Bool). cond {A = ℕ} y 1 0) (ne-eqb e d q) in
-          let y : pointerOf p (setPointer p (k .pointers) d z (suc n)) e (zoneOn g e) ≡ pointerOf p (k .pointers) e (zoneOn g e) = pointer-other-drive p (k .pointers) d z (suc n) (r .drive-low) (zone-low p k m d s r) (r .whole .pointers-long) e (zoneOn g e) he (zone-on-lt p g e (open-low p k m d s r)) (λ j. q (sym j)) in
+          let y : pointerOf p (setPointer p (k .pointers) d z (suc n)) e (zoneOn g e) ≡ pointerOf p (k .pointers) e (zoneOn g e) =
+          pointer-other-drive p (k .pointers) d z (suc n) (r .drive-low) (zone-low p k m d s r) (r .whole .pointers-long) e (zoneOn g e) he
+          (zone-on-lt p g e (open-low p k m d s r)) (λ j. q (sym j)) in
           omega (arith, x, y, h)
 
   -- ---- by the row
@@ -260,7 +268,8 @@ module _ (p : Params) (k : Disk) (m : Memory) (d s n : ℕ) (none! : refusal p k
   ends-none x r ad co e a c =
       let w = ready p k m d s none! in
       let ss : List Store = landPlan p (seen p k) m d s .stores in
-      let q : mkMemory (stateAfter (m .state) r) ad co (m .inflight) ≡ cutMemory p m = cut-memory p m (stateAfter (m .state) r) ad co (w .addresses-long) (w .compact-long) (state-cut (m .state) r e) a c in
+      let q : mkMemory (stateAfter (m .state) r) ad co (m .inflight) ≡ cutMemory p m =
+      cut-memory p m (stateAfter (m .state) r) ad co (w .addresses-long) (w .compact-long) (state-cut (m .state) r e) a c in
       let u : k ≡ storeAll (storeDisk p) (take n ss) k = sym (ap (λ (y : ℕ). storeAll (storeDisk p) (take y ss) k) x ∙ stores-zero (storeDisk p) ss k) in
       (λ j. mkAfter (e j) (u j) (q j) [])
       ∙ land-cut p k m d s n none! (landPlan p (seen p k) m d s) refl (subst (λ (y : ℕ). y < length ss) (sym x) some-store)
@@ -284,7 +293,9 @@ module _ (p : Params) (k : Disk) (m : Memory) (d s n : ℕ) (none! : refusal p k
     -- the chunk is stored, the stripe is not complete
     pub ends-part : 0 < n → completes p (m .state) (slotOf (m .state) s) d ≡ false → (c : Change) (k′ : Disk) (co : List ℕ)
         → c ≡ changeTo (Landed 0) (frontOf (m .state)) (slotOf (m .state) s) (markRow (rowOf (m .state) (slotOf (m .state) s)) d (pointerAt (seen p k) d (zoneOn (openSegment (m .state)) d) - 1)) false
-        → k′ ≡ storeDisk p (landStore p (seen p k) m d s) k → co ≡ shownTable p (seen p k) m d s → afterChange (m .state) c (k′ .image) (k′ .pointers) (m .addresses) co (m .inflight) [] ≡ callDisk p k m (land d s n)
+        → k′ ≡ storeDisk p (landStore p (seen p k) m d s) k
+        → co ≡ shownTable p (seen p k) m d s
+        → afterChange (m .state) c (k′ .image) (k′ .pointers) (m .addresses) co (m .inflight) [] ≡ callDisk p k m (land d s n)
     unfolding changeTo
     ends-part h c r k′ co e g q =
         let w = landStore p (seen p k) m d s in
@@ -292,10 +303,15 @@ module _ (p : Params) (k : Disk) (m : Memory) (d s n : ℕ) (none! : refusal p k
         let f = state-landed (m .state) 0 i₀ w₀ false ∙ changed-marked (m .state) i₀ d o₀ (ready p k m d s none! .slot-low) d-eight sized (Landed 0) in
         (λ j. afterChange (m .state) (e j) (u j .image) (u j .pointers) (m .addresses) (q j) (m .inflight) [])
         ∙ ap (λ (x : State). mkAfter (Landed 0) (storeAll (storeDisk p) (take n (w ∷ [])) k) (mkMemory x (m .addresses) (shownTable p (seen p k) m d s) (m .inflight)) []) f
-        ∙ land-done p k m d s n none! (mkPlan (w ∷ []) (Landed 0) (mkMemory (landedState p (seen p k) m d s) (m .addresses) (shownTable p (seen p k) m d s) (m .inflight)) []) (plan-part p (seen p k) m d s c) (omega arith)
+        ∙ land-done p k m d s n none!
+        (mkPlan (w ∷ []) (Landed 0) (mkMemory (landedState p (seen p k) m d s) (m .addresses) (shownTable p (seen p k) m d s) (m .inflight)) [])
+        (plan-part p (seen p k) m d s c) (omega arith)
 
     module _ (h : 0 < n) (c : completes p (m .state) (slotOf (m .state) s) d ≡ true) (a : Answer) (r : Change) (k′ : Disk) (tb co : List ℕ)
-        (e : r ≡ changeTo a (frontOf (m .state)) (slotOf (m .state) s) (freeRow (markRow (rowOf (m .state) (slotOf (m .state) s)) d (pointerAt (seen p k) d (zoneOn (openSegment (m .state)) d) - 1))) (seals p (m .state) (slotOf (m .state) s) d)) where
+        (e : r
+        ≡ changeTo a (frontOf (m .state)) (slotOf (m .state) s)
+        (freeRow (markRow (rowOf (m .state) (slotOf (m .state) s)) d (pointerAt (seen p k) d (zoneOn (openSegment (m .state)) d) - 1)))
+        (seals p (m .state) (slotOf (m .state) s) d)) where
       abbrev w : Store
       w = landStore p (seen p k) m d s
 
@@ -340,8 +356,11 @@ module _ (p : Params) (k : Disk) (m : Memory) (d s n : ℕ) (none! : refusal p k
             u .1 ∙ (λ j. tableOf p (view₁ j) g₀ (alone (row₁ j)) 0 (m .addresses)) ∙ table-is p k m d s y sized (storeView w (seen p k)) in
             let x = state-landed (m .state) (writesIn (m .state) i₀) i₀ (freeRow w₀) b₀ ∙ changed-freed (m .state) i₀ d o₀ (y .slot-low) d-eight sized (Landed (writesIn (m .state) i₀)) b₀ in
             (λ j. afterChange (m .state) (e j) (disk-is j .image) (disk-is j .pointers) (t j) (u .2 j) (m .inflight) [])
-            ∙ ap (λ (z : Answer). afterChange (m .state) (changeTo z (frontOf (m .state)) i₀ (freeRow w₀) b₀) (storeAll (storeDisk p) (take n (w ∷ ss)) k .image) (storeAll (storeDisk p) (take n (w ∷ ss)) k .pointers) (tableOf p (storeView w (seen p k)) g₀ st₂ i₀ (m .addresses)) (shownTable p (seen p k) m d s) (m .inflight) []) v
-            ∙ ap (λ (z : State). mkAfter (Landed (writesIn (m .state) i₀)) (storeAll (storeDisk p) (take n (w ∷ ss)) k) (mkMemory z (tableOf p (storeView w (seen p k)) g₀ st₂ i₀ (m .addresses)) (shownTable p (seen p k) m d s) (m .inflight)) []) x
+            ∙ ap (λ (z : Answer). afterChange (m .state) (changeTo z (frontOf (m .state)) i₀ (freeRow w₀) b₀)
+            (storeAll (storeDisk p) (take n (w ∷ ss)) k .image) (storeAll (storeDisk p) (take n (w ∷ ss)) k .pointers)
+            (tableOf p (storeView w (seen p k)) g₀ st₂ i₀ (m .addresses)) (shownTable p (seen p k) m d s) (m .inflight) []) v
+            ∙ ap (λ (z : State). mkAfter (Landed (writesIn (m .state) i₀)) (storeAll (storeDisk p) (take n (w ∷ ss)) k)
+            (mkMemory z (tableOf p (storeView w (seen p k)) g₀ st₂ i₀ (m .addresses)) (shownTable p (seen p k) m d s) (m .inflight)) []) x
             ∙ land-done p k m d s n none! q₀ (plan-whole p (seen p k) m d s c) (omega (arith, h))
 
         whole-cut : n - 1 < length ss → afterChange (m .state) r (k′ .image) (k′ .pointers) tb co (m .inflight) [] ≡ callDisk p k m (land d s n)
@@ -351,7 +370,9 @@ module _ (p : Params) (k : Disk) (m : Memory) (d s n : ℕ) (none! : refusal p k
             let y = ready p k m d s none! in
             let ra : r .answer ≡ Cut = ap (λ (x : Change). x .answer) e ∙ u .0 in
             let lc : length (shownTable p (seen p k) m d s) ≡ length (m .compact) = length-set (m .compact) (compactAt p d (zoneOn (openSegment (m .state)) d) o₀) (compactEntry p s) in
-            let q : mkMemory (stateAfter (m .state) r) tb co (m .inflight) ≡ cutMemory p m = cut-memory p m (stateAfter (m .state) r) tb co (y .addresses-long) (y .compact-long) (state-cut (m .state) r ra) (u .1) (u .2 ∙ ap (λ (x : ℕ). replicate x 0) lc) in
+            let q : mkMemory (stateAfter (m .state) r) tb co (m .inflight) ≡ cutMemory p m =
+            cut-memory p m (stateAfter (m .state) r) tb co (y .addresses-long) (y .compact-long) (state-cut (m .state) r ra) (u .1)
+            (u .2 ∙ ap (λ (x : ℕ). replicate x 0) lc) in
             (λ j. mkAfter (ra j) (disk-is j) (q j) [])
             ∙ land-cut p k m d s n none! q₀ (plan-whole p (seen p k) m d s c) (omega (arith, h))
 

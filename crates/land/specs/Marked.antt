@@ -78,7 +78,8 @@ module _ (st : State) (i d o : ℕ) (h : i < 8) (l : d < 8) (sized : Sized st) w
   put-marked =
       let f = set-getD (st .filled) i 0 in
       put-marked-at (st .opened) (st .next) (set (st .filled) i (getD (st .filled) i 0))
-      ∙ (λ j. mkState (st .live) (st .missing) (st .stamp .0) (st .serial .0) (st .opened) (st .next) (st .numbers) (f j) (st .writes) (set (st .landed) i (landedMask st i d)) (st .addresses) (st .stamps) (set (st .offsets) (cell i d) o))
+      ∙ (λ j. mkState (st .live) (st .missing) (st .stamp .0) (st .serial .0) (st .opened) (st .next) (st .numbers) (f j) (st .writes)
+      (set (st .landed) i (landedMask st i d)) (st .addresses) (st .stamps) (set (st .offsets) (cell i d) o))
 
   marked-sized : RowSized (markRow (rowOf st i) d o)
   unfolding markRow

@@ -181,7 +181,10 @@ place-data p v q e = go (test (leb (p .N) (placeDrive p q)))
     bad = not (between 1 (p .S) b) || (not (isIn 0 d) && leb (pointerAt v d (placeZone p q)) b)
 
     go : Test (leb (p .N) d) → IsData p q
-    go (yes! t) = absurd (let f : cond {A = List ℕ} true (0 ∷ []) (consIf bad (placeZone p q) []) ≡ [] = subst (λ (x : Bool). cond {A = List ℕ} x (0 ∷ []) (consIf bad (placeZone p q) []) ≡ []) t e in let z : _≡_ {A = ℕ} 1 0 = ap length f in let w : ⊥ = omega arith in w)
+    go (yes! t) =
+        absurd (let f : cond {A = List ℕ} true (0 ∷ []) (consIf bad (placeZone p q) [])
+        ≡ [] = subst (λ (x : Bool). cond {A = List ℕ} x (0 ∷ []) (consIf bad (placeZone p q) []) ≡ []) t e in let z : _≡_ {A = ℕ} 1 0 = ap length
+        f in let w : ⊥ = omega arith in w)
     go (no! t) =
         let f : consIf bad (placeZone p q) [] ≡ [] = subst (λ (x : Bool). cond {A = List ℕ} x (0 ∷ []) (consIf bad (placeZone p q) []) ≡ []) t e in
         let h = if-none bad (placeZone p q) [] f in

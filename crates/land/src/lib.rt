@@ -86,7 +86,10 @@ fn checks(
     stripe: usize,
 ) -> Check
     requires { ⌜ Looks p state drive stripe seen ⌝ }
-    ensures { λ r. ⌜ checked r ≡ refusal p (mkDisk (now (image .entry)) (now (pointers .entry))) (mkMemory state (now (addresses .entry)) (now (compact .entry)) (now (inflight .entry))) drive stripe ⌝ }
+    ensures { λ r. ⌜
+        checked r
+        ≡ refusal p (mkDisk (now (image .entry)) (now (pointers .entry)))
+        (mkMemory state (now (addresses .entry)) (now (compact .entry)) (now (inflight .entry))) drive stripe ⌝ }
 {
     if !shape::in_range(p) {
         return Check::Fail(Answer::Refused(1));
@@ -133,7 +136,10 @@ fn put_chunk(
     requires { ⌜ Whole p (mkDisk (now image) (now pointers)) ⌝ }
     requires { ⌜ (length (now inflight) ≡ inflightLen p) × (i < 8) × (filledIn (alone row) 0 ≤ 8) ⌝ }
     requires { ⌜ (drive < p .N) × (zone < p .Z) × (pointerOf p (now pointers) drive zone < capacity p) ⌝ }
-    ensures { λ _. ⌜ mkDisk (now (image .exit)) (now (pointers .exit)) ≡ storeDisk p (put drive zone (slotBlock p (now (inflight .entry)) i drive) (recordBytes (flightRec p (alone row) 0 drive))) (mkDisk (now (image .entry)) (now (pointers .entry))) ⌝ }
+    ensures { λ _. ⌜
+        mkDisk (now (image .exit)) (now (pointers .exit))
+        ≡ storeDisk p (put drive zone (slotBlock p (now (inflight .entry)) i drive) (recordBytes (flightRec p (alone row) 0 drive)))
+        (mkDisk (now (image .entry)) (now (pointers .entry))) ⌝ }
 {
     let mut spare = [0u8; 20];
     records::write_record(&mut spare, waits::flight_record(p, row, drive));
@@ -177,8 +183,17 @@ fn store_chunk(
     requires { ⌜ Whole p (mkDisk (now image) (now pointers)) ⌝ }
     requires { ⌜ (length (now compact) ≡ compactLen p) × (length (now inflight) ≡ inflightLen p) × (i < 8) × (filledIn (alone row) 0 ≤ 8) ⌝ }
     requires { ⌜ (drive < p .N) × (segment < p .Z) × (1 ≤ pointerOf p (now pointers) drive (zoneOn segment drive)) × (pointerOf p (now pointers) drive (zoneOn segment drive) ≤ p .S) ⌝ }
-    ensures { λ _. ⌜ mkDisk (now (image .exit)) (now (pointers .exit)) ≡ storeDisk p (put drive (zoneOn segment drive) (slotBlock p (now (inflight .entry)) i drive) (recordBytes (flightRec p (alone row) 0 drive))) (mkDisk (now (image .entry)) (now (pointers .entry))) ⌝ }
-    ensures { λ r. ⌜ (now (compact .exit) ≡ set (now (compact .entry)) (compactAt p drive (zoneOn segment drive) (pointerOf p (now (pointers .entry)) drive (zoneOn segment drive) - 1)) (compactEntry p stripe)) × (r ≡ markRow row drive (pointerOf p (now (pointers .entry)) drive (zoneOn segment drive) - 1)) ⌝ }
+    ensures { λ _. ⌜
+        mkDisk (now (image .exit)) (now (pointers .exit))
+        ≡ storeDisk p
+        (put drive (zoneOn segment drive) (slotBlock p (now (inflight .entry)) i drive) (recordBytes (flightRec p (alone row) 0 drive)))
+        (mkDisk (now (image .entry)) (now (pointers .entry))) ⌝ }
+    ensures { λ r. ⌜
+        (now (compact .exit)
+        ≡ set (now (compact .entry))
+        (compactAt p drive (zoneOn segment drive) (pointerOf p (now (pointers .entry)) drive (zoneOn segment drive) - 1))
+        (compactEntry p stripe))
+        × (r ≡ markRow row drive (pointerOf p (now (pointers .entry)) drive (zoneOn segment drive) - 1)) ⌝ }
 {
     let zone = shape::zone_on(segment, drive);
     let offset = zones::pointer(p, pointers, drive, zone) as usize - 1;
@@ -199,7 +214,9 @@ fn seal(
     requires { ⌜ inRange p ≡ true ⌝ }
     requires { ⌜ Whole p (mkDisk (now image) (now pointers)) ⌝ }
     requires { ⌜ (segment < p .Z) × (seals ≡ true → (d : ℕ) → d < p .N → pointerOf p (now pointers) d (zoneOn segment d) + footers p ≤ capacity p) ⌝ }
-    ensures { λ r. ⌜ Storing p count (sealsOf p (mkDisk (now (image .entry)) (now (pointers .entry))) segment seals) (mkDisk (now (image .entry)) (now (pointers .entry))) r (mkDisk (now (image .exit)) (now (pointers .exit))) ⌝ }
+    ensures { λ r. ⌜
+        Storing p count (sealsOf p (mkDisk (now (image .entry)) (now (pointers .entry))) segment seals)
+        (mkDisk (now (image .entry)) (now (pointers .entry))) r (mkDisk (now (image .exit)) (now (pointers .exit))) ⌝ }
 {
     if !seals {
         return Made {
@@ -236,7 +253,9 @@ fn complete(
     requires { ⌜ (length (now addresses) ≡ addressesLen p) × Sound p (alone row) 0 (now addresses) ⌝ }
     requires { ⌜ (filledIn (alone row) 0 ≤ dataCount p) × ((d : ℕ) → d < p .N → offsetIn (alone row) 0 d < p .S) ⌝ }
     requires { ⌜ (segment < p .Z) × (seals ≡ true → (d : ℕ) → d < p .N → pointerOf p (now pointers) d (zoneOn segment d) + footers p ≤ capacity p) ⌝ }
-    ensures { λ r. ⌜ Completing p count row segment seals (mkDisk (now (image .entry)) (now (pointers .entry))) (now (addresses .entry)) (now (compact .entry)) r (mkDisk (now (image .exit)) (now (pointers .exit))) (now (addresses .exit)) (now (compact .exit)) ⌝ }
+    ensures { λ r. ⌜
+        Completing p count row segment seals (mkDisk (now (image .entry)) (now (pointers .entry))) (now (addresses .entry)) (now (compact .entry)) r
+        (mkDisk (now (image .exit)) (now (pointers .exit))) (now (addresses .exit)) (now (compact .exit)) ⌝ }
 {
     pointing::point(p, image, pointers, addresses, segment, row);
     let made = seal(p, image, pointers, segment, seals, count);
@@ -285,7 +304,13 @@ fn plan(
     count: u64,
 ) -> Change
     requires { ⌜ ((st : StateOf) × Chosen p (mkDisk (now image) (now pointers)) (now addresses) (now compact) (now inflight) drive stripe seen front st) ⌝ }
-    ensures { λ r. ⌜ ((st : StateOf) → Chosen p (mkDisk (now (image .entry)) (now (pointers .entry))) (now (addresses .entry)) (now (compact .entry)) (now (inflight .entry)) drive stripe seen front st → afterChange st r (now (image .exit)) (now (pointers .exit)) (now (addresses .exit)) (now (compact .exit)) (now (inflight .entry)) [] ≡ callDisk p (mkDisk (now (image .entry)) (now (pointers .entry))) (mkMemory st (now (addresses .entry)) (now (compact .entry)) (now (inflight .entry))) (land drive stripe count)) ⌝ }
+    ensures { λ r. ⌜
+        ((st : StateOf)
+        → Chosen p (mkDisk (now (image .entry)) (now (pointers .entry))) (now (addresses .entry)) (now (compact .entry)) (now (inflight .entry))
+        drive stripe seen front st
+        → afterChange st r (now (image .exit)) (now (pointers .exit)) (now (addresses .exit)) (now (compact .exit)) (now (inflight .entry)) [] ≡
+        callDisk p (mkDisk (now (image .entry)) (now (pointers .entry)))
+        (mkMemory st (now (addresses .entry)) (now (compact .entry)) (now (inflight .entry))) (land drive stripe count)) ⌝ }
 {
     if count == 0 {
         let answer = cut(addresses, compact);
@@ -337,7 +362,10 @@ pub fn land(
     stripe: usize,
     count: u64,
 ) -> Change
-    ensures { λ r. ⌜ afterChange state r (now (image .exit)) (now (pointers .exit)) (now (addresses .exit)) (now (compact .exit)) (now (inflight .entry)) [] ≡ callDisk p (mkDisk (now (image .entry)) (now (pointers .entry))) (mkMemory state (now (addresses .entry)) (now (compact .entry)) (now (inflight .entry))) (land drive stripe count) ⌝ }
+    ensures { λ r. ⌜
+        afterChange state r (now (image .exit)) (now (pointers .exit)) (now (addresses .exit)) (now (compact .exit)) (now (inflight .entry)) []
+        ≡ callDisk p (mkDisk (now (image .entry)) (now (pointers .entry)))
+        (mkMemory state (now (addresses .entry)) (now (compact .entry)) (now (inflight .entry))) (land drive stripe count) ⌝ }
 {
     let seen = look_at(p, state, drive, stripe);
     let front = rows::front_of(state);

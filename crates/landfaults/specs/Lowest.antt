@@ -138,7 +138,8 @@ module _ (p : Params) (im ps : List ℕ) (h : length im ≡ imageLen p) (g : len
   unfolding overfull drivesOf below overBy
   over-view d z hz =
       any-upFrom-same (overBy p ps d z) (λ e. ltb (capacity p) (pointerAt (viewOf p im ps) e (zoneOn z e) + cond (eqb e d) 1 0 + footers p)) 0 (p .N)
-      (λ e _ he. ap (λ (x : ℕ). ltb (capacity p) (x + cond (eqb e d) 1 0 + footers p)) (sym (pointer-view p (mkDisk im ps) e (zoneOn z e) (omega arith) (zone-on-lt p z e hz) (record { image-long = h; pointers-long = g }))))
+      (λ e _ he. ap (λ (x : ℕ). ltb (capacity p) (x + cond (eqb e d) 1 0 + footers p))
+      (sym (pointer-view p (mkDisk im ps) e (zoneOn z e) (omega arith) (zone-on-lt p z e hz) (record { image-long = h; pointers-long = g }))))
 
   -- the pointer is not at a data block of the stripe's group
   module _ (d z s : ℕ) (hd : d < p .N) (hz : z < p .Z) where
@@ -212,7 +213,8 @@ module _ (p : Params) (v : View) (tb : List ℕ) (st : State) (i : ℕ) where
   faults-first w n e = ap (λ (x : List ℕ). least w (flat (entryFaults p v tb) (map (entryIn st i) x))) (sym (below-start n) ∙ ap below e)
 
   faults-step : (k n : ℕ) → k < n → faultsFrom k n ≡ entryFaults p v tb (entryIn st i k) ++ faultsFrom (k + 1) n
-  faults-step k n h = ap (λ (x : List ℕ). flat (entryFaults p v tb) (map (entryIn st i) x)) (upFrom-step k n h) ∙ flat-cons (entryFaults p v tb) (entryIn st i k) (map (entryIn st i) (upFrom (k + 1) (n - (k + 1))))
+  faults-step k n h =
+      ap (λ (x : List ℕ). flat (entryFaults p v tb) (map (entryIn st i) x)) (upFrom-step k n h) ∙ flat-cons (entryFaults p v tb) (entryIn st i k) (map (entryIn st i) (upFrom (k + 1) (n - (k + 1))))
 
   pub faults-lower : (w z k n : ℕ) → k < n → entryFaults p v tb (entryIn st i k) ≡ consIf (ltb z (p .Z)) z [] → z < w → w ≤ p .Z → least z (faultsFrom (k + 1) n) ≡ least w (faultsFrom k n)
   faults-lower w z k n h e l g =

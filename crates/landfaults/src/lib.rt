@@ -69,7 +69,11 @@ fn overfull(p: Params, pointers: &[u8], d: usize, segment: usize) -> bool
 fn entry_fault(p: Params, pointers: &[u8], addresses: &[u8], address: Address) -> usize
     requires { ⌜ inRange p ≡ true ⌝ }
     requires { ⌜ (length (now pointers) ≡ pointersLen p) × (length (now addresses) ≡ addressesLen p) ⌝ }
-    ensures { λ r. ⌜ ((im : List ℕ) (e : Rec) → length im ≡ imageLen p → e .address ≡ address .0 → entryFaults p (viewOf p im (now (pointers .entry))) (now (addresses .entry)) e ≡ consIf (ltb r (p .Z)) r []) ⌝ }
+    ensures { λ r. ⌜
+        ((im : List ℕ) (e : Rec)
+        → length im ≡ imageLen p
+        → e .address ≡ address .0
+        → entryFaults p (viewOf p im (now (pointers .entry))) (now (addresses .entry)) e ≡ consIf (ltb r (p .Z)) r []) ⌝ }
 {
     if p.L as u64 <= address.0 {
         return p.Z;
@@ -113,7 +117,11 @@ fn segment_fault(
 ) -> usize
     requires { ⌜ inRange p ≡ true ⌝ }
     requires { ⌜ (length (now pointers) ≡ pointersLen p) × (d < p .N) × (segment < p .Z) ⌝ }
-    ensures { λ r. ⌜ ((im : List ℕ) → length im ≡ imageLen p → r ≡ least (p .Z) (consIf (misplaced p (viewOf p im (now (pointers .entry))) d (zoneOn segment d) stripe) segment (consIf (seals && overfull p (viewOf p im (now (pointers .entry))) d segment) segment []))) ⌝ }
+    ensures { λ r. ⌜
+        ((im : List ℕ)
+        → length im ≡ imageLen p
+        → r ≡ least (p .Z) (consIf (misplaced p (viewOf p im (now (pointers .entry))) d (zoneOn segment d) stripe) segment
+        (consIf (seals && overfull p (viewOf p im (now (pointers .entry))) d segment) segment []))) ⌝ }
     ensures { λ r. ⌜ r ≤ p .Z ⌝ }
 {
     let zone = shape::zone_on(segment, d);
@@ -145,7 +153,11 @@ pub fn land_fault(
     requires { ⌜ inRange p ≡ true ⌝ }
     requires { ⌜ (length (now pointers) ≡ pointersLen p) × (length (now addresses) ≡ addressesLen p) × (d < p .N) ⌝ }
     requires { ⌜ (segment < p .Z) × (filledIn (alone row) 0 ≤ 8) ⌝ }
-    ensures { λ r. ⌜ ((im : List ℕ) → length im ≡ imageLen p → r ≡ least (p .Z) (faultsOf p (viewOf p im (now (pointers .entry))) (now (addresses .entry)) (entriesIn (alone row) 0) d segment stripe done seals)) ⌝ }
+    ensures { λ r. ⌜
+        ((im : List ℕ)
+        → length im ≡ imageLen p
+        → r ≡ least (p .Z)
+        (faultsOf p (viewOf p im (now (pointers .entry))) (now (addresses .entry)) (entriesIn (alone row) 0) d segment stripe done seals)) ⌝ }
 {
     let z = segment_fault(p, pointers, seals, d, segment, stripe);
     if !done {

@@ -9,7 +9,8 @@ use lib.Seq.{append-snoc, getD-at}
 use lib.ListN.{length, getD, set, length-append, take-append-drop, List·getD-eq-default, List·getD-append}
 use lib.Arith.{digits-lt, digits-div, digits-mod, mod-mul}
 use lib.Dec.{lit<}
-use native.Mathlib.Nat.{add-zero, add-suc, pow-suc, add-assoc, mul-one, add-mul, mul-assoc, pow-succ', one-le-pow, mod-lt, pow-le-pow-right, div-add-mod', div-one, div-lt-iff-lt-mul, div-div-eq-div-mul}
+use native.Mathlib.Nat.{add-zero, add-suc, pow-suc, add-assoc, mul-one, add-mul, mul-assoc, pow-succ', one-le-pow, mod-lt, pow-le-pow-right, div-add-mod'}
+use native.Mathlib.Nat.{div-one, div-lt-iff-lt-mul, div-div-eq-div-mul}
 use Rattle.defs.specs.Bytes.{beFrom, beOf, toBe, part, splice}
 use Rattle.laws.specs.Splice.{length-part, part-suc, part-add, splice-cons}
 

@@ -12,7 +12,8 @@ use Rattle.defs.specs.Drives.{pointerByte, zoneOn}
 use Rattle.defs.specs.Layout.{parityDrive, dataDrive, dataPosition, isData}
 use Rattle.defs.specs.Lists.{all, isMember, total}
 use Rattle.defs.specs.Memory.{compactAt, slotByte}
-use Rattle.defs.specs.Params.{between, blockSizes, dataCount, mostAddresses, inRange, recordWidths, spareLen, perFooter, footers, capacity, unitLen, zoneLen, driveLen, imageLen, pointersLen, compactLen, inflightLen, placeOf, placeBlock, placeZone, placeDrive, placeByte}
+use Rattle.defs.specs.Params.{between, blockSizes, dataCount, mostAddresses, inRange, recordWidths, spareLen, perFooter, footers, capacity, unitLen, zoneLen}
+use Rattle.defs.specs.Params.{driveLen, imageLen, pointersLen, compactLen, inflightLen, placeOf, placeBlock, placeZone, placeDrive, placeByte}
 use Rattle.defs.specs.declared.Params.{Params}
 use Rattle.laws.specs.Ranges.{and-left, and-right, and-both, not-both, member-all}
 

@@ -5,7 +5,8 @@ use Prim.Native.Nat.{ℕ, suc, _+_, _-_, _≤_, _<_}
 use native.Mathlib.Omega.{arith}
 use native.Mathlib.Decide.{decLt}
 use native.Mathlib.Numerals.{add-one}
-use lib.Seq.{take-all, take-suc, drop-cons, append-snoc, take-append-le, drop-append-le, drop-append-add, getD-append-add, set-append-left, take-set-lt, take-suc-set, getD-take, getD-drop, drop-drop, take-add, ext-getD, set-at, take-at}
+use lib.Seq.{take-all, take-suc, drop-cons, append-snoc, take-append-le, drop-append-le, drop-append-add, getD-append-add, set-append-left, take-set-lt}
+use lib.Seq.{take-suc-set, getD-take, getD-drop, drop-drop, take-add, ext-getD, set-at, take-at}
 use lib.ListN.{length, getD, take, drop, set, length-append, take-append-drop, length-take, length-drop, drop-of-length-le, List·getD-append}
 use native.Mathlib.Nat.{add-zero, zero-add, suc-add, add-assoc, le-of-eq, add-sub-cancel-left}
 use Rattle.defs.specs.Bytes.{part, splice}

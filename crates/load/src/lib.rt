@@ -64,7 +64,11 @@ fn cand_of(
     requires { ⌜ inRange p ≡ true ⌝ }
     requires { ⌜ (length (now image) ≡ imageLen p) × (length (now at) ≡ 2048) × (w .seg < p .Z) × (w .base < p .S) × (drive < p .N) × (k < groupLen p (w .base)) ⌝ }
     requires { ⌜ Reading p (now image) w (now at) k ⌝ }
-    ensures { λ r. ⌜ ((ps : List ℕ) → Reads p (now (image .entry)) ps w (now (at .entry)) → serial .0 ≡ segmentIn p (now (image .entry)) ps w .serial → ranked r ≡ candOf p (w .gone) (segmentIn p (now (image .entry)) ps w) (w .base + k) drive) ⌝ }
+    ensures { λ r. ⌜
+        ((ps : List ℕ)
+        → Reads p (now (image .entry)) ps w (now (at .entry))
+        → serial .0 ≡ segmentIn p (now (image .entry)) ps w .serial
+        → ranked r ≡ candOf p (w .gone) (segmentIn p (now (image .entry)) ps w) (w .base + k) drive) ⌝ }
 {
     let r = groups::rec_of(p, image, w, at, drive, k);
     let offset = groups::offset_of(w, at, drive, k);
@@ -99,7 +103,9 @@ fn load_stripe(
     requires { ⌜ Serials p (viewOf p (now image) (now pointers)) (w .gone) (now serials) ⌝ }
     requires { ⌜ Standing p (now image) (now pointers) w (now at) k ⌝ }
     requires { ⌜ Known p (viewOf p (now image) (now pointers)) (w .gone) (now addresses) ⌝ }
-    ensures { λ _. ⌜ Tells p (viewOf p (now (image .entry)) (now (pointers .entry))) (w .gone) (now (addresses .entry)) (now (addresses .exit)) (stripeCands p (w .gone) (segmentIn p (now (image .entry)) (now (pointers .entry)) w) (w .base + k)) ⌝ }
+    ensures { λ _. ⌜
+        Tells p (viewOf p (now (image .entry)) (now (pointers .entry))) (w .gone) (now (addresses .entry)) (now (addresses .exit))
+        (stripeCands p (w .gone) (segmentIn p (now (image .entry)) (now (pointers .entry)) w) (w .base + k)) ⌝ }
     ensures { λ r. ⌜ r .0 ≡ max (stamp .0) (greatestStamp (stripeCands p (w .gone) (segmentIn p (now (image .entry)) (now (pointers .entry)) w) (w .base + k))) ⌝ }
 {
     let seg = w.seg;
@@ -136,7 +142,9 @@ fn load_if(
     requires { ⌜ Serials p (viewOf p (now image) (now pointers)) (w .gone) (now serials) ⌝ }
     requires { ⌜ Indexing p (now image) (now pointers) w (now at) k × (t .counted ≤ w .base + k) ⌝ }
     requires { ⌜ Known p (viewOf p (now image) (now pointers)) (w .gone) (now addresses) ⌝ }
-    ensures { λ r. ⌜ Walked p (viewOf p (now (image .entry)) (now (pointers .entry))) (w .gone) (w .seg) ((w .base + k) ∷ []) (now (addresses .entry)) (now (addresses .exit)) (t .stamp .0) (r .stamp .0) (t .counted) (r .counted) ⌝ }
+    ensures { λ r. ⌜
+        Walked p (viewOf p (now (image .entry)) (now (pointers .entry))) (w .gone) (w .seg) ((w .base + k) ∷ []) (now (addresses .entry))
+        (now (addresses .exit)) (t .stamp .0) (r .stamp .0) (t .counted) (r .counted) ⌝ }
 {
     if !groups::counts(p, w.gone, at, k) {
         return t;
@@ -174,9 +182,17 @@ fn load_group(
 ) -> Loaded
     requires { ⌜ Ground p (now image) (now pointers) (w .gone) (now compact) ⌝ }
     requires { ⌜ Serials p (viewOf p (now image) (now pointers)) (w .gone) (now serials) ⌝ }
-    requires { ⌜ (length (now at) ≡ 2048) × (w .base < p .S) × (w .base % p .G ≡ 0) × (w .full ≡ sealedIn p (viewOf p (now image) (now pointers)) (w .gone) (w .seg)) × In (w .seg) (remaining p (viewOf p (now image) (now pointers)) (w .gone)) × (t .counted ≤ w .base) ⌝ }
+    requires { ⌜
+        (length (now at) ≡ 2048)
+        × (w .base < p .S)
+        × (w .base % p .G ≡ 0)
+        × (w .full ≡ sealedIn p (viewOf p (now image) (now pointers)) (w .gone) (w .seg))
+        × In (w .seg) (remaining p (viewOf p (now image) (now pointers)) (w .gone))
+        × (t .counted ≤ w .base) ⌝ }
     requires { ⌜ Known p (viewOf p (now image) (now pointers)) (w .gone) (now addresses) ⌝ }
-    ensures { λ r. ⌜ Walked p (viewOf p (now (image .entry)) (now (pointers .entry))) (w .gone) (w .seg) (upFrom (w .base) (groupLen p (w .base))) (now (addresses .entry)) (now (addresses .exit)) (t .stamp .0) (r .stamp .0) (t .counted) (r .counted) ⌝ }
+    ensures { λ r. ⌜
+        Walked p (viewOf p (now (image .entry)) (now (pointers .entry))) (w .gone) (w .seg) (upFrom (w .base) (groupLen p (w .base)))
+        (now (addresses .entry)) (now (addresses .exit)) (t .stamp .0) (r .stamp .0) (t .counted) (r .counted) ⌝ }
 {
     groups::index_group(p, image, pointers, w, at);
     let len = groups::group_len(p, w.base);
@@ -216,7 +232,9 @@ fn load_groups(
     requires { ⌜ Serials p (viewOf p (now image) (now pointers)) gone (now serials) ⌝ }
     requires { ⌜ In seg (remaining p (viewOf p (now image) (now pointers)) gone) ⌝ }
     requires { ⌜ Known p (viewOf p (now image) (now pointers)) gone (now addresses) ⌝ }
-    ensures { λ r. ⌜ Walked p (viewOf p (now (image .entry)) (now (pointers .entry))) gone seg (below (p .S)) (now (addresses .entry)) (now (addresses .exit)) (stamp .0) (r .stamp .0) 0 (r .counted) ⌝ }
+    ensures { λ r. ⌜
+        Walked p (viewOf p (now (image .entry)) (now (pointers .entry))) gone seg (below (p .S)) (now (addresses .entry)) (now (addresses .exit))
+        (stamp .0) (r .stamp .0) 0 (r .counted) ⌝ }
 {
     let full = zones::is_sealed(p, pointers, gone, seg);
     let mut at = [0u16; 2048];
@@ -311,7 +329,11 @@ fn load_segments(
     requires { ⌜ Keeps p (viewOf p (now image) (now pointers)) gone (now kept) ⌝ }
     requires { ⌜ Known p (viewOf p (now image) (now pointers)) gone (now addresses) ⌝ }
     ensures { λ r. ⌜ Toured p (viewOf p (now (image .entry)) (now (pointers .entry))) gone (below (p .Z)) (now (addresses .entry)) (now (addresses .exit)) 0 (r .stamp .0) ⌝ }
-    ensures { λ r. ⌜ (r .next ≤ p .S) × (opened < p .Z → remains p (viewOf p (now (image .entry)) (now (pointers .entry))) gone opened ≡ true → r .next ≡ length (counted p gone (segmentOf p (viewOf p (now (image .entry)) (now (pointers .entry))) gone opened))) ⌝ }
+    ensures { λ r. ⌜
+        (r .next ≤ p .S)
+        × (opened < p .Z
+        → remains p (viewOf p (now (image .entry)) (now (pointers .entry))) gone opened ≡ true
+        → r .next ≡ length (counted p gone (segmentOf p (viewOf p (now (image .entry)) (now (pointers .entry))) gone opened))) ⌝ }
 {
     let mut h = Head {
         stamp: Stamp(0),
@@ -367,7 +389,11 @@ fn load_tables(
     requires { ⌜ any (recsFault p gone) (segments p (viewOf p (now image) (now pointers)) gone) ≡ false ⌝ }
     requires { ⌜ Serials p (viewOf p (now image) (now pointers)) gone (now serials) × Keeps p (viewOf p (now image) (now pointers)) gone (now kept) ⌝ }
     ensures { λ r. ⌜ SaidTables p (viewOf p (now (image .entry)) (now (pointers .entry))) gone (now (addresses .exit)) (now (compact .exit)) (r .stamp .0) ⌝ }
-    ensures { λ r. ⌜ (r .next ≤ p .S) × (opened < p .Z → remains p (viewOf p (now (image .entry)) (now (pointers .entry))) gone opened ≡ true → r .next ≡ length (counted p gone (segmentOf p (viewOf p (now (image .entry)) (now (pointers .entry))) gone opened))) ⌝ }
+    ensures { λ r. ⌜
+        (r .next ≤ p .S)
+        × (opened < p .Z
+        → remains p (viewOf p (now (image .entry)) (now (pointers .entry))) gone opened ≡ true
+        → r .next ≡ length (counted p gone (segmentOf p (viewOf p (now (image .entry)) (now (pointers .entry))) gone opened))) ⌝ }
 {
     compacts::compacts(p, image, pointers, compact, gone, kept);
     clear_table(addresses);

@@ -194,7 +194,9 @@ pub record Claim (σ : State) (K : ℕ → ℕ) : Type 0 where
 pub claim : (p : Par) (σ : State) → Inv p σ → (g : Ghost) (u : View) → Facts p g u → g .sent ≡ σ .g .sent → g .last ≡ σ .g .last → g .base ≡ σ .g .base → g .top ≡ σ .g .top
     → (m : ℕ) → Choice p (g .un) m → (K : ℕ → ℕ) → Reads p (g .hd) u m K → Claim σ K
 claim p σ i g u h es el eb et m c K r = record {
-  acked = λ x k. let b : g .base (x .addr) ≤ K (x .addr) = q .kept (x .addr) in let e : g .base (x .addr) ≡ σ .g .base (x .addr) = ap (λ (f : ℕ → ℕ). f (x .addr)) eb in omega (arith, b, e, i .acks x k .1);
+  acked =
+      λ x k. let b : g .base (x .addr) ≤ K (x .addr) = q .kept (x .addr) in let e : g .base (x .addr)
+      ≡ σ .g .base (x .addr) = ap (λ (f : ℕ → ℕ). f (x .addr)) eb in omega (arith, b, e, i .acks x k .1);
   sent = λ a b. let k : (x : Val) × InV x (g .sent) × (x .addr ≡ a) × (x .stamp ≡ K a) = q .sent a b in (k .0, subst (λ (l : List Val). InV (k .0) l) es (k .1), k .2, k .3);
   same = λ s a. unchanged p g u h m c K r
       (λ x k. subst (λ (t : ℕ). x .stamp ≤ t) (sym et) (i .still s x (subst (λ (l : List Val). InV x l) es k)))
@@ -298,7 +300,8 @@ claims p _ _ i (restart-cut₁ σ k none ss d) = tt
 claims p _ _ i (restart-cut₂ σ k none ss d w o r π a) = tt
 claims p _ _ i (restart σ none ss d w o r π a K t rd b o? z n ns rg wh bl sr up) =
     claim p σ i (withPr (gN (σ .g) w o r) alone) (applyAll (σ .v) (ss ++ tailOf p (σ .g) w o r π))
-    (restart-facts p (σ .g) (σ .v) (i .facts) none (Dropped p (σ .g) (σ .v)) ss (d .are) (λ z n. n) (rest-of p (σ .g) (σ .v) (i .facts) none ss (d .are) (d .every)) w o r π a) refl refl refl refl (σ .g .un) (inr refl) K rd
+    (restart-facts p (σ .g) (σ .v) (i .facts) none (Dropped p (σ .g) (σ .v)) ss (d .are) (λ z n. n)
+    (rest-of p (σ .g) (σ .v) (i .facts) none ss (d .are) (d .every)) w o r π a) refl refl refl refl (σ .g .un) (inr refl) K rd
 claims p _ _ i (restart-plain σ none ss d cl K t rd b o? z n ns rg wh bl sr up) =
     claim p σ i (withPr (σ .g) alone) (applyAll (σ .v) ss) (after-drops p (σ .g) (σ .v) (i .facts) none ss d) refl refl refl refl (σ .g .un) (inr refl) K rd
 claims p _ _ i (restart-footer σ d z j a b c e f h) = tt
@@ -318,7 +321,9 @@ kept p _ _ i (begin σ M e o b) =
       still = i .still;
       uniq = i .uniq;
       ones = i .ones;
-      mode = fill-mem p (σ .g) (σ .v) M m (σ .g .sent) (M .next) (suc (M .next)) (M .stamp) (unfilled p (M .next)) (λ e. false) o (omega arith) (omega arith) (omega arith) (λ y k. k) (m .stamps) (omega arith)
+      mode =
+          fill-mem p (σ .g) (σ .v) M m (σ .g .sent) (M .next) (suc (M .next)) (M .stamp) (unfilled p (M .next)) (λ e. false) o (omega arith)
+          (omega arith) (omega arith) (λ y k. k) (m .stamps) (omega arith)
           (Filling.begin p (σ .g) (σ .v) (M .zone) (M .next) (λ e x l k. let q : ⊥ = omega (arith, m .below o e (M .next) x l k) in q));
     }
 kept p _ _ i (send σ M x s d r e t f al) =
@@ -330,7 +335,10 @@ kept p _ _ i (send σ M x s d r e t f al) =
       grown = i .grown;
       still = λ q. no-since q;
       uniq = uniq-more (σ .g .sent) (M .stamp) x (m .stamps) f (i .uniq);
-      ones = λ y k. ⊎-elim (λ (q : y ≡ x). let z : y .stamp ≡ x .stamp = ap (λ (w : Val). w .stamp) q in let b : y .addr ≡ x .addr = ap (λ (w : Val). w .addr) q in (omega (arith, z, f), omega (arith, b, al)))
+      ones =
+          λ y k. ⊎-elim (λ (q : y ≡ x). let z : y .stamp
+          ≡ x .stamp = ap (λ (w : Val). w .stamp) q in let b : y .addr
+          ≡ x .addr = ap (λ (w : Val). w .addr) q in (omega (arith, z, f), omega (arith, b, al)))
           (λ (q : InV y (σ .g .sent)). i .ones y q) k;
       mode = fill-mem p (σ .g) (σ .v) M m (x ∷ σ .g .sent) s (M .next) (x .stamp) (filled p s (M .F s) d x) r (w .0) (w .1) (omega arith) (m .few) (λ y k. inr k)
           (λ y k. ⊎-elim (λ (q : y ≡ x). let z : y .stamp ≡ x .stamp = ap (λ (w : Val). w .stamp) q in omega arith) (λ (q : InV y (σ .g .sent)). omega (arith, m .stamps y q, f)) k) (omega (arith, f))
@@ -456,10 +464,19 @@ kept p _ _ i (missing σ m t u K l c e r b) =
       mode = tt;
     }
 kept p _ _ i (restart-cut₁ σ k none ss d) =
-    record { facts = dropped p (σ .g) none (Dropped p (σ .g) (σ .v)) (σ .v) ss (d .are) (i .facts) (λ z n. n) k; acks = i .acks; grown = i .grown; still = i .still; uniq = i .uniq; ones = i .ones; mode = tt }
+    record {
+      facts = dropped p (σ .g) none (Dropped p (σ .g) (σ .v)) (σ .v) ss (d .are) (i .facts) (λ z n. n) k;
+      acks = i .acks;
+      grown = i .grown;
+      still = i .still;
+      uniq = i .uniq;
+      ones = i .ones;
+      mode = tt;
+    }
 kept p _ _ i (restart-cut₂ σ k none ss d w o r π a) =
     record {
-      facts = rewrite-prefix p (withPr (σ .g) alone) (applyAll (σ .v) ss) w o r π a (rest-of p (σ .g) (σ .v) (i .facts) none ss (d .are) (d .every)) (after-drops p (σ .g) (σ .v) (i .facts) none ss d) k;
+      facts =
+          rewrite-prefix p (withPr (σ .g) alone) (applyAll (σ .v) ss) w o r π a (rest-of p (σ .g) (σ .v) (i .facts) none ss (d .are) (d .every)) (after-drops p (σ .g) (σ .v) (i .facts) none ss d) k;
       acks = i .acks;
       grown = i .grown;
       still = i .still;
@@ -477,7 +494,8 @@ kept p _ _ i (restart σ none ss d w o r π a K t rd b o? z n ns rg wh bl sr up)
       uniq = uniq-cut t (σ .g .sent) (i .uniq);
       ones = λ x k. i .ones x (upTo-le t (σ .g .sent) x k .0);
       mode = rest-mem p (withPr (gN (σ .g) w o r) alone) (applyAll (σ .v) (ss ++ tailOf p (σ .g) w o r π))
-          (restart-clean p (σ .g) (σ .v) (i .facts) none (Dropped p (σ .g) (σ .v)) ss (d .are) (λ z n. n) (rest-of p (σ .g) (σ .v) (i .facts) none ss (d .are) (d .every)) w o r π a) o? z n ns rg wh bl K t sr up;
+          (restart-clean p (σ .g) (σ .v) (i .facts) none (Dropped p (σ .g) (σ .v)) ss (d .are) (λ z n. n)
+          (rest-of p (σ .g) (σ .v) (i .facts) none ss (d .are) (d .every)) w o r π a) o? z n ns rg wh bl K t sr up;
     }
 kept p _ _ i (restart-plain σ none ss d cl K t rd b o? z n ns rg wh bl sr up) =
     let q : Clean p (withPr (σ .g) alone) (applyAll (σ .v) ss) =

@@ -12,7 +12,8 @@ use Rattle.machine.specs.Finish.{upTo, upTo-le}
 use Rattle.machine.specs.Memory.{Mem, MemOk, setAt, setAt-elim}
 use Rattle.machine.specs.History.{State, Mode, Step, Run, Inv, Claim, ClaimOf, claims, kept, start, began, mem-of}
 use Rattle.machine.specs.History.Mode.{run}
-use Rattle.machine.specs.History.Step.{ack, begin, close, copy, footer, land, lose, missing, open-cut, open-done, rebuild, rebuild-done, rebuild-store, reset-cut, reset-done, restart, restart-cut₁, restart-cut₂, restart-footer, restart-plain, seal, send}
+use Rattle.machine.specs.History.Step.{ack, begin, close, copy, footer, land, lose, missing, open-cut, open-done, rebuild, rebuild-done, rebuild-store}
+use Rattle.machine.specs.History.Step.{reset-cut, reset-done, restart, restart-cut₁, restart-cut₂, restart-footer, restart-plain, seal, send}
 use Rattle.machine.specs.History.Run.{stop, then}
 
 -- all sends in their order: log q is the q-th block sent; pos t is where the block of cur with stamp t stands
@@ -108,8 +109,10 @@ tracked p _ _ i0 (reset-done σ M z e q a) T tq = record { here = tq .here; orde
 tracked p _ _ i0 (missing σ m t u K a b c d e) T tq = record { here = tq .here; order = tq .order }
 tracked p _ _ i0 (restart-cut₁ σ k none ss d) T tq = record { here = tq .here; order = tq .order }
 tracked p _ _ i0 (restart-cut₂ σ k none ss d w o r π a) T tq = record { here = tq .here; order = tq .order }
-tracked p _ _ i0 (restart σ none ss d w o r π a K t rd b o? z n ns rg wh bl sr up) T tq = record { here = λ x m. tq .here x (upTo-le t (σ .g .sent) x m .0); order = λ x y m k j. tq .order x y (upTo-le t (σ .g .sent) x m .0) (upTo-le t (σ .g .sent) y k .0) j }
-tracked p _ _ i0 (restart-plain σ none ss d cl K t rd b o? z n ns rg wh bl sr up) T tq = record { here = λ x m. tq .here x (upTo-le t (σ .g .sent) x m .0); order = λ x y m k j. tq .order x y (upTo-le t (σ .g .sent) x m .0) (upTo-le t (σ .g .sent) y k .0) j }
+tracked p _ _ i0 (restart σ none ss d w o r π a K t rd b o? z n ns rg wh bl sr up) T tq =
+    record { here = λ x m. tq .here x (upTo-le t (σ .g .sent) x m .0); order = λ x y m k j. tq .order x y (upTo-le t (σ .g .sent) x m .0) (upTo-le t (σ .g .sent) y k .0) j }
+tracked p _ _ i0 (restart-plain σ none ss d cl K t rd b o? z n ns rg wh bl sr up) T tq =
+    record { here = λ x m. tq .here x (upTo-le t (σ .g .sent) x m .0); order = λ x y m k j. tq .order x y (upTo-le t (σ .g .sent) x m .0) (upTo-le t (σ .g .sent) y k .0) j }
 tracked p _ _ i0 (restart-footer σ d z j a b c e f h) T tq = record { here = tq .here; order = tq .order }
 tracked p _ _ i0 (rebuild σ d l c) T tq = record { here = tq .here; order = tq .order }
 tracked p _ _ i0 (rebuild-store σ u l e m k) T tq = record { here = tq .here; order = tq .order }

@@ -11,7 +11,8 @@ use Rattle.machine.specs.View.{Item, View, In, chunk-val, chunk-num}
 use Rattle.machine.specs.View.Item.{hdr, chunk, foot}
 use Rattle.machine.specs.Facts.Pair.{alone, pair}
 use Rattle.machine.specs.Lemma.{pair-alone, pair-o, pair-w, old-own}
-use Rattle.machine.specs.Facts.{Par, Pair, Heads, Ghost, Good, Tr, Choice, L, R, Stripe, Datum, Counted, Off, Zone, Parity, Used, Whole, Moved, Swap, Ragged, Open, Content, Facts, Same, L-same, Stripe-same, Counted-same, used, decL}
+use Rattle.machine.specs.Facts.{Par, Pair, Heads, Ghost, Good, Tr, Choice, L, R, Stripe, Datum, Counted, Off, Zone, Parity, Used, Whole, Moved, Swap}
+use Rattle.machine.specs.Facts.{Ragged, Open, Content, Facts, Same, L-same, Stripe-same, Counted-same, used, decL}
 
 -- where a chunk stands
 pub in-off : (i : Item) (l : List Item) → In i l → (k : ℕ) × Off l k i

@@ -9,7 +9,8 @@ use lib.ListN.{length, getD}
 use Rattle.machine.specs.Val.{Val, 𝟘, xorN}
 use Rattle.machine.specs.View.{Item, View, In, cleared, upd, upd-elim, upd-same, upd-zone, upd-drive}
 use Rattle.machine.specs.View.Item.{hdr, chunk, foot}
-use Rattle.machine.specs.Facts.{Par, Pair, Ghost, Tr, Choice, L, R, Stripe, Datum, Counted, Off, Zone, Parity, Used, Whole, Moved, Swap, Open, Content, Facts, Same, L-same, Stripe-same, Counted-same, L-none, Stripe-none, used, whole-L, decL}
+use Rattle.machine.specs.Facts.{Par, Pair, Ghost, Tr, Choice, L, R, Stripe, Datum, Counted, Off, Zone, Parity, Used, Whole, Moved, Swap, Open, Content}
+use Rattle.machine.specs.Facts.{Facts, Same, L-same, Stripe-same, Counted-same, L-none, Stripe-none, used, whole-L, decL}
 use Rattle.machine.specs.Facts.Pair.{alone, pair}
 use Rattle.machine.specs.Lemma.{pair-alone, pair-o, pair-w, old-own}
 

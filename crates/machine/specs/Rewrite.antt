@@ -10,7 +10,8 @@ use Rattle.machine.specs.Val.{Val, 𝟘, xorN, decode-all}
 use Rattle.machine.specs.View.{Item, View, Store, In, after, cleared, apply, applyAll, in-last, in-left, in-cases, chunk-val, chunk-num, chunk-hdr}
 use Rattle.machine.specs.View.Item.{hdr, chunk, foot}
 use Rattle.machine.specs.View.Store.{put, reset}
-use Rattle.machine.specs.Facts.{Par, Pair, Heads, Ghost, Good, Tr, Choice, L, R, Stripe, Datum, Counted, Off, Zone, Parity, Used, Whole, Moved, Swap, Ragged, Open, Content, Facts, used, whole-L, Same, L-same, Stripe-same, Stripe-none}
+use Rattle.machine.specs.Facts.{Par, Pair, Heads, Ghost, Good, Tr, Choice, L, R, Stripe, Datum, Counted, Off, Zone, Parity, Used, Whole, Moved, Swap}
+use Rattle.machine.specs.Facts.{Ragged, Open, Content, Facts, used, whole-L, Same, L-same, Stripe-same, Stripe-none}
 use Rattle.machine.specs.Facts.Pair.{alone, pair}
 use Rattle.machine.specs.Lemma.{pair-alone, pair-o, pair-w, old-own}
 use Rattle.machine.specs.Put

@@ -11,7 +11,8 @@ use Rattle.machine.specs.View.{Item, View, In, chunk-val, chunk-num}
 use Rattle.machine.specs.View.Item.{hdr, chunk, foot}
 use Rattle.machine.specs.Facts.Pair.{alone, pair}
 use Rattle.machine.specs.Lemma.{pair-alone, pair-o, pair-w, old-own}
-use Rattle.machine.specs.Facts.{Par, Pair, Heads, Ghost, Good, Tr, Choice, L, R, Stripe, Datum, Counted, Zone, Parity, Used, Whole, Moved, Swap, Ragged, Open, Content, Facts, Same, L-same, Stripe-same, Counted-same}
+use Rattle.machine.specs.Facts.{Par, Pair, Heads, Ghost, Good, Tr, Choice, L, R, Stripe, Datum, Counted, Zone, Parity, Used, Whole, Moved, Swap, Ragged}
+use Rattle.machine.specs.Facts.{Open, Content, Facts, Same, L-same, Stripe-same, Counted-same}
 
 module _ (p : Par) (g : Ghost) (lost : g .un < p .N) (v u : View) (same : (e y : ℕ) → e < p .N → e ≢ g .un → v e y ≡ u e y) where
   -- the only choice is the untrusted drive

@@ -133,4 +133,6 @@ module _ (p : Params) (r : Ranged p) (n seg : ℕ) (hz : seg < p .Z) (k₀ : Dis
       }
         where
           apart : (e : ℕ) → (d ≡ e → ⊥) → hits e seg (each d) ≡ []
-          apart e ne = unfold missingOn in feet-apart p d (zoneOn (found p k₀ seg .seg) d) e seg (getD (found p k₀ seg .zonesBy) d noZone) (footersStored p (getD (found p k₀ seg .zonesBy) d noZone)) (footers p - footersStored p (getD (found p k₀ seg .zonesBy) d noZone)) ne
+          apart e ne =
+              unfold missingOn in feet-apart p d (zoneOn (found p k₀ seg .seg) d) e seg (getD (found p k₀ seg .zonesBy) d noZone)
+              (footersStored p (getD (found p k₀ seg .zonesBy) d noZone)) (footers p - footersStored p (getD (found p k₀ seg .zonesBy) d noZone)) ne

@@ -24,7 +24,11 @@ fn missing_on(
     requires { ⌜ inRange p ≡ true ⌝ }
     requires { ⌜ Whole p (mkDisk (now image) (now pointers)) ⌝ }
     requires { ⌜ (drive < p .N) × (zone < p .Z) × (1 + p .S ≤ pointerOf p (now pointers) drive zone) × (pointerOf p (now pointers) drive zone ≤ capacity p) ⌝ }
-    ensures { λ r. ⌜ Storing p count (footerStores p drive zone (zoneAt (viewOf p (now (image .entry)) (now (pointers .entry))) drive zone) (footersStored p (zoneAt (viewOf p (now (image .entry)) (now (pointers .entry))) drive zone)) (footers p - footersStored p (zoneAt (viewOf p (now (image .entry)) (now (pointers .entry))) drive zone))) (mkDisk (now (image .entry)) (now (pointers .entry))) r (mkDisk (now (image .exit)) (now (pointers .exit))) ⌝ }
+    ensures { λ r. ⌜
+        Storing p count (footerStores p drive zone (zoneAt (viewOf p (now (image .entry)) (now (pointers .entry))) drive zone)
+        (footersStored p (zoneAt (viewOf p (now (image .entry)) (now (pointers .entry))) drive zone))
+        (footers p - footersStored p (zoneAt (viewOf p (now (image .entry)) (now (pointers .entry))) drive zone)))
+        (mkDisk (now (image .entry)) (now (pointers .entry))) r (mkDisk (now (image .exit)) (now (pointers .exit))) ⌝ }
 {
     let first = stored::footers_stored(p, pointers, drive, zone);
     let n = shape::footers(p) - first;
@@ -43,7 +47,9 @@ pub fn missing_footers(
     requires { ⌜ Whole p (mkDisk (now image) (now pointers)) ⌝ }
     requires { ⌜ (segment < p .Z) × ((d : ℕ) → d < p .N → (1 + p .S ≤ pointerOf p (now pointers) d segment) × (pointerOf p (now pointers) d segment ≤ capacity p)) ⌝ }
     requires { ⌜ AllFit p (viewOf p (now image) (now pointers)) (missingFooters p (segmentOf p (viewOf p (now image) (now pointers)) 0 segment)) ⌝ }
-    ensures { λ r. ⌜ Storing p count (missingFooters p (segmentOf p (viewOf p (now (image .entry)) (now (pointers .entry))) 0 segment)) (mkDisk (now (image .entry)) (now (pointers .entry))) r (mkDisk (now (image .exit)) (now (pointers .exit))) ⌝ }
+    ensures { λ r. ⌜
+        Storing p count (missingFooters p (segmentOf p (viewOf p (now (image .entry)) (now (pointers .entry))) 0 segment))
+        (mkDisk (now (image .entry)) (now (pointers .entry))) r (mkDisk (now (image .exit)) (now (pointers .exit))) ⌝ }
 {
     let mut left = count;
     let mut d = 0;

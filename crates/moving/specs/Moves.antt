@@ -56,7 +56,9 @@ pub moved-append : (p : Params) (g : Segment) (z : ℕ) (a b : List ℕ) (n : �
 moved-append p g z [] b n = ap (movedStripes p g z b) (sym (add-zero n)) ∙ ap (λ (l : List Store). l ++ movedStripes p g z b (n + 0)) (sym (moved-none p g z n))
 moved-append p g z (s ∷ a) b n =
     moved-cons p g z s (a ++ b) n
-    ∙ ap (λ (l : List Store). movedStripe p g z s n ++ l) (moved-append p g z a b (suc n) ∙ ap (λ (k : ℕ). movedStripes p g z a (suc n) ++ movedStripes p g z b k) (let e : suc n + length a ≡ n + suc (length a) = omega arith in e))
+    ∙ ap (λ (l : List Store). movedStripe p g z s n ++ l)
+    (moved-append p g z a b (suc n)
+    ∙ ap (λ (k : ℕ). movedStripes p g z a (suc n) ++ movedStripes p g z b k) (let e : suc n + length a ≡ n + suc (length a) = omega arith in e))
     ∙ sym (append-assoc (movedStripe p g z s n) (movedStripes p g z a (suc n)) (movedStripes p g z b (n + suc (length a))))
     ∙ ap (λ (l : List Store). l ++ movedStripes p g z b (n + suc (length a))) (sym (moved-cons p g z s a n))
 
@@ -164,7 +166,9 @@ module _ (p : Params) (r : Ranged p) (n : ℕ) (k₀ : Disk) (w : Group) (hw : w
 
   module _ (d left : ℕ) (k : Disk) (g : Row d left k) where
     pub row-done : p .N ≤ d → Storing p n (movedStripe p x z s m) k₀ (record { left = left; cut = false }) k
-    row-done h = moves-done p n (movedStripe p x z s m) k₀ (w .seg) left k (moves-as p n (movedStripe p x z s m) k₀ (w .seg) (map each (upFrom d (p .N - d))) [] left k (ap (map each) (upFrom-end d (p .N) h)) g)
+    row-done h =
+        moves-done p n (movedStripe p x z s m) k₀ (w .seg) left k
+        (moves-as p n (movedStripe p x z s m) k₀ (w .seg) (map each (upFrom d (p .N - d))) [] left k (ap (map each) (upFrom-end d (p .N) h)) g)
 
     module _ (l : d < p .N) where
       abbrev rest : List Store
@@ -182,7 +186,9 @@ module _ (p : Params) (r : Ranged p) (n : ℕ) (k₀ : Disk) (w : Group) (hw : w
 
       module _ (made : Made) (k′ : Disk) (st : Storing p left (movedTo p (segmentIn p (k .image) (k .pointers) w) z s m d ∷ []) k made k′) where
         this : Storing p left (each d ∷ []) k made k′
-        this = subst (λ (y : Segment). Storing p left (movedTo p y z s m d ∷ []) k made k′) (sym (moves-in p r n (movedStripe p x z s m) k₀ (w .seg) (map each (upFrom d (p .N - d))) left k g w ng refl)) st
+        this =
+            subst (λ (y : Segment). Storing p left (movedTo p y z s m d ∷ []) k made k′)
+            (sym (moves-in p r n (movedStripe p x z s m) k₀ (w .seg) (map each (upFrom d (p .N - d))) left k g w ng refl)) st
 
         pub row-cut : made .cut ≡ true → Storing p n (movedStripe p x z s m) k₀ made k′
         row-cut c = moves-cut p n (movedStripe p x z s m) k₀ (w .seg) (each d ∷ []) rest left k made k′ step this c
@@ -193,7 +199,11 @@ module _ (p : Params) (r : Ranged p) (n : ℕ) (k₀ : Disk) (w : Group) (hw : w
 -- ---- one chunk
 
 -- the put of a chunk that is worked out
-pub put-moved : (p : Params) (n : ℕ) (g : Segment) (to s m d z : ℕ) (b sp : List ℕ) (q : Rec) (k : Disk) (made : Made) (k′ : Disk) → z ≡ zoneOn to d → mkPiece b q ≡ movedOn p (movedPieces p g s m) m d → sp ≡ recordBytes q
+pub put-moved :
+    (p : Params) (n : ℕ) (g : Segment) (to s m d z : ℕ) (b sp : List ℕ) (q : Rec) (k : Disk) (made : Made) (k′ : Disk)
+    → z ≡ zoneOn to d
+    → mkPiece b q ≡ movedOn p (movedPieces p g s m) m d
+    → sp ≡ recordBytes q
     → Storing p n (put d z b sp ∷ []) k made k′ → Storing p n (movedTo p g to s m d ∷ []) k made k′
 put-moved p n g to s m d z b sp q k made k′ ez e es st = subst (λ (l : List Store). Storing p n l k made k′) (ap (λ (x : Store). x ∷ []) (ap₂ (λ (x : ℕ) (y : List ℕ). put d x b y) ez es ∙ as!)) st
   where

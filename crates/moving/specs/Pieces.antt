@@ -83,7 +83,9 @@ module _ (p : Params) (g : Segment) (s n : ℕ) where
       → q′ .stamp ≡ bitXor (q .stamp) (storedRec g s (dataDrive p s i) .stamp) → q′ .stripe ≡ q .stripe → Xored (i + 1) b′ q′
   xored-turn i b b′ q q′ x long e a t m = record {
     blocks = e ∙ ap (λ (l : List ℕ). xors l (blockAt i)) (x .blocks)
-        ∙ sym (ap (parity (p .B)) (map-below-snoc blockAt i) ∙ parity-snoc (p .B) (map blockAt (below i)) (blockAt i) (long-below (p .B) blockAt i (λ j h. long j (omega arith))) (long i (omega arith)));
+        ∙ sym (ap (parity (p .B)) (map-below-snoc blockAt i)
+        ∙ parity-snoc (p .B) (map blockAt (below i)) (blockAt i) (long-below (p .B) blockAt i (λ j h. long j (omega arith)))
+        (long i (omega arith)));
     addresses = a ∙ ap (λ (k : ℕ). bitXor k (recAt i .address)) (x .addresses) ∙ sym (xorAll-below-snoc (λ j. recAt j .address) i);
     stamps = t ∙ ap (λ (k : ℕ). bitXor k (recAt i .stamp)) (x .stamps) ∙ sym (xorAll-below-snoc (λ j. recAt j .stamp) i);
     number = m ∙ x .number;
@@ -95,7 +97,9 @@ module _ (p : Params) (g : Segment) (s n : ℕ) where
       ∙ as!
       ∙ ap (parityPiece p n) (sym moved-are)
     where
-      as! : mkPiece (parity (p .B) (map blockAt (below (dataCount p)))) (mkRec (xorAll (map (λ j. recAt j .address) (below (dataCount p)))) (xorAll (map (λ j. recAt j .stamp) (below (dataCount p)))) n)
+      as! :
+          mkPiece (parity (p .B) (map blockAt (below (dataCount p))))
+          (mkRec (xorAll (map (λ j. recAt j .address) (below (dataCount p)))) (xorAll (map (λ j. recAt j .stamp) (below (dataCount p)))) n)
           ≡ parityPiece p n (map dataAt (below (dataCount p)))
       as! = unfold parityPiece parityRec renumbered storedRec storedPiece in λ j. mkPiece
           (parity (p .B) (block j))
@@ -105,10 +109,16 @@ module _ (p : Params) (g : Segment) (s n : ℕ) where
           block = unfold renumbered in sym (map-map (λ (y : Piece). y .block) dataAt (below (dataCount p)))
 
           addr : map (λ j. recAt j .address) (below (dataCount p)) ≡ map (λ (r : Rec). r .address) (map (λ (y : Piece). y .rec) (map dataAt (below (dataCount p))))
-          addr = unfold storedRec storedPiece renumbered in sym (ap (map (λ (r : Rec). r .address)) (map-map (λ (y : Piece). y .rec) dataAt (below (dataCount p))) ∙ map-map (λ (r : Rec). r .address) (λ i. dataAt i .rec) (below (dataCount p)))
+          addr =
+              unfold storedRec storedPiece renumbered in sym
+              (ap (map (λ (r : Rec). r .address)) (map-map (λ (y : Piece). y .rec) dataAt (below (dataCount p)))
+              ∙ map-map (λ (r : Rec). r .address) (λ i. dataAt i .rec) (below (dataCount p)))
 
           stamp : map (λ j. recAt j .stamp) (below (dataCount p)) ≡ map (λ (r : Rec). r .stamp) (map (λ (y : Piece). y .rec) (map dataAt (below (dataCount p))))
-          stamp = unfold storedRec storedPiece renumbered in sym (ap (map (λ (r : Rec). r .stamp)) (map-map (λ (y : Piece). y .rec) dataAt (below (dataCount p))) ∙ map-map (λ (r : Rec). r .stamp) (λ i. dataAt i .rec) (below (dataCount p)))
+          stamp =
+              unfold storedRec storedPiece renumbered in sym
+              (ap (map (λ (r : Rec). r .stamp)) (map-map (λ (y : Piece). y .rec) dataAt (below (dataCount p)))
+              ∙ map-map (λ (r : Rec). r .stamp) (λ i. dataAt i .rec) (below (dataCount p)))
 
 -- ---- as the code goes
 
@@ -118,7 +128,11 @@ module _ (p : Params) (r : Ranged p) (im ps : List ℕ) (w : Group) (at : List �
   g = segmentIn p im ps w
 
   -- a data chunk moved
-  pub data-moved : (i D : ℕ) (b : List ℕ) (y q : Rec) → D ≡ dataDrive p (w .base + k) i → b ≡ storedPiece (segmentIn p im ps w) (w .base + k) D .block → y ≡ storedRec (segmentIn p im ps w) (w .base + k) D
+  pub data-moved :
+      (i D : ℕ) (b : List ℕ) (y q : Rec)
+      → D ≡ dataDrive p (w .base + k) i
+      → b ≡ storedPiece (segmentIn p im ps w) (w .base + k) D .block
+      → y ≡ storedRec (segmentIn p im ps w) (w .base + k) D
       → q .address ≡ y .address → q .stamp ≡ y .stamp → q .stripe ≡ n → mkPiece b q ≡ renumbered n (storedPiece (segmentIn p im ps w) (w .base + k) (dataDrive p (w .base + k) i))
   data-moved i D b y q e eb ey a t m =
       piece-moved g (w .base + k) D n b q eb (a ∙ ap (λ (z : Rec). z .address) ey) (t ∙ ap (λ (z : Rec). z .stamp) ey) m

@@ -37,7 +37,11 @@ fn moved_data(
     requires { ⌜ Shown p w (now at) k ⌝ }
     requires { ⌜ AllEntered p 0 (w .base) (now at) k ⌝ }
     requires { ⌜ (length (now image) ≡ imageLen p) × (length (now block) ≡ p .B) × (i < dataCount p) × (s < 65536) ⌝ }
-    ensures { λ r. ⌜ ((ps : List ℕ) → Reads p (now (image .entry)) ps w (now (at .entry)) → mkPiece (now (block .exit)) (recVal r) ≡ renumbered s (storedPiece (segmentIn p (now (image .entry)) ps w) (w .base + k) (dataDrive p (w .base + k) i))) ⌝ }
+    ensures { λ r. ⌜
+        ((ps : List ℕ)
+        → Reads p (now (image .entry)) ps w (now (at .entry))
+        → mkPiece (now (block .exit)) (recVal r) ≡ renumbered s
+        (storedPiece (segmentIn p (now (image .entry)) ps w) (w .base + k) (dataDrive p (w .base + k) i))) ⌝ }
 {
     let from = shape::data_drive(p, w.base + k, i);
     groups::copy_block(p, image, w, at, from, k, block);
@@ -65,7 +69,10 @@ fn moved_parity(
     requires { ⌜ Shown p w (now at) k ⌝ }
     requires { ⌜ AllEntered p 0 (w .base) (now at) k ⌝ }
     requires { ⌜ (length (now image) ≡ imageLen p) × (length (now block) ≡ p .B) × (s < 65536) ⌝ }
-    ensures { λ r. ⌜ ((ps : List ℕ) → Reads p (now (image .entry)) ps w (now (at .entry)) → mkPiece (now (block .exit)) (recVal r) ≡ parityPiece p s (movedPieces p (segmentIn p (now (image .entry)) ps w) (w .base + k) s)) ⌝ }
+    ensures { λ r. ⌜
+        ((ps : List ℕ)
+        → Reads p (now (image .entry)) ps w (now (at .entry))
+        → mkPiece (now (block .exit)) (recVal r) ≡ parityPiece p s (movedPieces p (segmentIn p (now (image .entry)) ps w) (w .base + k) s)) ⌝ }
 {
     blocks::clear(block);
     let mut r = Record {
@@ -98,7 +105,10 @@ fn moved_chunk(
     requires { ⌜ Shown p w (now at) k ⌝ }
     requires { ⌜ AllEntered p 0 (w .base) (now at) k ⌝ }
     requires { ⌜ (length (now image) ≡ imageLen p) × (length (now block) ≡ p .B) × (drive < p .N) × (s < 65536) ⌝ }
-    ensures { λ r. ⌜ ((ps : List ℕ) → Reads p (now (image .entry)) ps w (now (at .entry)) → mkPiece (now (block .exit)) (recVal r) ≡ movedOn p (movedPieces p (segmentIn p (now (image .entry)) ps w) (w .base + k) s) s drive) ⌝ }
+    ensures { λ r. ⌜
+        ((ps : List ℕ)
+        → Reads p (now (image .entry)) ps w (now (at .entry))
+        → mkPiece (now (block .exit)) (recVal r) ≡ movedOn p (movedPieces p (segmentIn p (now (image .entry)) ps w) (w .base + k) s) s drive) ⌝ }
 {
     if shape::is_data(p, s, drive) {
         let i = shape::data_position(p, s, drive);
@@ -127,7 +137,9 @@ fn move_with(
     requires { ⌜ AllEntered p 0 (w .base) (now at) k ⌝ }
     requires { ⌜ Reads p (now image) (now pointers) w (now at) ⌝ }
     requires { ⌜ (drive < p .N) × (to < p .Z) × (s < 65536) × (length (now block) ≡ p .B) × (pointerOf p (now pointers) drive (zoneOn to drive) < capacity p) ⌝ }
-    ensures { λ r. ⌜ Storing p count (movedTo p (segmentIn p (now (image .entry)) (now (pointers .entry)) w) to (w .base + k) s drive ∷ []) (mkDisk (now (image .entry)) (now (pointers .entry))) r (mkDisk (now (image .exit)) (now (pointers .exit))) ⌝ }
+    ensures { λ r. ⌜
+        Storing p count (movedTo p (segmentIn p (now (image .entry)) (now (pointers .entry)) w) to (w .base + k) s drive ∷ [])
+        (mkDisk (now (image .entry)) (now (pointers .entry))) r (mkDisk (now (image .exit)) (now (pointers .exit))) ⌝ }
 {
     let mut spare = [0u8; 20];
     let r = moved_chunk(p, image, w, at, k, s, drive, block);
@@ -155,7 +167,9 @@ fn move_chunk(
     requires { ⌜ AllEntered p 0 (w .base) (now at) k ⌝ }
     requires { ⌜ Reads p (now image) (now pointers) w (now at) ⌝ }
     requires { ⌜ (drive < p .N) × (to < p .Z) × (s < 65536) × (pointerOf p (now pointers) drive (zoneOn to drive) < capacity p) ⌝ }
-    ensures { λ r. ⌜ Storing p count (movedTo p (segmentIn p (now (image .entry)) (now (pointers .entry)) w) to (w .base + k) s drive ∷ []) (mkDisk (now (image .entry)) (now (pointers .entry))) r (mkDisk (now (image .exit)) (now (pointers .exit))) ⌝ }
+    ensures { λ r. ⌜
+        Storing p count (movedTo p (segmentIn p (now (image .entry)) (now (pointers .entry)) w) to (w .base + k) s drive ∷ [])
+        (mkDisk (now (image .entry)) (now (pointers .entry))) r (mkDisk (now (image .exit)) (now (pointers .exit))) ⌝ }
 {
     let mut block = [0u8; 4096];
     let b = p.B;
@@ -193,7 +207,9 @@ pub fn move_stripe(
     requires { ⌜ Reads p (now image) (now pointers) w (now at) ⌝ }
     requires { ⌜ (to < p .Z) × (s < 65536) × (to ≡ w .seg → ⊥) ⌝ }
     requires { ⌜ AllFit p (viewOf p (now image) (now pointers)) (movedStripe p (segmentIn p (now image) (now pointers) w) to (w .base + k) s) ⌝ }
-    ensures { λ r. ⌜ Storing p count (movedStripe p (segmentIn p (now (image .entry)) (now (pointers .entry)) w) to (w .base + k) s) (mkDisk (now (image .entry)) (now (pointers .entry))) r (mkDisk (now (image .exit)) (now (pointers .exit))) ⌝ }
+    ensures { λ r. ⌜
+        Storing p count (movedStripe p (segmentIn p (now (image .entry)) (now (pointers .entry)) w) to (w .base + k) s)
+        (mkDisk (now (image .entry)) (now (pointers .entry))) r (mkDisk (now (image .exit)) (now (pointers .exit))) ⌝ }
 {
     let mut left = count;
     let mut d = 0;

@@ -82,7 +82,9 @@ in-groups p v gone q g d o m hd pr h =
     let w = sealedIn p v gone g in
     let z = zoneAt v d g in
     let f : recsBad p d 0 (recsOn x d) ≡ false = none-in (λ d. recsBad p d 0 (recsOn x d)) (present p gone) (seg-clean p v gone g q m) d (in-present p gone d hd pr) in
-    let u : outside p 0 (recsOn x d) ≡ false = or-left (outside p 0 (recsOn x d)) (twice (recsOn x d)) (or-left (outside p 0 (recsOn x d) || twice (recsOn x d)) (any (storedBad p d) (recsOn x d)) f) in
+    let u : outside p 0 (recsOn x d) ≡ false =
+    or-left (outside p 0 (recsOn x d)) (twice (recsOn x d))
+    (or-left (outside p 0 (recsOn x d) || twice (recsOn x d)) (any (storedBad p d) (recsOn x d)) f) in
     let e : recsOn x d ≡ recordsIn p w z = recs-here p v gone g d hd pr in
     let l : length (recsOn x d) ≡ dataStored p z = ap length e ∙ length-records p w z in
     let a : getD (recsOn x d) o (mkRec 0 0 0) ≡ recordIn p w z o = ap (λ (y : List Rec). getD y o (mkRec 0 0 0)) e ∙ record-at p w z o (mkRec 0 0 0) h in

@@ -38,7 +38,8 @@ pub best-else : (a : ℕ) (cs : List Cand) (c : Cand) → (c .address ≡ a → 
 unfolding candsOf
 best-else a cs c n =
     ap (best none) (keep-append (λ (x : Cand). eqb (x .address) a) cs (c ∷ [])
-    ∙ ap (λ (l : List Cand). keep (λ (x : Cand). eqb (x .address) a) cs ++ l) (keep-miss (λ (x : Cand). eqb (x .address) a) c [] (ne-eqb (c .address) a n) ∙ keep-none (λ (x : Cand). eqb (x .address) a))
+    ∙ ap (λ (l : List Cand). keep (λ (x : Cand). eqb (x .address) a) cs ++ l)
+    (keep-miss (λ (x : Cand). eqb (x .address) a) c [] (ne-eqb (c .address) a n) ∙ keep-none (λ (x : Cand). eqb (x .address) a))
     ∙ append-nil (keep (λ (x : Cand). eqb (x .address) a) cs))
 
 -- what an address has in the table

@@ -84,7 +84,10 @@ fn stamp_at(
 ) -> Stamp
     requires { ⌜ Ground p (now image) (now pointers) gone (now compact) ⌝ }
     requires { ⌜ Somewhere p (viewOf p (now image) (now pointers)) gone drive segment offset ⌝ }
-    ensures { λ r. ⌜ ((s : ℕ) → Lies p (viewOf p (now (image .entry)) (now (pointers .entry))) gone drive segment offset s → r .0 ≡ recOf p gone (segmentOf p (viewOf p (now (image .entry)) (now (pointers .entry))) gone segment) s drive .stamp) ⌝ }
+    ensures { λ r. ⌜
+        ((s : ℕ)
+        → Lies p (viewOf p (now (image .entry)) (now (pointers .entry))) gone drive segment offset s
+        → r .0 ≡ recOf p gone (segmentOf p (viewOf p (now (image .entry)) (now (pointers .entry))) gone segment) s drive .stamp) ⌝ }
 {
     let full = zones::is_sealed(p, pointers, gone, segment);
     if masks::has_drive(gone, drive) {

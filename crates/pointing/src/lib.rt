@@ -105,7 +105,10 @@ fn compete(
 ) -> Best
     requires { ⌜ inRange p ≡ true ⌝ }
     requires { ⌜ (segment < p .Z) × (k < dataCount p) × ((d : ℕ) → d < p .N → offsetIn (alone row) 0 d < p .S) ⌝ }
-    ensures { λ r. ⌜ ((v : View) (cs : List CandOf) → serial .0 ≡ serialAt v segment → best (rankedBest r) (candsOf (address .0) cs) ≡ best (rankedBest b) (candsOf (address .0) (landedCand p v segment (alone row) 0 k ∷ cs))) ⌝ }
+    ensures { λ r. ⌜
+        ((v : View) (cs : List CandOf)
+        → serial .0 ≡ serialAt v segment
+        → best (rankedBest r) (candsOf (address .0) cs) ≡ best (rankedBest b) (candsOf (address .0) (landedCand p v segment (alone row) 0 k ∷ cs))) ⌝ }
 {
     let e = waits::entry(row, k);
     if e.address.0 != address.0 {
@@ -131,7 +134,10 @@ fn winner(
     requires { ⌜ (length (now addresses) ≡ addressesLen p) × (address .0 < p .L) × Sane p (placeAt (now addresses) (address .0)) ⌝ }
     requires { ⌜ (segment < p .Z) × (filledIn (alone row) 0 ≤ dataCount p) × ((d : ℕ) → d < p .N → offsetIn (alone row) 0 d < p .S) ⌝ }
     requires { ⌜ serial .0 ≡ serialAt (viewOf p (now image) (now pointers)) segment ⌝ }
-    ensures { λ r. ⌜ r .0 ≡ winnerOf p (viewOf p (now (image .entry)) (now (pointers .entry))) (now (addresses .entry)) (landedCands p (viewOf p (now (image .entry)) (now (pointers .entry))) segment (alone row) 0) (address .0) ⌝ }
+    ensures { λ r. ⌜
+        r .0
+        ≡ winnerOf p (viewOf p (now (image .entry)) (now (pointers .entry))) (now (addresses .entry))
+        (landedCands p (viewOf p (now (image .entry)) (now (pointers .entry))) segment (alone row) 0) (address .0) ⌝ }
 {
     let n = waits::filled_in(row);
     let mut b = held(p, image, pointers, addresses, address);
@@ -158,7 +164,12 @@ fn winners(
     requires { ⌜ (length (now addresses) ≡ addressesLen p) × Sound p (alone row) 0 (now addresses) ⌝ }
     requires { ⌜ (segment < p .Z) × (filledIn (alone row) 0 ≤ dataCount p) × ((d : ℕ) → d < p .N → offsetIn (alone row) 0 d < p .S) ⌝ }
     requires { ⌜ serial .0 ≡ serialAt (viewOf p (now image) (now pointers)) segment ⌝ }
-    ensures { λ r. ⌜ ((k : ℕ) → k < filledIn (alone row) 0 → entryIn (alone row) 0 k .address < p .L → getD r k 0 ≡ winnerOf p (viewOf p (now (image .entry)) (now (pointers .entry))) (now (addresses .entry)) (landedCands p (viewOf p (now (image .entry)) (now (pointers .entry))) segment (alone row) 0) (entryIn (alone row) 0 k .address)) ⌝ }
+    ensures { λ r. ⌜
+        ((k : ℕ)
+        → k < filledIn (alone row) 0
+        → entryIn (alone row) 0 k .address < p .L
+        → getD r k 0 ≡ winnerOf p (viewOf p (now (image .entry)) (now (pointers .entry))) (now (addresses .entry))
+        (landedCands p (viewOf p (now (image .entry)) (now (pointers .entry))) segment (alone row) 0) (entryIn (alone row) 0 k .address)) ⌝ }
 {
     let n = waits::filled_in(row);
     let mut out = [0u32; 8];
@@ -206,7 +217,11 @@ pub fn point(
     requires { ⌜ Whole p (mkDisk (now image) (now pointers)) ⌝ }
     requires { ⌜ (length (now addresses) ≡ addressesLen p) × Sound p (alone row) 0 (now addresses) ⌝ }
     requires { ⌜ (segment < p .Z) × (filledIn (alone row) 0 ≤ dataCount p) × ((d : ℕ) → d < p .N → offsetIn (alone row) 0 d < p .S) ⌝ }
-    ensures { λ _. ⌜ now (addresses .exit) ≡ pointed p (viewOf p (now (image .entry)) (now (pointers .entry))) (now (addresses .entry)) (landedCands p (viewOf p (now (image .entry)) (now (pointers .entry))) segment (alone row) 0) (landedCands p (viewOf p (now (image .entry)) (now (pointers .entry))) segment (alone row) 0) (now (addresses .entry)) ⌝ }
+    ensures { λ _. ⌜
+        now (addresses .exit)
+        ≡ pointed p (viewOf p (now (image .entry)) (now (pointers .entry))) (now (addresses .entry))
+        (landedCands p (viewOf p (now (image .entry)) (now (pointers .entry))) segment (alone row) 0)
+        (landedCands p (viewOf p (now (image .entry)) (now (pointers .entry))) segment (alone row) 0) (now (addresses .entry)) ⌝ }
 {
     let serial = serial_at(p, image, segment);
     let places = winners(p, image, pointers, addresses, segment, serial, row);

@@ -72,7 +72,10 @@ fn seek(
     len: usize,
 ) -> Sought
     requires { ⌜ length (now state) ≡ stateLen ⌝ }
-    ensures { λ r. ⌜ refusedBy r ≡ refusal p (mkDisk (now (image .entry)) (now (pointers .entry))) (mkMemory (stateOf (now (state .entry))) (now (addresses .entry)) (now (compact .entry)) (now (inflight .entry))) (address .0) len ⌝ }
+    ensures { λ r. ⌜
+        refusedBy r
+        ≡ refusal p (mkDisk (now (image .entry)) (now (pointers .entry)))
+        (mkMemory (stateOf (now (state .entry))) (now (addresses .entry)) (now (compact .entry)) (now (inflight .entry))) (address .0) len ⌝ }
     ensures { λ r. ⌜ liesAt r (lookup p (stateOf (now (state .entry)) .missing) (now (addresses .entry)) (address .0)) ⌝ }
 {
     if !shape::in_range(p) {
@@ -120,7 +123,11 @@ pub fn find(
     address: Address,
 ) -> Answer
     requires { ⌜ length (now state) ≡ stateLen ⌝ }
-    ensures { λ r. ⌜ mkAfter r (mkDisk (now (image .entry)) (now (pointers .entry))) (mkMemory (stateOf (now (state .entry))) (now (addresses .entry)) (now (compact .entry)) (now (inflight .entry))) [] ≡ callDisk p (mkDisk (now (image .entry)) (now (pointers .entry))) (mkMemory (stateOf (now (state .entry))) (now (addresses .entry)) (now (compact .entry)) (now (inflight .entry))) (read (address .0)) ⌝ }
+    ensures { λ r. ⌜
+        mkAfter r (mkDisk (now (image .entry)) (now (pointers .entry)))
+        (mkMemory (stateOf (now (state .entry))) (now (addresses .entry)) (now (compact .entry)) (now (inflight .entry))) []
+        ≡ callDisk p (mkDisk (now (image .entry)) (now (pointers .entry)))
+        (mkMemory (stateOf (now (state .entry))) (now (addresses .entry)) (now (compact .entry)) (now (inflight .entry))) (read (address .0)) ⌝ }
 {
     let b = p.B;
     let sought = seek(
@@ -152,7 +159,13 @@ pub fn part<'a>(
     address: Address,
 ) -> &'a [u8]
     requires { ⌜ length (now state) ≡ stateLen ⌝ }
-    ensures { λ r. ⌜ PartOf (image .entry) (partAt (callDisk p (mkDisk (now (image .entry)) (now (pointers .entry))) (mkMemory (stateOf (now (state .entry))) (now (addresses .entry)) (now (compact .entry)) (now (inflight .entry))) (read (address .0)) .answer)) (partLen p (callDisk p (mkDisk (now (image .entry)) (now (pointers .entry))) (mkMemory (stateOf (now (state .entry))) (now (addresses .entry)) (now (compact .entry)) (now (inflight .entry))) (read (address .0)) .answer)) r ⌝ }
+    ensures { λ r. ⌜
+        PartOf (image .entry) (partAt (callDisk p (mkDisk (now (image .entry)) (now (pointers .entry)))
+        (mkMemory (stateOf (now (state .entry))) (now (addresses .entry)) (now (compact .entry)) (now (inflight .entry)))
+        (read (address .0)) .answer)) (partLen p
+        (callDisk p (mkDisk (now (image .entry)) (now (pointers .entry)))
+        (mkMemory (stateOf (now (state .entry))) (now (addresses .entry)) (now (compact .entry)) (now (inflight .entry)))
+        (read (address .0)) .answer)) r ⌝ }
 {
     let answer = find(
         p,
@@ -229,7 +242,10 @@ fn add_chunk(
     requires { ⌜ (length (now compact) ≡ compactLen p) × (length (now block) ≡ p .B) ⌝ }
     requires { ⌜ (drive < p .N) × (zone < p .Z) × (s < p .S) ⌝ }
     requires { ⌜ (isIn missing drive ≡ false → isNil (shownAt p (viewOf p (now image) (now pointers)) (now compact) drive zone s) ≡ false) ⌝ }
-    ensures { λ _. ⌜ now (block .exit) ≡ cond (isIn missing drive) (now (block .entry)) (xors (now (block .entry)) (shownBlock p (viewOf p (now (image .entry)) (now (pointers .entry))) (now (compact .entry)) zone s drive)) ⌝ }
+    ensures { λ _. ⌜
+        now (block .exit)
+        ≡ cond (isIn missing drive) (now (block .entry))
+        (xors (now (block .entry)) (shownBlock p (viewOf p (now (image .entry)) (now (pointers .entry))) (now (compact .entry)) zone s drive)) ⌝ }
 {
     if masks::has_drive(missing, drive) {
         return;
@@ -342,7 +358,12 @@ pub fn fill(
     block: &mut [u8],
 ) -> Answer
     requires { ⌜ length (now state) ≡ stateLen ⌝ }
-    ensures { λ r. ⌜ mkAfter r (mkDisk (now (image .entry)) (now (pointers .entry))) (mkMemory (stateOf (now (state .entry))) (now (addresses .entry)) (now (compact .entry)) (now (inflight .entry))) (now (block .exit)) ≡ callDisk p (mkDisk (now (image .entry)) (now (pointers .entry))) (mkMemory (stateOf (now (state .entry))) (now (addresses .entry)) (now (compact .entry)) (now (inflight .entry))) (fill (address .0) (now (block .entry))) ⌝ }
+    ensures { λ r. ⌜
+        mkAfter r (mkDisk (now (image .entry)) (now (pointers .entry)))
+        (mkMemory (stateOf (now (state .entry))) (now (addresses .entry)) (now (compact .entry)) (now (inflight .entry))) (now (block .exit))
+        ≡ callDisk p (mkDisk (now (image .entry)) (now (pointers .entry)))
+        (mkMemory (stateOf (now (state .entry))) (now (addresses .entry)) (now (compact .entry)) (now (inflight .entry)))
+        (fill (address .0) (now (block .entry))) ⌝ }
 {
     let n = block.len();
     let sought = seek(

@@ -84,7 +84,9 @@ module _ (p : Params) (k : Disk) (m : Memory) (d : ℕ) (rd : Ready p k m d) (no
   good-recs g hg f =
       let v = seen p k in
       let a : Accepted p v (named d) = record { pointers-ok = rd .pointers-ok; segments-ok = none! } in
-      let i : In g (remaining p v (named d)) = subst (λ (l : List ℕ). In g l) (sym (remaining-keep p v (named d))) (in-keep (remains p v (named d)) (below (p .Z)) g (in-below (p .Z) g hg) (sym (kp .1 g hg) ∙ f)) in
+      let i : In g (remaining p v (named d)) =
+      subst (λ (l : List ℕ). In g l) (sym (remaining-keep p v (named d)))
+      (in-keep (remains p v (named d)) (below (p .Z)) g (in-below (p .Z) g hg) (sym (kp .1 g hg) ∙ f)) in
       let o = faults-apart p v (named d) a g i in
       no-recs-fault p (named d) (segmentOf p v (named d) g) (o .no-stripe-fault) (o .no-address-fault)
 

@@ -90,7 +90,8 @@ module _ (p : Params) (k : Disk) (m : Memory) (d : ℕ) where
   -- ---- they are the first of all
 
   checks-are : refusal
-      ≡ firstRefusal (rule 1 (badNumbers p (m .state .missing) d) ∷ rule 2 (not (lentOk p k m)) ∷ zones high ∷ zones (cond (isNil high) (segmentFaults p (named d) (segments p (seen p k) (named d))) []) ∷ [])
+      ≡ firstRefusal (rule 1 (badNumbers p (m .state .missing) d) ∷ rule 2 (not (lentOk p k m)) ∷ zones high ∷ zones
+      (cond (isNil high) (segmentFaults p (named d) (segments p (seen p k) (named d))) []) ∷ [])
   unfolding refusal rebuildChecks imageChecks badNumbers namesMissing
   checks-are = refl
 

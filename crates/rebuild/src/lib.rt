@@ -82,7 +82,10 @@ fn restore(
     requires { ⌜ front p (mkDisk (now image) (now pointers)) (mkMemory state (now addresses) (now compact) (now inflight)) drive ≡ none ⌝ }
     requires { ⌜ segmentFaults p (named drive) (segments p (viewOf p (now image) (now pointers)) (named drive)) ≡ [] ⌝ }
     requires { ⌜ Keeps p (viewOf p (now image) (now pointers)) (named drive) (now kept) ⌝ }
-    ensures { λ r. ⌜ after r (now (image .exit)) (now (pointers .exit)) (now (addresses .exit)) (now (compact .exit)) (now (inflight .entry)) [] ≡ callDisk p (mkDisk (now (image .entry)) (now (pointers .entry))) (mkMemory state (now (addresses .entry)) (now (compact .entry)) (now (inflight .entry))) (rebuildCall drive count) ⌝ }
+    ensures { λ r. ⌜
+        after r (now (image .exit)) (now (pointers .exit)) (now (addresses .exit)) (now (compact .exit)) (now (inflight .entry)) []
+        ≡ callDisk p (mkDisk (now (image .entry)) (now (pointers .entry)))
+        (mkMemory state (now (addresses .entry)) (now (compact .entry)) (now (inflight .entry))) (rebuildCall drive count) ⌝ }
 {
     let gone = masks::only_drive(drive);
     let made = reviving::rebuild_stores(p, image, pointers, gone, kept, drive, count);
@@ -108,7 +111,10 @@ fn examined(
     count: u64,
 ) -> Done
     requires { ⌜ front p (mkDisk (now image) (now pointers)) (mkMemory state (now addresses) (now compact) (now inflight)) drive ≡ none ⌝ }
-    ensures { λ r. ⌜ after r (now (image .exit)) (now (pointers .exit)) (now (addresses .exit)) (now (compact .exit)) (now (inflight .entry)) [] ≡ callDisk p (mkDisk (now (image .entry)) (now (pointers .entry))) (mkMemory state (now (addresses .entry)) (now (compact .entry)) (now (inflight .entry))) (rebuildCall drive count) ⌝ }
+    ensures { λ r. ⌜
+        after r (now (image .exit)) (now (pointers .exit)) (now (addresses .exit)) (now (compact .exit)) (now (inflight .entry)) []
+        ≡ callDisk p (mkDisk (now (image .entry)) (now (pointers .entry)))
+        (mkMemory state (now (addresses .entry)) (now (compact .entry)) (now (inflight .entry))) (rebuildCall drive count) ⌝ }
 {
     let gone = masks::only_drive(drive);
     let serials = remains::serials(p, image, gone);
@@ -146,7 +152,10 @@ pub fn rebuild(
     drive: usize,
     count: u64,
 ) -> Done
-    ensures { λ r. ⌜ after r (now (image .exit)) (now (pointers .exit)) (now (addresses .exit)) (now (compact .exit)) (now (inflight .entry)) [] ≡ callDisk p (mkDisk (now (image .entry)) (now (pointers .entry))) (mkMemory state (now (addresses .entry)) (now (compact .entry)) (now (inflight .entry))) (rebuildCall drive count) ⌝ }
+    ensures { λ r. ⌜
+        after r (now (image .exit)) (now (pointers .exit)) (now (addresses .exit)) (now (compact .exit)) (now (inflight .entry)) []
+        ≡ callDisk p (mkDisk (now (image .entry)) (now (pointers .entry)))
+        (mkMemory state (now (addresses .entry)) (now (compact .entry)) (now (inflight .entry))) (rebuildCall drive count) ⌝ }
 {
     let c = checks(
         p,

@@ -86,17 +86,28 @@ module _ (p : Params) (r : Ranged p) (g : Ghost) (v : View) (k : OnDrives p r g 
   few z = unfold counted in omega (arith, length-keep (counts p (named (g .un)) (G z)) (below (p .S)), length-below (p .S))
 
   all-S : (z : ℕ) → z < p .Z → G z .full ≡ true → length (counted p (named (g .un)) (G z)) ≡ p .S
-  all-S z zb e = ap length (rising-same (counted p (named (g .un)) (G z)) (below (p .S)) (counted-rising p r g v k (g .un) c z) (rising-below (p .S)) (λ s h. has-below s (p .S) (counted-has p r g v k (g .un) c z s h .0))
+  all-S z zb e =
+      ap length (rising-same (counted p (named (g .un)) (G z)) (below (p .S)) (counted-rising p r g v k (g .un) c z) (rising-below (p .S))
+      (λ s h. has-below s (p .S) (counted-has p r g v k (g .un) c z s h .0))
       (λ s h. sealed-counts p r g v k (g .un) c z s zb (sym (segment-fields p r g v k (g .un) c z .3) ∙ e) (below-has s (p .S) h))) ∙ length-below (p .S)
 
   low : (z : ℕ) → Has z (remaining p v (named (g .un))) → z < p .Z
   low z i = seg-low p r g v k (g .un) c z i
 
   -- count and footers by cases: not remaining, remaining and unsealed, remaining and sealed
-  cases : (z : ℕ) → ((planCount z ≡ 0) × (planFeet z ≡ 0)) ⊎ (Has z (remaining p v (named (g .un))) × (planCount z ≡ length (counted p (named (g .un)) (G z))) × (((G z .full ≡ false) × (planFeet z ≡ 0)) ⊎ ((G z .full ≡ true) × (planFeet z ≡ footers p))))
+  cases :
+      (z : ℕ)
+      → ((planCount z ≡ 0) × (planFeet z ≡ 0)) ⊎ (Has z (remaining p v (named (g .un)))
+      × (planCount z ≡ length (counted p (named (g .un)) (G z)))
+      × (((G z .full ≡ false) × (planFeet z ≡ 0)) ⊎ ((G z .full ≡ true) × (planFeet z ≡ footers p))))
   cases z = go (isMember z rem) refl
     where
-      go : (b : Bool) → isMember z rem ≡ b → ((planCount z ≡ 0) × (planFeet z ≡ 0)) ⊎ (Has z (remaining p v (named (g .un))) × (planCount z ≡ length (counted p (named (g .un)) (G z))) × (((G z .full ≡ false) × (planFeet z ≡ 0)) ⊎ ((G z .full ≡ true) × (planFeet z ≡ footers p))))
+      go :
+          (b : Bool)
+          → isMember z rem ≡ b
+          → ((planCount z ≡ 0) × (planFeet z ≡ 0)) ⊎ (Has z (remaining p v (named (g .un)))
+          × (planCount z ≡ length (counted p (named (g .un)) (G z)))
+          × (((G z .full ≡ false) × (planFeet z ≡ 0)) ⊎ ((G z .full ≡ true) × (planFeet z ≡ footers p))))
       go false e = inl ((unfold planCount in cond-false (isMember z rem) (length (counted p (named (g .un)) (G z))) 0 e), (unfold planFeet in ap (λ (b : Bool). cond (b && G z .full) (footers p) 0) e))
       go true e = inr (of-member z e, count-here z (of-member z e), two (G z .full) refl)
         where
@@ -105,7 +116,11 @@ module _ (p : Params) (r : Ranged p) (g : Ghost) (v : View) (k : OnDrives p r g 
           two false f = inl (f, feet-here z (of-member z e) ∙ ap (λ (b : Bool). cond b (footers p) 0) f)
 
   abbrev Cases : ℕ → Type 0
-  Cases z = ((planCount z ≡ 0) × (planFeet z ≡ 0)) ⊎ (Has z (remaining p v (named (g .un))) × (planCount z ≡ length (counted p (named (g .un)) (G z))) × (((G z .full ≡ false) × (planFeet z ≡ 0)) ⊎ ((G z .full ≡ true) × (planFeet z ≡ footers p))))
+  Cases z =
+      ((planCount z ≡ 0) × (planFeet z ≡ 0))
+      ⊎ (Has z (remaining p v (named (g .un)))
+      × (planCount z ≡ length (counted p (named (g .un)) (G z)))
+      × (((G z .full ≡ false) × (planFeet z ≡ 0)) ⊎ ((G z .full ≡ true) × (planFeet z ≡ footers p))))
 
   abbrev src : ℕ → ℕ → ℕ
   src z j = getD (counted p (named (g .un)) (G z)) j 0
@@ -145,7 +160,9 @@ module _ (p : Params) (r : Ranged p) (g : Ghost) (v : View) (k : OnDrives p r g 
       sealed? z b s l (inl (q, w)) = absurd (let x : ⊥ = omega (arith, b, q, w) in x)
       sealed? z b s l (inr (h, q, inl (f, w))) = absurd (let x : ⊥ = omega (arith, b, q, w, few z) in x)
       sealed? z b s l (inr (h, q, inr (f, w))) =
-          let a : (j : ℕ) × (j < length (counted p (named (g .un)) (G z))) × (src z j ≡ s) = has-getD (counted p (named (g .un)) (G z)) s 0 (sealed-counts p r g v k (g .un) c z s (low z h) (sym (segment-fields p r g v k (g .un) c z .3) ∙ f) l) in
+          let a : (j : ℕ) × (j < length (counted p (named (g .un)) (G z))) × (src z j ≡ s) =
+          has-getD (counted p (named (g .un)) (G z)) s 0
+          (sealed-counts p r g v k (g .un) c z s (low z h) (sym (segment-fields p r g v k (g .un) c z .3) ∙ f) l) in
           (a .0, omega (arith, a .1, q), a .2)
 
       room? : (z : ℕ) → Cases z → suc (planCount z + planFeet z) ≤ capacity p
@@ -194,7 +211,10 @@ module _ (p : Params) (r : Ranged p) (g : Ghost) (v : View) (k : OnDrives p r g 
     pub column-is : column (parOf p r) g (itemsIn p v) plan z (planFeet z) ≡ zoneItems p r g v k (g .un) (inr refl) z
     column-is =
         feet-are (planFeet z)
-        ∙ ap₂ (λ (x y : List Item). x ++ y) (ap (chunks (parOf p r) g (itemsIn p v) plan z) (count-here z i) ∙ chunks-are (length cs) ∙ ap (λ (x : List Item). hdr (g .hd .ser z) (g .hd .cop z) ∷ x) (map-index (λ s. chunk s (pieceAt p r g v k (g .un) (inr refl) z s (g .un))) cs))
+        ∙ ap₂ (λ (x y : List Item). x ++ y) (ap (chunks (parOf p r) g (itemsIn p v) plan z) (count-here z i)
+        ∙ chunks-are (length cs)
+        ∙ ap (λ (x : List Item). hdr (g .hd .ser z) (g .hd .cop z) ∷ x)
+        (map-index (λ s. chunk s (pieceAt p r g v k (g .un) (inr refl) z s (g .un))) cs))
         (ap (λ (n : ℕ). map foot (below n)) (feet-here z i) ∙ feet-cond (G z .full))
         ∙ (unfold zoneItems in refl)
       where

@@ -55,7 +55,8 @@ puts-drive x d z (i ∷ l) e y n = puts-drive (after x d z i) d z l e y n ∙ dr
 flat-drive : (f : ℕ → List Item) (d : ℕ) (l : List ℕ) (x : m-View) (e y : ℕ) → e ≢ d → applyAll x (flat (λ z. puts d z (f z)) l) e y ≡ x e y
 unfolding flat applyAll
 flat-drive f d [] x e y n = refl
-flat-drive f d (z ∷ l) x e y n = ap (λ (u : m-View). u e y) (applyAll-append x (puts d z (f z)) (flat (λ z. puts d z (f z)) l)) ∙ flat-drive f d l (applyAll x (puts d z (f z))) e y n ∙ puts-drive x d z (f z) e y n
+flat-drive f d (z ∷ l) x e y n =
+    ap (λ (u : m-View). u e y) (applyAll-append x (puts d z (f z)) (flat (λ z. puts d z (f z)) l)) ∙ flat-drive f d l (applyAll x (puts d z (f z))) e y n ∙ puts-drive x d z (f z) e y n
 
 flat-none : (f : ℕ → List Item) (d : ℕ) (l : List ℕ) (x : m-View) (y : ℕ) → (Has y l → ⊥) → applyAll x (flat (λ z. puts d z (f z)) l) d y ≡ x d y
 unfolding flat applyAll
@@ -160,11 +161,17 @@ module _ (p : Params) (r : Ranged p) (v : View) (g : Ghost) (a : List Val) (s : 
   unfolding flat
   zones-follow [] q h w sh e = follows-nil p w
   zones-follow (z ∷ l) q h w sh e =
-      let f : Follows p w (rebuiltZone p d (segmentOf p v (named d) z)) (puts d z (zoneItems p r (withUn g d) v kD d (inr refl) z)) = zone-follows p r (withUn g d) v kD d (inr refl) dl z (h z (inl refl)) w sh (e z (inl refl)) in
-      let sh′ : Shape p (storeAll storeView (rebuiltZone p d (segmentOf p v (named d) z)) w) = shape-after p r w (rebuiltZone p d (segmentOf p v (named d) z)) (puts d z (zoneItems p r (withUn g d) v kD d (inr refl) z)) sh f in
-      follows-append p w (rebuiltZone p d (segmentOf p v (named d) z)) (flat (λ z. rebuiltZone p d (segmentOf p v (named d) z)) l) (puts d z (zoneItems p r (withUn g d) v kD d (inr refl) z)) (flat (λ z. puts d z (zoneItems p r (withUn g d) v kD d (inr refl) z)) l) f
+      let f : Follows p w (rebuiltZone p d (segmentOf p v (named d) z)) (puts d z (zoneItems p r (withUn g d) v kD d (inr refl) z)) =
+      zone-follows p r (withUn g d) v kD d (inr refl) dl z (h z (inl refl)) w sh (e z (inl refl)) in
+      let sh′ : Shape p (storeAll storeView (rebuiltZone p d (segmentOf p v (named d) z)) w) =
+      shape-after p r w (rebuiltZone p d (segmentOf p v (named d) z)) (puts d z (zoneItems p r (withUn g d) v kD d (inr refl) z)) sh f in
+      follows-append p w (rebuiltZone p d (segmentOf p v (named d) z)) (flat (λ z. rebuiltZone p d (segmentOf p v (named d) z)) l)
+      (puts d z (zoneItems p r (withUn g d) v kD d (inr refl) z)) (flat (λ z. puts d z (zoneItems p r (withUn g d) v kD d (inr refl) z)) l) f
       (zones-follow l (q .1) (λ y i. h y (inr i)) (storeAll storeView (rebuiltZone p d (segmentOf p v (named d) z)) w) sh′ (λ y i.
-      pointer-zone (storeAll storeView (rebuiltZone p d (segmentOf p v (named d) z)) w) w d y (on-other p r d z (rebuiltZone p d (segmentOf p v (named d) z)) w sh (f .sound) (zone-on p r (withUn g d) v kD d (inr refl) dl z (h z (inl refl))) dl d y (inr (λ x. let j : ⊥ = omega (arith, x, q .0 y i) in j))) ∙ e y (inr i)))
+      pointer-zone (storeAll storeView (rebuiltZone p d (segmentOf p v (named d) z)) w) w d y
+      (on-other p r d z (rebuiltZone p d (segmentOf p v (named d) z)) w sh (f .sound)
+      (zone-on p r (withUn g d) v kD d (inr refl) dl z (h z (inl refl))) dl d y (inr (λ x. let j : ⊥ = omega (arith, x, q .0 y i) in j)))
+      ∙ e y (inr i)))
 
   abbrev ms : List m-Store
   ms = map (λ z. m-reset d z) (below (p .Z)) ++ flat (λ z. puts d z (zoneItems p r (withUn g d) v kD d (inr refl) z)) (remaining p v (named d))
@@ -175,7 +182,9 @@ module _ (p : Params) (r : Ranged p) (v : View) (g : Ghost) (a : List Val) (s : 
   pub rebuild-follows : Follows p v ss ms
   unfolding rebuildStores segments
   rebuild-follows = subst (λ (x : List Store). Follows p v (map (λ z. reset d z) (below (p .Z)) ++ x) ms) (sym (flat-map (rebuiltZone p d) (segmentOf p v (named d)) (remaining p v (named d))))
-      (follows-append p v (map (λ z. reset d z) (below (p .Z))) (flat (λ z. rebuiltZone p d (segmentOf p v (named d) z)) (remaining p v (named d))) (map (λ z. m-reset d z) (below (p .Z))) (flat (λ z. puts d z (zoneItems p r (withUn g d) v kD d (inr refl) z)) (remaining p v (named d))) first
+      (follows-append p v (map (λ z. reset d z) (below (p .Z))) (flat (λ z. rebuiltZone p d (segmentOf p v (named d) z)) (remaining p v (named d)))
+      (map (λ z. m-reset d z) (below (p .Z))) (flat (λ z. puts d z (zoneItems p r (withUn g d) v kD d (inr refl) z)) (remaining p v (named d)))
+      first
       (zones-follow (remaining p v (named d)) (remaining-rising p v (named d)) (λ z i. i) v₁ shape₁ (λ z i. zero₁ z (seg-low p r (withUn g d) v kD d (inr refl) z i))))
 
   -- ---- the other drives are untouched
@@ -187,7 +196,8 @@ module _ (p : Params) (r : Ranged p) (v : View) (g : Ghost) (a : List Val) (s : 
   on-drive x i = ⊎-elim
       (λ (q : Has x (map (λ z. reset d z) (below (p .Z)))). let z : (z : ℕ) × Has z (below (p .Z)) × (x ≡ reset d z) = map-has (λ z. reset d z) x (below (p .Z)) q in inl (z .0, z .2))
       (λ (q : Has x (flat (rebuiltZone p d) (map (segmentOf p v (named d)) (remaining p v (named d))))).
-      let y : (y : Segment) × Has y (map (segmentOf p v (named d)) (remaining p v (named d))) × Has x (rebuiltZone p d y) = flat-has (rebuiltZone p d) x (map (segmentOf p v (named d)) (remaining p v (named d))) q in
+      let y : (y : Segment) × Has y (map (segmentOf p v (named d)) (remaining p v (named d))) × Has x (rebuiltZone p d y) =
+      flat-has (rebuiltZone p d) x (map (segmentOf p v (named d)) (remaining p v (named d))) q in
       let z : (z : ℕ) × Has z (remaining p v (named d)) × (y .0 ≡ segmentOf p v (named d) z) = map-has (segmentOf p v (named d)) (y .0) (remaining p v (named d)) (y .1) in
       let w : (b : List ℕ) × (t : List ℕ) × (x ≡ put d (z .0) b t) = zone-on p r (withUn g d) v kD d (inr refl) dl (z .0) (z .1) x (subst (λ (k : Segment). Has x (rebuiltZone p d k)) (z .2) (y .2)) in
       inr (z .0, w .0, w .1, w .2)) (append-has x (map (λ z. reset d z) (below (p .Z))) (flat (rebuiltZone p d) (map (segmentOf p v (named d)) (remaining p v (named d)))) i)
@@ -226,7 +236,10 @@ module _ (p : Params) (r : Ranged p) (v : View) (g : Ghost) (a : List Val) (s : 
   shape-u = shape-after p r v ss ms (lk .shape) rebuild-follows
 
   items-u : itemsIn p u ≡ applyAll (applyAll (itemsIn p v) (map (λ z. m-reset d z) (below (p .Z)))) (flat (λ z. puts d z (zoneItems p r (withUn g d) v kD d (inr refl) z)) (remaining p v (named d)))
-  items-u = follows-all p r v ss ms (lk .shape) rebuild-follows ∙ applyAll-append (itemsIn p v) (map (λ z. m-reset d z) (below (p .Z))) (flat (λ z. puts d z (zoneItems p r (withUn g d) v kD d (inr refl) z)) (remaining p v (named d)))
+  items-u =
+      follows-all p r v ss ms (lk .shape) rebuild-follows
+      ∙ applyAll-append (itemsIn p v) (map (λ z. m-reset d z) (below (p .Z)))
+      (flat (λ z. puts d z (zoneItems p r (withUn g d) v kD d (inr refl) z)) (remaining p v (named d)))
 
   emptied : (z : ℕ) → z < p .Z → applyAll (itemsIn p v) (map (λ z. m-reset d z) (below (p .Z))) d z ≡ []
   emptied z b = ap (λ (x : m-View). x d z) (sym (follows-all p r v (map (λ z. reset d z) (below (p .Z))) (map (λ z. m-reset d z) (below (p .Z))) (lk .shape) first))
@@ -235,7 +248,10 @@ module _ (p : Params) (r : Ranged p) (v : View) (g : Ghost) (a : List Val) (s : 
       none-stored : (q : Zone) → q .pointer ≡ 0 → itemsOf p q ≡ []
       none-stored q e = unfold itemsOf stored in (ap (λ (n : ℕ). itemsFrom p 0 (take n (q .blocks))) e ∙ (unfold itemsFrom in refl))
 
-  full-u : (z : ℕ) → R (parOf p r) (g .hd) (itemsIn p v) d z → itemsIn p u d z ≡ column (parOf p r) (withUn g d) (itemsIn p v) (plan p r (withUn g d) v kD dl) z (plan p r (withUn g d) v kD dl .foots z)
+  full-u :
+      (z : ℕ)
+      → R (parOf p r) (g .hd) (itemsIn p v) d z
+      → itemsIn p u d z ≡ column (parOf p r) (withUn g d) (itemsIn p v) (plan p r (withUn g d) v kD dl) z (plan p r (withUn g d) v kD dl .foots z)
   full-u z rr =
       let i : Has z (remaining p v (named d)) = has-remaining p r (withUn g d) v kD d (inr refl) z rr in
       ap (λ (x : m-View). x d z) items-u
@@ -249,7 +265,9 @@ module _ (p : Params) (r : Ranged p) (v : View) (g : Ghost) (a : List Val) (s : 
       go : Dec (z < p .Z) → itemsIn p u d z ≡ []
       go (no b) = outside-nothing p u shape-u d z (λ x y. b y)
       go (yes b) = ap (λ (x : m-View). x d z) items-u
-          ∙ flat-none (zoneItems p r (withUn g d) v kD d (inr refl)) d (remaining p v (named d)) (applyAll (itemsIn p v) (map (λ z. m-reset d z) (below (p .Z)))) z (λ i. n (seg-R p r (withUn g d) v kD d (inr refl) z i)) ∙ emptied z b
+          ∙ flat-none (zoneItems p r (withUn g d) v kD d (inr refl)) d (remaining p v (named d))
+          (applyAll (itemsIn p v) (map (λ z. m-reset d z) (below (p .Z)))) z (λ i. n (seg-R p r (withUn g d) v kD d (inr refl) z i))
+          ∙ emptied z b
 
   same-u : (e y : ℕ) → e < p .N → e ≢ d → itemsIn p v e y ≡ itemsIn p u e y
   same-u e y l n = items-in p v e y ∙ ap (itemsOf p) (sym (stores-other ss v (lk .shape) (rebuild-follows .sound) on-drive e y n)) ∙ sym (items-in p u e y)
@@ -274,7 +292,10 @@ module _ (p : Params) (r : Ranged p) (v : View) (g : Ghost) (a : List Val) (s : 
               reveal : AllSound p v ss → AllSound p v (map (λ z. reset d z) (below (p .Z)) ++ flat (rebuiltZone p d) (segments p v (named d)))
               reveal q = unfold rebuildStores in q
 
-              tail-sound : (l : List Store) (w : View) → AllSound p w (l ++ flat (rebuiltZone p d) (segments p v (named d))) → AllSound p (storeAll storeView l w) (flat (rebuiltZone p d) (segments p v (named d)))
+              tail-sound :
+                  (l : List Store) (w : View)
+                  → AllSound p w (l ++ flat (rebuiltZone p d) (segments p v (named d)))
+                  → AllSound p (storeAll storeView l w) (flat (rebuiltZone p d) (segments p v (named d)))
               tail-sound l w f = sound-drop p w l (flat (rebuiltZone p d) (segments p v (named d))) f
 
           drive : BytesOn p u d
@@ -284,4 +305,6 @@ module _ (p : Params) (r : Ranged p) (v : View) (g : Ghost) (a : List Val) (s : 
               split = unfold rebuildStores in storeAll-append storeView (map (λ z. reset d z) (below (p .Z))) (flat (rebuiltZone p d) (segments p v (named d))) v
 
   pub rebuild-end : Linked p r u (withUn (withUn g d) (p .N)) a s ro
-  rebuild-end = linked-step p r v u (withUn g d) (withUn (withUn g d) (p .N)) a a s s ro ro (itemsIn p u) started (rebuild-done (stateOn p v (withUn g d) a s ro) (itemsIn p u) (p .N) (omega arith) dl rebuilt?) refl shape-u bytes-u
+  rebuild-end =
+      linked-step p r v u (withUn g d) (withUn (withUn g d) (p .N)) a a s s ro ro (itemsIn p u) started
+      (rebuild-done (stateOn p v (withUn g d) a s ro) (itemsIn p u) (p .N) (omega arith) dl rebuilt?) refl shape-u bytes-u

@@ -60,13 +60,22 @@ module _ (p : Params) (r : Ranged p) (g : Ghost) (v : View) (k : OnDrives p r g 
     at : ℕ → ℕ
     at o = recordOf (blockIn (zoneAt v d z) (suc o) .spare) .stripe
 
-    off : (o : ℕ) → o < dataStored p (zoneAt v d z) → Off (itemsIn p v d z) (suc o) (chunk (recordOf (blockIn (zoneAt v d z) (suc o) .spare) .stripe) (valueOf (blockIn (zoneAt v d z) (suc o) .block) (recordOf (blockIn (zoneAt v d z) (suc o) .spare))))
+    off :
+        (o : ℕ)
+        → o < dataStored p (zoneAt v d z)
+        → Off (itemsIn p v d z) (suc o) (chunk (recordOf (blockIn (zoneAt v d z) (suc o) .spare) .stripe)
+        (valueOf (blockIn (zoneAt v d z) (suc o) .block) (recordOf (blockIn (zoneAt v d z) (suc o) .spare))))
     off o w =
         let j : (o < p .S) × (suc o < zoneAt v d z .pointer) = stored-below p (zoneAt v d z) o w in
-        subst (λ (y : List Item). Off y (suc o) (chunk (recordOf (blockIn (zoneAt v d z) (suc o) .spare) .stripe) (valueOf (blockIn (zoneAt v d z) (suc o) .block) (recordOf (blockIn (zoneAt v d z) (suc o) .spare)))))
+        subst (λ (y : List Item). Off y (suc o) (chunk (recordOf (blockIn (zoneAt v d z) (suc o) .spare) .stripe)
+        (valueOf (blockIn (zoneAt v d z) (suc o) .block) (recordOf (blockIn (zoneAt v d z) (suc o) .spare)))))
         (sym (items-in p v d z)) (unfold chunkItem in chunk-of p (zoneAt v d z) (zone-low p r g v k d z l (trusted p r g v k m c d l n) zb) o (j .0) (j .1))
 
-    fact : (o : ℕ) → o < dataStored p (zoneAt v d z) → (recordOf (blockIn (zoneAt v d z) (suc o) .spare) .stripe < p .S) × (o < p .S) × (group p (recordOf (blockIn (zoneAt v d z) (suc o) .spare) .stripe) ≡ group p o)
+    fact :
+        (o : ℕ)
+        → o < dataStored p (zoneAt v d z)
+        → (recordOf (blockIn (zoneAt v d z) (suc o) .spare) .stripe < p .S) × (o < p .S) ×
+        (group p (recordOf (blockIn (zoneAt v d z) (suc o) .spare) .stripe) ≡ group p o)
     fact o w = zone-facts p r g v k d z l (trusted p r g v k m c d l n) .num o (recordOf (blockIn (zoneAt v d z) (suc o) .spare) .stripe)
         (valueOf (blockIn (zoneAt v d z) (suc o) .block) (recordOf (blockIn (zoneAt v d z) (suc o) .spare))) (off o w)
 
@@ -74,7 +83,8 @@ module _ (p : Params) (r : Ranged p) (g : Ghost) (v : View) (k : OnDrives p r g 
         → recordOf (blockIn (zoneAt v d z) (suc i) .spare) .stripe ≡ recordOf (blockIn (zoneAt v d z) (suc j) .spare) .stripe → i ≡ j
     one i j a b e =
         let w : suc i ≡ suc j = zone-facts p r g v k d z l (trusted p r g v k m c d l n) .once (suc i) (suc j) (recordOf (blockIn (zoneAt v d z) (suc j) .spare) .stripe)
-        (valueOf (blockIn (zoneAt v d z) (suc i) .block) (recordOf (blockIn (zoneAt v d z) (suc i) .spare))) (valueOf (blockIn (zoneAt v d z) (suc j) .block) (recordOf (blockIn (zoneAt v d z) (suc j) .spare)))
+        (valueOf (blockIn (zoneAt v d z) (suc i) .block) (recordOf (blockIn (zoneAt v d z) (suc i) .spare)))
+        (valueOf (blockIn (zoneAt v d z) (suc j) .block) (recordOf (blockIn (zoneAt v d z) (suc j) .spare)))
         (subst (λ (s : ℕ). Off (itemsIn p v d z) (suc i) (chunk s (valueOf (blockIn (zoneAt v d z) (suc i) .block) (recordOf (blockIn (zoneAt v d z) (suc i) .spare))))) e (off i a)) (off j b) in
         omega (arith, w)
 
@@ -87,19 +97,31 @@ module _ (p : Params) (r : Ranged p) (g : Ghost) (v : View) (k : OnDrives p r g 
         let far : q * p .G + p .G ≤ offsetOn (G z) d s = below-group q (offsetOn (G z) d s) (omega (arith, e, gs)) in
         let inside : (i : ℕ) → i < p .G → q * p .G + i < dataStored p (zoneAt v d z) = λ i b. omega (arith, far, w .0, b) in
         let f : ℕ → ℕ = λ i. recordOf (blockIn (zoneAt v d z) (suc (q * p .G + i)) .spare) .stripe - q * p .G in
-        let here : (i : ℕ) → i < p .G → (q * p .G ≤ recordOf (blockIn (zoneAt v d z) (suc (q * p .G + i)) .spare) .stripe) × (recordOf (blockIn (zoneAt v d z) (suc (q * p .G + i)) .spare) .stripe < q * p .G + p .G) = λ i b. in-group? q (q * p .G + i) i b refl (inside i b) in
+        let here :
+        (i : ℕ)
+        → i < p .G
+        → (q * p .G ≤ recordOf (blockIn (zoneAt v d z) (suc (q * p .G + i)) .spare) .stripe) ×
+        (recordOf (blockIn (zoneAt v d z) (suc (q * p .G + i)) .spare) .stripe < q * p .G + p .G) =
+        λ i b. in-group? q (q * p .G + i) i b refl (inside i b) in
         let a : (i : ℕ) × (i < p .G) × (f i ≡ t % p .G) = onto (p .G) f (λ i b. omega (arith, here i b .0, here i b .1))
-        (λ i j x y e. let z : q * p .G + i ≡ q * p .G + j = one (q * p .G + i) (q * p .G + j) (inside i x) (inside j y) (omega (arith, e, here i x .0, here j y .0)) in omega (arith, z)) (t % p .G) (split t .1) in
+        (λ i j x y e. let z : q * p .G + i
+        ≡ q * p .G + j = one (q * p .G + i) (q * p .G + j) (inside i x) (inside j y) (omega (arith, e, here i x .0, here j y .0)) in omega
+        (arith, z)) (t % p .G) (split t .1) in
         let u : recordOf (blockIn (zoneAt v d z) (suc (q * p .G + a .0)) .spare) .stripe ≡ t = omega (arith, a .2, here (a .0) (a .1) .0, split t .0) in
         in-has-chunk p r g v k m c z t d (valueOf (blockIn (zoneAt v d z) (suc (q * p .G + a .0)) .block) (recordOf (blockIn (zoneAt v d z) (suc (q * p .G + a .0)) .spare))) zb l n
         (subst (λ (s : ℕ). In (chunk s (valueOf (blockIn (zoneAt v d z) (suc (q * p .G + a .0)) .block) (recordOf (blockIn (zoneAt v d z) (suc (q * p .G + a .0)) .spare)))) (itemsIn p v d z)) u
-        (off-in (itemsIn p v d z) (suc (q * p .G + a .0)) (chunk (recordOf (blockIn (zoneAt v d z) (suc (q * p .G + a .0)) .spare) .stripe) (valueOf (blockIn (zoneAt v d z) (suc (q * p .G + a .0)) .block) (recordOf (blockIn (zoneAt v d z) (suc (q * p .G + a .0)) .spare)))) (off (q * p .G + a .0) (inside (a .0) (a .1)))))
+        (off-in (itemsIn p v d z) (suc (q * p .G + a .0))
+        (chunk (recordOf (blockIn (zoneAt v d z) (suc (q * p .G + a .0)) .spare) .stripe)
+        (valueOf (blockIn (zoneAt v d z) (suc (q * p .G + a .0)) .block) (recordOf (blockIn (zoneAt v d z) (suc (q * p .G + a .0)) .spare))))
+        (off (q * p .G + a .0) (inside (a .0) (a .1)))))
       where
         in-group? : (q o i : ℕ) → i < p .G → o ≡ q * p .G + i → o < dataStored p (zoneAt v d z)
             → (q * p .G ≤ recordOf (blockIn (zoneAt v d z) (suc o) .spare) .stripe) × (recordOf (blockIn (zoneAt v d z) (suc o) .spare) .stripe < q * p .G + p .G)
         in-group? q o i b e w =
             let x : group p (recordOf (blockIn (zoneAt v d z) (suc o) .spare) .stripe) ≡ q = fact o w .2 ∙ ap (group p) e ∙ group-at q i b in
-            let y : (group p (recordOf (blockIn (zoneAt v d z) (suc o) .spare) .stripe) * p .G + recordOf (blockIn (zoneAt v d z) (suc o) .spare) .stripe % p .G ≡ recordOf (blockIn (zoneAt v d z) (suc o) .spare) .stripe)
+            let y : (group p (recordOf (blockIn (zoneAt v d z) (suc o) .spare) .stripe) * p .G + recordOf
+            (blockIn (zoneAt v d z) (suc o) .spare) .stripe % p .G
+            ≡ recordOf (blockIn (zoneAt v d z) (suc o) .spare) .stripe)
             × (recordOf (blockIn (zoneAt v d z) (suc o) .spare) .stripe % p .G < p .G) = split (recordOf (blockIn (zoneAt v d z) (suc o) .spare) .stripe) in
             let u : group p (recordOf (blockIn (zoneAt v d z) (suc o) .spare) .stripe) * p .G ≡ q * p .G = ap (λ (n : ℕ). n * p .G) x in
             (omega (arith, y .0, u), omega (arith, y .0, y .1, u))
@@ -114,7 +136,11 @@ module _ (p : Params) (r : Ranged p) (g : Ghost) (v : View) (k : OnDrives p r g 
   pub earlier-counts : (z s t : ℕ) → z < p .Z → Has s (counted p (named m) (G z)) → t < p .S → group p t < group p s → Has t (counted p (named m) (G z))
   earlier-counts z s t zb h tl e = has-counted p r g v k m c z t tl (λ d l n. earlier z d zb l n s t (counted-has p r g v k m c z s h .1 d l n) tl e)
 
-  pub counted-group : (z j : ℕ) → z < p .Z → j < length (counted p (named m) (G z)) → (getD (counted p (named m) (G z)) j 0 < p .S) × (j < p .S) × (group p (getD (counted p (named m) (G z)) j 0) ≡ group p j)
+  pub counted-group :
+      (z j : ℕ)
+      → z < p .Z
+      → j < length (counted p (named m) (G z))
+      → (getD (counted p (named m) (G z)) j 0 < p .S) × (j < p .S) × (group p (getD (counted p (named m) (G z)) j 0) ≡ group p j)
   counted-group z j zb jl =
       let s : ℕ = getD (cs z) j 0 in
       let h : Has s (cs z) = getD-has (cs z) j 0 jl in

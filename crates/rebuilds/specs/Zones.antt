@@ -60,7 +60,17 @@ puts-list d z f j (suc n) = ap (λ (l : List m-Store). m-put d z (f j) ∷ l) (p
 abbrev pub AllOn : ℕ → ℕ → List Store → Type 0
 AllOn d z ss = (s : Store) → Has s ss → (b : List ℕ) × (t : List ℕ) × (s ≡ put d z b t)
 
-pub on-other : (p : Params) → Ranged p → (d z : ℕ) (ss : List Store) (v : View) → Shape p v → AllSound p v ss → AllOn d z ss → d < p .N → (e y : ℕ) → (e ≢ d) ⊎ (y ≢ z) → zoneAt (storeAll storeView ss v) e y ≡ zoneAt v e y
+pub on-other :
+    (p : Params)
+    → Ranged p
+    → (d z : ℕ) (ss : List Store) (v : View)
+    → Shape p v
+    → AllSound p v ss
+    → AllOn d z ss
+    → d < p .N
+    → (e y : ℕ)
+    → (e ≢ d) ⊎ (y ≢ z)
+    → zoneAt (storeAll storeView ss v) e y ≡ zoneAt v e y
 unfolding storeAll
 on-other p r d z [] v h f a l e y n = refl
 on-other p r d z (s ∷ ss) v h f a l e y n =
@@ -73,7 +83,8 @@ on-other p r d z (s ∷ ss) v h f a l e y n =
 -- what zone z gets
 unfoldable pub zoneItems : (p : Params) (r : Ranged p) (g : Ghost) (v : View) (k : OnDrives p r g v) (d : ℕ) (c : Choice (parOf p r) (g .un) d) → ℕ → List Item
 zoneItems p r g v k d c z =
-    hdr (g .hd .ser z) (g .hd .cop z) ∷ (map (λ s. chunk s (pieceAt p r g v k d c z s d)) (counted p (named d) (segmentOf p v (named d) z)) ++ cond (segmentOf p v (named d) z .full) (map foot (below (footers p))) [])
+    hdr (g .hd .ser z) (g .hd .cop z) ∷ (map (λ s. chunk s (pieceAt p r g v k d c z s d)) (counted p (named d) (segmentOf p v (named d) z)) ++ cond
+    (segmentOf p v (named d) z .full) (map foot (below (footers p))) [])
 
 module _ (p : Params) (r : Ranged p) (g : Ghost) (v : View) (k : OnDrives p r g v) (d : ℕ) (c : Choice (parOf p r) (g .un) d) (dl : d < p .N) (z : ℕ) (i : Has z (remaining p v (named d))) where
   abbrev G : Segment
@@ -103,14 +114,16 @@ module _ (p : Params) (r : Ranged p) (g : Ghost) (v : View) (k : OnDrives p r g 
           (λ e m. stored-long p r g v k d c z s e zb (present-has p r d e m .0) (present-has p r d e m .1) (here? s e h (present-has p r d e m .0) (present-has p r d e m .1)))))
 
   pub piece-fits : (s : ℕ) → Has s (counted p (named d) G) → Wide (piece s .rec)
-  piece-fits s h = subst (λ (q : Piece). Wide (q .rec)) (sym (lost s)) (parity-wide p s (map (storedPiece G s) (present p (named d))) (omega (arith, counted-has p r g v k d c z s h .0, r .stripes-high)) (λ q m.
+  piece-fits s h =
+      subst (λ (q : Piece). Wide (q .rec)) (sym (lost s)) (parity-wide p s (map (storedPiece G s) (present p (named d))) (omega (arith, counted-has p r g v k d c z s h .0, r .stripes-high)) (λ q m.
       let e : (e : ℕ) × Has e (present p (named d)) × (q ≡ storedPiece G s e) = map-has (storedPiece G s) q (present p (named d)) m in
       let l : (e .0 < p .N) × (e .0 ≢ d) = present-has p r d (e .0) (e .1) in
       subst (λ (x : Piece). Wide (x .rec)) (sym (e .2)) (wide-at (e .0) (l .0) (l .1))))
     where
       wide-at : (e : ℕ) → e < p .N → e ≢ d → Wide (storedPiece G s e .rec)
       wide-at e l n =
-          let a : (offsetOn G e s < dataStored p (zoneAt v e z)) × (recordOf (blockIn (zoneAt v e z) (suc (offsetOn G e s)) .spare) .stripe ≡ s) = offset-on p r g v k d c z s e zb l n (here? s e h l n) in
+          let a : (offsetOn G e s < dataStored p (zoneAt v e z)) × (recordOf (blockIn (zoneAt v e z) (suc (offsetOn G e s)) .spare) .stripe ≡ s) =
+          offset-on p r g v k d c z s e zb l n (here? s e h l n) in
           let b : (offsetOn G e s < p .S) × (suc (offsetOn G e s) < zoneAt v e z .pointer) = stored-below p (zoneAt v e z) (offsetOn G e s) (a .0) in
           subst (λ (q : Piece). Wide (q .rec)) (sym (stored-piece p r g v k d c z s e zb l n (here? s e h l n)))
           (zone-bytes p r g v k e z l (trusted p r g v k d c e l n) zb .wide (offsetOn G e s) (b .0) (b .1))
@@ -156,10 +169,12 @@ module _ (p : Params) (r : Ranged p) (g : Ghost) (v : View) (k : OnDrives p r g 
       go : (o : ℕ) → o < suc j → Dec (o ≡ j) → blockIn (putZone (piece s .block) (recordBytes (piece s .rec)) (zoneAt w d z)) (suc o) .spare ≡ recordBytes (piece (getD cs o 0) .rec)
       go o ol (yes q) =
           ap (λ (x : ℕ). blockIn (putZone (piece s .block) (recordBytes (piece s .rec)) (zoneAt w d z)) x .spare) (ap suc q ∙ sym (pointer-is w d z ∙ a .at))
-          ∙ ap (λ (x : Chunk). x .spare) (new-block p r d z (zoneAt w d z) (shape-zone p w (a .shape) d z dl zb) (piece s .block) (recordBytes (piece s .rec)) (omega (arith, pointer-is w d z ∙ a .at, jl, capacity-few p r)))
+          ∙ ap (λ (x : Chunk). x .spare) (new-block p r d z (zoneAt w d z) (shape-zone p w (a .shape) d z dl zb) (piece s .block)
+          (recordBytes (piece s .rec)) (omega (arith, pointer-is w d z ∙ a .at, jl, capacity-few p r)))
           ∙ ap (λ (x : ℕ). recordBytes (piece x .rec)) (e ∙ ap (λ (x : ℕ). getD cs x 0) (sym q))
       go o ol (no q) =
-          ap (λ (x : Chunk). x .spare) (old-block p r d z (zoneAt w d z) (shape-zone p w (a .shape) d z dl zb) (piece s .block) (recordBytes (piece s .rec)) (suc o) (omega (arith, pointer-is w d z ∙ a .at, q, ol)))
+          ap (λ (x : Chunk). x .spare) (old-block p r d z (zoneAt w d z) (shape-zone p w (a .shape) d z dl zb) (piece s .block)
+          (recordBytes (piece s .rec)) (suc o) (omega (arith, pointer-is w d z ∙ a .at, q, ol)))
           ∙ a .spares o (omega arith)
 
   few-cs : length (counted p (named d) G) ≤ p .S
@@ -174,8 +189,10 @@ module _ (p : Params) (r : Ranged p) (g : Ghost) (v : View) (k : OnDrives p r g 
       let jl : j < length cs = omega (arith, e) in
       let one : Sound p w (putPiece d z (piece s)) × (storeItem p w (putPiece d z (piece s)) ≡ m-put d z (chunkIt s)) × Rows (suc j) (storeView (putPiece d z (piece s)) w) =
       row-step s j w (subst (λ (x : ℕ). Has x cs) (sym q) (getD-has cs j 0 jl)) (omega (arith, jl, few-cs)) q a in
-      let more : Follows p (storeView (putPiece d z (piece s)) w) (map (putPiece d z) (map piece ss)) (puts d z (map chunkIt ss)) × Rows (length cs) (storeAll storeView (map (putPiece d z) (map piece ss)) (storeView (putPiece d z (piece s)) w)) =
-      chunks-follow ss (suc j) (λ t l. h (suc t) (omega arith) ∙ ap (λ (x : ℕ). getD cs x 0) (let q : j + suc t ≡ suc j + t = omega arith in q)) (omega (arith, e)) (storeView (putPiece d z (piece s)) w) (one .2) in
+      let more : Follows p (storeView (putPiece d z (piece s)) w) (map (putPiece d z) (map piece ss)) (puts d z (map chunkIt ss))
+      × Rows (length cs) (storeAll storeView (map (putPiece d z) (map piece ss)) (storeView (putPiece d z (piece s)) w)) =
+      chunks-follow ss (suc j) (λ t l. h (suc t) (omega arith) ∙ ap (λ (x : ℕ). getD cs x 0) (let q : j + suc t ≡ suc j + t = omega arith in q))
+      (omega (arith, e)) (storeView (putPiece d z (piece s)) w) (one .2) in
       (record { sound = (one .0, more .0 .sound); items = ap₂ (λ (x : m-Store) (y : List m-Store). x ∷ y) (one .1) (more .0 .items) }, more .1)
 
   -- ---- header
@@ -191,7 +208,10 @@ module _ (p : Params) (r : Ranged p) (g : Ghost) (v : View) (k : OnDrives p r g 
       zone-bytes p r g v k (lowDrive p (named d)) z (e .0) t zb .serials (subst (λ (x : ℕ). 0 < x) (sym (pointer-is v (lowDrive p (named d)) z)) b) in
       reveal q
     where
-      reveal : (headerSerial (blockIn (zoneAt v (lowDrive p (named d)) z) 0 .block) < 256 ^ 8) × (headerCopied (blockIn (zoneAt v (lowDrive p (named d)) z) 0 .block) < 256 ^ 8) → (G .serial < 256 ^ 8) × (G .copied < 256 ^ 8)
+      reveal :
+          (headerSerial (blockIn (zoneAt v (lowDrive p (named d)) z) 0 .block) < 256 ^ 8) ×
+          (headerCopied (blockIn (zoneAt v (lowDrive p (named d)) z) 0 .block) < 256 ^ 8)
+          → (G .serial < 256 ^ 8) × (G .copied < 256 ^ 8)
       reveal q = unfold segmentOf headerAt chunkAt zoneOn in q
 
   header-step : (w : View) → Shape p w → pointerAt w d z ≡ 0
@@ -224,7 +244,14 @@ module _ (p : Params) (r : Ranged p) (g : Ghost) (v : View) (k : OnDrives p r g 
     pub spares : sparesIn p (zoneAt w d z) ≡ made
 
   feet-begin : length (counted p (named d) G) ≡ p .S → (w : View) → Rows (length (counted p (named d) G)) w → Feet 0 w
-  feet-begin e w a = record { shape = a .shape; at = a .at ∙ ap suc (e ∙ (let q : p .S ≡ p .S + 0 = omega arith in q)); spares = ext-getD [] (sparesIn p (zoneAt w d z)) made (length-sparesIn p r (zoneAt w d z) sz ∙ sym long) each }
+  feet-begin e w a =
+      record {
+        shape = a .shape;
+        at = a .at
+            ∙ ap suc (e ∙ (let q : p .S ≡ p .S + 0 = omega arith in q));
+        spares = ext-getD [] (sparesIn p (zoneAt w d z)) made
+            (length-sparesIn p r (zoneAt w d z) sz ∙ sym long) each;
+      }
     where
       sz : ZoneShape p (zoneAt w d z)
       sz = shape-zone p w (a .shape) d z dl zb
@@ -239,7 +266,9 @@ module _ (p : Params) (r : Ranged p) (g : Ghost) (v : View) (k : OnDrives p r g 
           ∙ sym (ap (λ (x : List (List ℕ)). getD x o []) (map-map (λ (q : Piece). recordBytes (q .rec)) piece cs) ∙ getD-map (λ s. recordBytes (piece s .rec)) cs o [] 0 (omega (arith, ol, e)))
 
   feet-step : (j : ℕ) (w : View) → j < footers p → Feet j w
-      → Sound p w (put d z (footerBlock p made j) zeroSpare) × (storeItem p w (put d z (footerBlock p made j) zeroSpare) ≡ m-put d z (foot j)) × Feet (suc j) (storeView (put d z (footerBlock p made j) zeroSpare) w)
+      → Sound p w (put d z (footerBlock p made j) zeroSpare)
+      × (storeItem p w (put d z (footerBlock p made j) zeroSpare) ≡ m-put d z (foot j))
+      × Feet (suc j) (storeView (put d z (footerBlock p made j) zeroSpare) w)
   feet-step j w l a =
       let so : Sound p w (put d z (footerBlock p made j) zeroSpare) = (dl, zb, kd) in (
         so,
@@ -278,14 +307,19 @@ module _ (p : Params) (r : Ranged p) (g : Ghost) (v : View) (k : OnDrives p r g 
 
   rebuilt-is : rebuiltZone p d G ≡ hs ∷ (map (putPiece d z) (map piece cs) ++ cond (G .full) fs [])
   unfolding rebuiltZone
-  rebuilt-is = ap (λ (x : ℕ). put d x (headerBlock p d x (G .serial) (G .copied)) zeroSpare ∷ (map (putPiece d x) (map piece cs) ++ cond (G .full) (map (λ j. put d x (footerBlock p made j) zeroSpare) (below (footers p))) [])) seg-z
+  rebuilt-is =
+      ap (λ (x : ℕ). put d x (headerBlock p d x (G .serial) (G .copied)) zeroSpare ∷
+      (map (putPiece d x) (map piece cs) ++ cond (G .full) (map (λ j. put d x (footerBlock p made j) zeroSpare) (below (footers p))) [])) seg-z
     where
       seg-z : zoneOn (G .seg) d ≡ z
       seg-z = unfold zoneOn in segment-fields p r g v k d c z .0
 
   pub zone-follows : (w : View) → Shape p w → pointerAt w d z ≡ 0 → Follows p w (rebuiltZone p d G) (puts d z (zoneItems p r g v k d c z))
-  zone-follows w h e = subst (λ (x : List Store). Follows p w x (puts d z (zoneItems p r g v k d c z))) (sym rebuilt-is) (subst (Follows p w (hs ∷ (map (putPiece d z) (map piece cs) ++ cond (G .full) fs []))) (sym items-are)
-      (follows-cons p w hs (map (putPiece d z) (map piece cs) ++ cond (G .full) fs []) (m-put d z hItem) (puts d z (map chunkIt cs) ++ puts d z (cond (G .full) (map foot (below (footers p))) [])) (a .0) (a .1)
+  zone-follows w h e =
+      subst (λ (x : List Store). Follows p w x (puts d z (zoneItems p r g v k d c z))) (sym rebuilt-is) (subst
+      (Follows p w (hs ∷ (map (putPiece d z) (map piece cs) ++ cond (G .full) fs []))) (sym items-are)
+      (follows-cons p w hs (map (putPiece d z) (map piece cs) ++ cond (G .full) fs []) (m-put d z hItem)
+      (puts d z (map chunkIt cs) ++ puts d z (cond (G .full) (map foot (below (footers p))) [])) (a .0) (a .1)
       (follows-append p (storeView hs w) (map (putPiece d z) (map piece cs)) (cond (G .full) fs []) (puts d z (map chunkIt cs)) (puts d z (cond (G .full) (map foot (below (footers p))) [])) (b .0)
       (feet-follow (G .full) refl (storeAll storeView (map (putPiece d z) (map piece cs)) (storeView hs w)) (b .1)))))
     where
@@ -303,12 +337,16 @@ module _ (p : Params) (r : Ranged p) (g : Ghost) (v : View) (k : OnDrives p r g 
   zone-on s m = go (subst (λ (x : List Store). Has s x) rebuilt-is m)
     where
       feet-on : (b : Bool) → Has s (cond b fs []) → (x : List ℕ) × (t : List ℕ) × (s ≡ put d z x t)
-      feet-on true q = let j : (j : ℕ) × Has j (below (footers p)) × (s ≡ put d z (footerBlock p made j) zeroSpare) = map-has (λ j. put d z (footerBlock p made j) zeroSpare) s (below (footers p)) q in (footerBlock p made (j .0), zeroSpare, j .2)
+      feet-on true q =
+          let j : (j : ℕ) × Has j (below (footers p)) × (s ≡ put d z (footerBlock p made j) zeroSpare) = map-has (λ j. put d z (footerBlock p made j) zeroSpare) s (below (footers p)) q in
+          (footerBlock p made (j .0), zeroSpare, j .2)
       feet-on false q = absurd q
 
       go : Has s (hs ∷ (map (putPiece d z) (map piece cs) ++ cond (G .full) fs [])) → (x : List ℕ) × (t : List ℕ) × (s ≡ put d z x t)
       go (inl e) = (headerBlock p d z (G .serial) (G .copied), zeroSpare, e)
-      go (inr q) = ⊎-elim (λ (y : Has s (map (putPiece d z) (map piece cs))). chunk-on y) (λ (y : Has s (cond (G .full) fs [])). feet-on (G .full) y) (append-has s (map (putPiece d z) (map piece cs)) (cond (G .full) fs []) q)
+      go (inr q) =
+          ⊎-elim (λ (y : Has s (map (putPiece d z) (map piece cs))). chunk-on y) (λ (y : Has s (cond (G .full) fs [])). feet-on (G .full) y)
+          (append-has s (map (putPiece d z) (map piece cs)) (cond (G .full) fs []) q)
         where
           chunk-on : Has s (map (putPiece d z) (map piece cs)) → (x : List ℕ) × (t : List ℕ) × (s ≡ put d z x t)
           chunk-on y = let q : (q : Piece) × Has q (map piece cs) × (s ≡ putPiece d z q) = map-has (putPiece d z) s (map piece cs) y in (q .0 .block, recordBytes (q .0 .rec), unfolded (q .0) (q .2))

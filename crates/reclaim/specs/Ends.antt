@@ -96,7 +96,9 @@ module _ (p : Params) (k : Disk) (m : Memory) (none! : refusal p k m ≡ none) w
         serial-left = λ q s. not-both (opens p st && eqb (st .serial .0) lastCount) (and-both (opens p st) (eqb (st .serial .0) lastCount) q (eq-eqb (st .serial .0) lastCount s)) s₆;
         waits = and-none live (mustWait p st) a (f₇ .0);
         empties = λ q. enough p v (and-none (live && opens p st) (scarce p v 1) (and-both live (opens p st) a q) (f₈ .0));
-        next-high = next-low p st (state-free p st (front (stateFaults p st) (tableFaults p (m .addresses)) (map (λ q. victimSegment w) (keep (λ q. not (between 1 (p .S) (placeBlock p q))) (victimLive w))) (f₉ .0)));
+        next-high =
+            next-low p st (state-free p st (front (stateFaults p st) (tableFaults p (m .addresses))
+            (map (λ q. victimSegment w) (keep (λ q. not (between 1 (p .S) (placeBlock p q))) (victimLive w))) (f₉ .0)));
       }
     where
       front : (a b c : List ℕ) → a ++ b ++ c ≡ [] → a ≡ []

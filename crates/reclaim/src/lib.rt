@@ -85,7 +85,11 @@ fn choose_copy(
     requires { ⌜ Whole p (mkDisk (now image) (now pointers)) ⌝ }
     requires { ⌜ length (now addresses) ≡ addressesLen p ⌝ }
     requires { ⌜ (Looked p (viewOf p (now image) (now pointers)) (now addresses) state seen) × (seen .segment < p .Z) × (0 < seen .live) ⌝ }
-    ensures { λ r. ⌜ Chose p (viewOf p (now (image .entry)) (now (pointers .entry))) state (victim p (viewOf p (now (image .entry)) (now (pointers .entry))) (now (addresses .entry))) (firstRefusal (laterChecks p (viewOf p (now (image .entry)) (now (pointers .entry))) state (now (addresses .entry)) (victim p (viewOf p (now (image .entry)) (now (pointers .entry))) (now (addresses .entry))))) r ⌝ }
+    ensures { λ r. ⌜
+        Chose p (viewOf p (now (image .entry)) (now (pointers .entry))) state
+        (victim p (viewOf p (now (image .entry)) (now (pointers .entry))) (now (addresses .entry)))
+        (firstRefusal (laterChecks p (viewOf p (now (image .entry)) (now (pointers .entry))) state (now (addresses .entry))
+        (victim p (viewOf p (now (image .entry)) (now (pointers .entry))) (now (addresses .entry))))) r ⌝ }
 {
     let none = Place::NEVER;
     let first = seen.first;
@@ -115,7 +119,11 @@ fn choose(
     inflight: &[u8],
     state: State,
 ) -> Choice
-    ensures { λ r. ⌜ Chose p (viewOf p (now (image .entry)) (now (pointers .entry))) state (victim p (viewOf p (now (image .entry)) (now (pointers .entry))) (now (addresses .entry))) (refusal p (mkDisk (now (image .entry)) (now (pointers .entry))) (mkMemory state (now (addresses .entry)) (now (compact .entry)) (now (inflight .entry)))) r ⌝ }
+    ensures { λ r. ⌜
+        Chose p (viewOf p (now (image .entry)) (now (pointers .entry))) state
+        (victim p (viewOf p (now (image .entry)) (now (pointers .entry))) (now (addresses .entry)))
+        (refusal p (mkDisk (now (image .entry)) (now (pointers .entry)))
+        (mkMemory state (now (addresses .entry)) (now (compact .entry)) (now (inflight .entry)))) r ⌝ }
 {
     if !shape::in_range(p) {
         return Choice::Refuse(Answer::Refused(1));
@@ -168,7 +176,11 @@ fn reset_segment(
 ) -> Change
     requires { ⌜ inRange p ≡ true ⌝ }
     requires { ⌜ (length (now pointers) ≡ pointersLen p) × (length (now addresses) ≡ addressesLen p) × (length (now compact) ≡ compactLen p) × (g < p .Z) ⌝ }
-    ensures { λ r. ⌜ ((im fl : List ℕ) → afterChange state r im (now (pointers .exit)) (now (addresses .exit)) (now (compact .exit)) fl [] ≡ outcome p (storeDisk p) count (mkDisk im (now (pointers .entry))) (mkMemory state (now (addresses .entry)) (now (compact .entry)) fl) [] (due (resetPlan p (mkMemory state (now (addresses .entry)) (now (compact .entry)) fl) g))) ⌝ }
+    ensures { λ r. ⌜
+        ((im fl : List ℕ)
+        → afterChange state r im (now (pointers .exit)) (now (addresses .exit)) (now (compact .exit)) fl [] ≡ outcome p (storeDisk p) count
+        (mkDisk im (now (pointers .entry))) (mkMemory state (now (addresses .entry)) (now (compact .entry)) fl) []
+        (due (resetPlan p (mkMemory state (now (addresses .entry)) (now (compact .entry)) fl) g))) ⌝ }
 {
     let f = rows::front_of(state);
     let made = zones::reset_stores(p, pointers, g, count);
@@ -192,7 +204,10 @@ pub fn reclaim(
     state: State,
     count: u64,
 ) -> Change
-    ensures { λ r. ⌜ afterChange state r (now (image .exit)) (now (pointers .exit)) (now (addresses .exit)) (now (compact .exit)) (now (inflight .exit)) [] ≡ callDisk p (mkDisk (now (image .entry)) (now (pointers .entry))) (mkMemory state (now (addresses .entry)) (now (compact .entry)) (now (inflight .entry))) (reclaim count) ⌝ }
+    ensures { λ r. ⌜
+        afterChange state r (now (image .exit)) (now (pointers .exit)) (now (addresses .exit)) (now (compact .exit)) (now (inflight .exit)) []
+        ≡ callDisk p (mkDisk (now (image .entry)) (now (pointers .entry)))
+        (mkMemory state (now (addresses .entry)) (now (compact .entry)) (now (inflight .entry))) (reclaim count) ⌝ }
 {
     let c = choose(p, image, pointers, addresses, compact, inflight, state);
     match c {

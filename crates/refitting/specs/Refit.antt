@@ -104,7 +104,11 @@ module _ (p : Params) (r : Ranged p) (n : ℕ) (k₀ : Disk) (w : Whole p k₀) 
       as-made e = subst (λ (b : Bool). Storing p n ss k₀ (record { left = m₁ .left; cut = b }) k₁) (sym c₁)
           (owes-done p n ss k₀ (m₁ .left) k₁ (going-as p n ss k₀ mends [] (m₁ .left) k₁ e reset! .owes))
 
-      pub refit-none : (sg : ℕ) → sg ≡ firstOr (p .Z) (map (λ (s : Segment). s .seg) (unsealed (segments p (seen p k₀) 0))) → p .Z ≤ sg → Storing p n (restartStores p 0 (segments p (seen p k₀) 0)) k₀ m₁ k₁
+      pub refit-none :
+          (sg : ℕ)
+          → sg ≡ firstOr (p .Z) (map (λ (s : Segment). s .seg) (unsealed (segments p (seen p k₀) 0)))
+          → p .Z ≤ sg
+          → Storing p n (restartStores p 0 (segments p (seen p k₀) 0)) k₀ m₁ k₁
       refit-none sg e h = go (loose p r v sh acc)
         where
           go : Loose p v → Storing p n ss k₀ m₁ k₁
@@ -150,7 +154,8 @@ module _ (p : Params) (r : Ranged p) (n : ℕ) (k₀ : Disk) (w : Whole p k₀) 
         same! = zones-segment p r v (seen p k₁) sg stays
 
         one! : mends ≡ mendStores p gs x
-        one! = ap (flat (mendStores p gs)) (o .is-it) ∙ flat-cons (mendStores p gs) x [] ∙ ap (λ (l : List Store). mendStores p gs x ++ l) (flat-none (mendStores p gs)) ∙ append-nil (mendStores p gs x)
+        one! =
+            ap (flat (mendStores p gs)) (o .is-it) ∙ flat-cons (mendStores p gs) x [] ∙ ap (λ (l : List Store). mendStores p gs x ++ l) (flat-none (mendStores p gs)) ∙ append-nil (mendStores p gs x)
 
         -- ---- nothing to mend
 
@@ -237,5 +242,8 @@ module _ (p : Params) (r : Ranged p) (n : ℕ) (k₀ : Disk) (w : Whole p k₀) 
               pub moves-fit : AllFit p (seen p k₁) (rewriteStores p (segmentOf p (seen p k₁) 0 sg) to serial)
               moves-fit = subst (λ (y : Segment). AllFit p (seen p k₁) (rewriteStores p y to serial)) same! (moves .fits)
 
-              pub refit-rewrite : (m : Made) (k′ : Disk) → Storing p (m₁ .left) (rewriteStores p (segmentOf p (seen p k₁) 0 sg) to serial) k₁ m k′ → Storing p n (restartStores p 0 (segments p (seen p k₀) 0)) k₀ m k′
+              pub refit-rewrite :
+                  (m : Made) (k′ : Disk)
+                  → Storing p (m₁ .left) (rewriteStores p (segmentOf p (seen p k₁) 0 sg) to serial) k₁ m k′
+                  → Storing p n (restartStores p 0 (segments p (seen p k₀) 0)) k₀ m k′
               refit-rewrite m k′ s = moves .owes m k′ (subst (λ (y : Segment). Storing p (m₁ .left) (rewriteStores p y to serial) k₁ m k′) (sym same!) s)

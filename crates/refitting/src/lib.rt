@@ -30,7 +30,9 @@ pub fn healthy_stores(
     requires { ⌜ Keeps p (viewOf p (now image) (now pointers)) 0 (now kept) × Serials p (viewOf p (now image) (now pointers)) 0 (now serials) ⌝ }
     requires { ⌜ Sane p (viewOf p (now image) (now pointers)) ⌝ }
     requires { ⌜ Marks p (segments p (viewOf p (now image) (now pointers)) 0) whole ragged ⌝ }
-    ensures { λ r. ⌜ Storing p count (restartStores p 0 (segments p (viewOf p (now (image .entry)) (now (pointers .entry))) 0)) (mkDisk (now (image .entry)) (now (pointers .entry))) r (mkDisk (now (image .exit)) (now (pointers .exit))) ⌝ }
+    ensures { λ r. ⌜
+        Storing p count (restartStores p 0 (segments p (viewOf p (now (image .entry)) (now (pointers .entry))) 0))
+        (mkDisk (now (image .entry)) (now (pointers .entry))) r (mkDisk (now (image .exit)) (now (pointers .exit))) ⌝ }
 {
     let seg = remains::first_unsealed(p, pointers, 0, kept);
     let made = dropping::drop_stores(p, pointers, kept, count);

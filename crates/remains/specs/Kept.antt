@@ -18,7 +18,8 @@ use Rattle.defs.specs.Params.{unitLen, imageLen, pointersLen, placeOf, placeByt
 use Rattle.defs.specs.Restart.{freeZones}
 use Rattle.defs.specs.Segments.{lowDrive, headerAt, leftBy1, isCopy, remaining, Segment, segmentOf, segments, greatestSerial, unsealed}
 use Rattle.laws.specs.Geometry.{Ranged, capacity-low, zone-on-lt}
-use Rattle.laws.specs.Ranges.{Test, test, and-both, upFrom-step, upFrom-end, below-start, map-append, map-map, keep-hit, keep-miss, keep-none, keep-below-same, all-keep-same, greatest-snoc, all-keep, keep-below-snoc}
+use Rattle.laws.specs.Ranges.{Test, test, and-both, upFrom-step, upFrom-end, below-start, map-append, map-map, keep-hit, keep-miss, keep-none, keep-below-same}
+use Rattle.laws.specs.Ranges.{all-keep-same, greatest-snoc, all-keep, keep-below-snoc}
 use Rattle.laws.specs.Ranges.Test.{yes!, no! }
 use Rattle.views.specs.Views.{pointer-view, block-view}
 use Rattle.scans.specs.Scans.{any-keep}
@@ -125,7 +126,10 @@ pub remains-is : (p : Params) (v : View) (gone : ℕ) (fl : List Bool) (ns : Lis
     → c ≡ headerCopied (headerAt v (lowDrive p gone) g) → remains p v gone g ≡ (getD fl g false && not (not (eqb c 0) && otherSerial (p .Z) fl ns g c))
 unfolding remains isCopy
 remains-is p v gone fl ns g c h a b e =
-    λ j. sym (a .1 g h) j && not (not (eqb (sym e j) 0) && (ap (λ (x : ℕ). any (λ h. not (eqb h g) && eqb (headerSerial (headerAt v (lowDrive p gone) h)) x) (leftBy1 p v gone)) (sym e) ∙ other-is p v gone fl ns g c a b) j)
+    λ j. sym (a .1 g h) j
+    && not (not (eqb (sym e j) 0)
+    && (ap (λ (x : ℕ). any (λ h. not (eqb h g) && eqb (headerSerial (headerAt v (lowDrive p gone) h)) x) (leftBy1 p v gone)) (sym e)
+    ∙ other-is p v gone fl ns g c a b) j)
 
 -- ---- what the flags say of all
 

@@ -149,7 +149,13 @@ pub fn is_serial_of_other(p: Params, flags: &[bool], serials: &[u64], g: usize, 
 fn is_kept(p: Params, image: &[u8], low: usize, flags: &[bool], serials: &[u64], g: usize) -> bool
     requires { ⌜ inRange p ≡ true ⌝ }
     requires { ⌜ (length (now image) ≡ imageLen p) × (low < p .N) × (g < p .Z) × (p .Z ≤ length (now flags)) × (p .Z ≤ length (now serials)) ⌝ }
-    ensures { λ r. ⌜ ((ps : List ℕ) (gone : ℕ) → length ps ≡ pointersLen p → low ≡ lowDrive p gone → LeftFlags p (viewOf p (now (image .entry)) ps) gone (now (flags .entry)) → Serials p (viewOf p (now (image .entry)) ps) gone (now (serials .entry)) → r ≡ remains p (viewOf p (now (image .entry)) ps) gone g) ⌝ }
+    ensures { λ r. ⌜
+        ((ps : List ℕ) (gone : ℕ)
+        → length ps ≡ pointersLen p
+        → low ≡ lowDrive p gone
+        → LeftFlags p (viewOf p (now (image .entry)) ps) gone (now (flags .entry))
+        → Serials p (viewOf p (now (image .entry)) ps) gone (now (serials .entry))
+        → r ≡ remains p (viewOf p (now (image .entry)) ps) gone g) ⌝ }
 {
     if !flags[g] {
         return false;
@@ -241,7 +247,11 @@ pub fn first_unsealed(p: Params, pointers: &[u8], gone: u8, kept: &[bool]) -> us
     requires { ⌜ inRange p ≡ true ⌝ }
     requires { ⌜ (length (now pointers) ≡ pointersLen p) × (p .Z ≤ length (now kept)) ⌝ }
     ensures { λ r. ⌜ r ≤ p .Z ⌝ }
-    ensures { λ r. ⌜ ((im : List ℕ) → length im ≡ imageLen p → Keeps p (viewOf p im (now (pointers .entry))) gone (now (kept .entry)) → r ≡ firstOr (p .Z) (map (λ (s : Segment). s .seg) (unsealed (segments p (viewOf p im (now (pointers .entry))) gone)))) ⌝ }
+    ensures { λ r. ⌜
+        ((im : List ℕ)
+        → length im ≡ imageLen p
+        → Keeps p (viewOf p im (now (pointers .entry))) gone (now (kept .entry))
+        → r ≡ firstOr (p .Z) (map (λ (s : Segment). s .seg) (unsealed (segments p (viewOf p im (now (pointers .entry))) gone)))) ⌝ }
 {
     let mut g = 0;
     while g < p.Z {
@@ -258,7 +268,11 @@ pub fn unsealed_count(p: Params, pointers: &[u8], gone: u8, kept: &[bool]) -> us
     requires { ⌜ inRange p ≡ true ⌝ }
     requires { ⌜ (length (now pointers) ≡ pointersLen p) × (p .Z ≤ length (now kept)) ⌝ }
     ensures { λ r. ⌜ r ≤ p .Z ⌝ }
-    ensures { λ r. ⌜ ((im : List ℕ) → length im ≡ imageLen p → Keeps p (viewOf p im (now (pointers .entry))) gone (now (kept .entry)) → r ≡ length (unsealed (segments p (viewOf p im (now (pointers .entry))) gone))) ⌝ }
+    ensures { λ r. ⌜
+        ((im : List ℕ)
+        → length im ≡ imageLen p
+        → Keeps p (viewOf p im (now (pointers .entry))) gone (now (kept .entry))
+        → r ≡ length (unsealed (segments p (viewOf p im (now (pointers .entry))) gone))) ⌝ }
 {
     let mut n = 0;
     let mut g = 0;

@@ -173,10 +173,14 @@ module _ (p : Params) (r : Ranged p) (gone n : ℕ) (k : Disk) (w : Whole p k) (
       go (yes q) =
           let s = is-sane q in
           let z = settled p r (seen p k) (s .shaped) (s .accepted) (s .sixth) (s .eighth) in
-          subst (λ (g : ℕ). (AllFit p (seen p k) (restartStores p g (segments p (seen p k) g))) × AllGood p (storeAll storeView (restartStores p g (segments p (seen p k) g)) (seen p k)) g) (sym q) (z .fits, z .fine)
+          subst (λ (g : ℕ). (AllFit p (seen p k) (restartStores p g (segments p (seen p k) g)))
+          × AllGood p (storeAll storeView (restartStores p g (segments p (seen p k) g)) (seen p k)) g) (sym q) (z .fits, z .fine)
       go (no q) =
-          let f = missing-stores p gone (segments p (seen p k) gone) q in
-          (subst (λ (l : List Store). AllFit p (seen p k) l) (sym f) tt, subst (λ (l : List Store). AllGood p (storeAll storeView l (seen p k)) gone) (sym f) (subst (λ (u : View). AllGood p u gone) (sym (stores-none (seen p k))) (accepted-fine p (seen p k) gone acc)))
+          let f = missing-stores p gone (segments p (seen p k) gone) q in (
+            subst (λ (l : List Store). AllFit p (seen p k) l) (sym f) tt,
+            subst (λ (l : List Store). AllGood p (storeAll storeView l (seen p k)) gone) (sym f)
+                (subst (λ (u : View). AllGood p u gone) (sym (stores-none (seen p k))) (accepted-fine p (seen p k) gone acc)),
+          )
 
   pub settles-stored : (made : Made) (k′ : Disk) (loose : ℕ) → Storing p n (restartStores p gone (segments p (seen p k) gone)) k made k′ → loose ≡ uncountedIn p gone (segments p (seen p k) gone)
       → Settles p gone n k (record { check = Pass; cut = made .cut; loose = loose }) k′
@@ -219,7 +223,8 @@ module _ (p : Params) (k : Disk) (m : Memory) (gone n : ℕ) (t : Taken) (k′ :
     pub ends-done : t .cut ≡ false → (st : State) (ad co : List ℕ) → ((fl : List ℕ) → mkMemory st ad co fl ≡ restartMemory p (seen p k′) gone fl)
         → after (record { answer = Restarted (record { uncounted = t .loose }); state = st }) (k′ .image) (k′ .pointers) ad co (m .inflight) [] ≡ recovered p k m gone n
     ends-done c st ad co f =
-        (λ j. mkAfter (Restarted (record { uncounted = s .loose-is none! j })) (s .disk-is none! j) ((f (m .inflight) ∙ ap (λ (u : View). restartMemory p u gone (m .inflight)) (s .view-is none! c)) j) [])
+        (λ j. mkAfter (Restarted (record { uncounted = s .loose-is none! j })) (s .disk-is none! j)
+        ((f (m .inflight) ∙ ap (λ (u : View). restartMemory p u gone (m .inflight)) (s .view-is none! c)) j) [])
         ∙ answer!
         ∙ recovered-done p k m gone n (sym (s .first) ∙ none!) (ltb-false n (length (restartStores p gone (segments p (seen p k) gone))) (sym (s .cut-is none!) ∙ c))
       where

@@ -46,7 +46,9 @@ module _ (p : Params) (long : Bool) (v : View) (d : ℕ) (gs : List Segment) whe
   ps = pointerFaults p v (named d)
 
   rest! : List Check
-  rest! = zones (cond (isNil (pointerFaults p v (named d))) (segmentFaults p (named d) gs) []) ∷ rule 6 (rewrites p (named d) gs && eqb (greatestSerial gs) lastCount) ∷ rule 8 (rewrites p (named d) gs && isNil (freeZones p gs)) ∷ []
+  rest! =
+      zones (cond (isNil (pointerFaults p v (named d))) (segmentFaults p (named d) gs) []) ∷ rule 6
+      (rewrites p (named d) gs && eqb (greatestSerial gs) lastCount) ∷ rule 8 (rewrites p (named d) gs && isNil (freeZones p gs)) ∷ []
 
   all-are : restartChecks p long v d gs ≡ rule 1 bad1 ∷ rule 2 (not long) ∷ zones ps ∷ rest!
   unfolding restartChecks imageChecks rest!
@@ -90,14 +92,26 @@ module _ (p : Params) (long : Bool) (v : View) (d : ℕ) (gs : List Segment) whe
         names = not-false (namesDrive p d) (or-right (not (inRange p)) (not (namesDrive p d)) (f₁ .0));
         lent = not-false long (f₂ .0);
         pointers-ok = f₃ .0;
-        goes-on = ap firstRefusal all-are ∙ rule-passes 1 bad1 (rule 2 (not long) ∷ zones ps ∷ rest!) (f₁ .0) ∙ rule-passes 2 (not long) (zones ps ∷ rest!) (f₂ .0) ∙ zones-pass ps rest! (f₃ .0) ∙ left (f₃ .0);
+        goes-on =
+            ap firstRefusal all-are
+            ∙ rule-passes 1 bad1 (rule 2 (not long) ∷ zones ps ∷ rest!) (f₁ .0)
+            ∙ rule-passes 2 (not long) (zones ps ∷ rest!) (f₂ .0)
+            ∙ zones-pass ps rest! (f₃ .0)
+            ∙ left (f₃ .0);
       }
     where
       left : pointerFaults p v (named d) ≡ [] → firstRefusal rest! ≡ firstRefusal (restChecks p (named d) gs)
-      left q = unfold rest! restChecks in ap (λ (zs : List ℕ). firstRefusal (zones (cond (isNil zs) (segmentFaults p (named d) gs) []) ∷ rule 6 (rewrites p (named d) gs && eqb (greatestSerial gs) lastCount) ∷ rule 8 (rewrites p (named d) gs && isNil (freeZones p gs)) ∷ [])) q ∙ nil!
+      left q =
+          unfold rest! restChecks in ap (λ (zs : List ℕ). firstRefusal
+          (zones (cond (isNil zs) (segmentFaults p (named d) gs) []) ∷ rule 6 (rewrites p (named d) gs && eqb (greatestSerial gs) lastCount) ∷
+          rule 8 (rewrites p (named d) gs && isNil (freeZones p gs)) ∷ [])) q
+          ∙ nil!
         where
-          nil! : firstRefusal (zones (cond (isNil {A = ℕ} []) (segmentFaults p (named d) gs) []) ∷ rule 6 (rewrites p (named d) gs && eqb (greatestSerial gs) lastCount) ∷ rule 8 (rewrites p (named d) gs && isNil (freeZones p gs)) ∷ [])
-              ≡ firstRefusal (zones (segmentFaults p (named d) gs) ∷ rule 6 (rewrites p (named d) gs && eqb (greatestSerial gs) lastCount) ∷ rule 8 (rewrites p (named d) gs && isNil (freeZones p gs)) ∷ [])
+          nil! :
+              firstRefusal (zones (cond (isNil {A = ℕ} []) (segmentFaults p (named d) gs) []) ∷ rule 6
+              (rewrites p (named d) gs && eqb (greatestSerial gs) lastCount) ∷ rule 8 (rewrites p (named d) gs && isNil (freeZones p gs)) ∷ [])
+              ≡ firstRefusal (zones (segmentFaults p (named d) gs) ∷ rule 6 (rewrites p (named d) gs && eqb (greatestSerial gs) lastCount) ∷ rule 8
+              (rewrites p (named d) gs && isNil (freeZones p gs)) ∷ [])
           nil! = unfold isNil in refl
 
 -- ---- the front checks, in order
@@ -125,7 +139,11 @@ module _ (p : Params) (long : Bool) (v : View) (d : ℕ) where
       pointers-are = refl
 
       pub pointers-fail : (z : ℕ) → z ≡ firstOr (p .Z) (pointerFaults p v (named d)) → z < p .Z → some (BadZone z) ≡ firstRefusal (frontChecks p long v d)
-      pointers-fail z e h = sym (past ∙ low-named (λ y. any (λ x. ltb (capacity p) (pointerAt v x y)) (present p (named d))) (p .Z) (pointerFaults p v (named d)) pointers-are [] (subst (λ (y : ℕ). y < p .Z) e h) ∙ ap (λ (y : ℕ). some (BadZone y)) (sym e))
+      pointers-fail z e h =
+          sym (past
+          ∙ low-named (λ y. any (λ x. ltb (capacity p) (pointerAt v x y)) (present p (named d))) (p .Z) (pointerFaults p v (named d)) pointers-are
+          [] (subst (λ (y : ℕ). y < p .Z) e h)
+          ∙ ap (λ (y : ℕ). some (BadZone y)) (sym e))
 
       pub pointers-pass : (z : ℕ) → z ≡ firstOr (p .Z) (pointerFaults p v (named d)) → p .Z ≤ z → none ≡ firstRefusal (frontChecks p long v d)
       pointers-pass z e h =
@@ -136,7 +154,11 @@ module _ (p : Params) (long : Bool) (v : View) (d : ℕ) where
 
 -- ---- the checks behind them, in order
 
-pub segments-fail : (p : Params) (v : View) (gone : ℕ) (e : Exam) → Examined p gone (segments p v gone) e → e .zone < p .Z → some (BadZone (e .zone)) ≡ firstRefusal (restChecks p gone (segments p v gone))
+pub segments-fail :
+    (p : Params) (v : View) (gone : ℕ) (e : Exam)
+    → Examined p gone (segments p v gone) e
+    → e .zone < p .Z
+    → some (BadZone (e .zone)) ≡ firstRefusal (restChecks p gone (segments p v gone))
 unfolding restChecks
 segments-fail p v gone e x h =
     let gs = segments p v gone in
@@ -179,7 +201,11 @@ module _ (p : Params) (gone : ℕ) (gs : List Segment) where
         fine6 = and-false-right (rewrites p gone gs) (eqb (greatestSerial gs) lastCount) (ne-eqb (greatestSerial gs) lastCount h)
 
         pub zones-fail : p .Z ≤ firstOr (p .Z) (freeZones p gs) → some (Refused 8) ≡ firstRefusal (restChecks p gone gs)
-        zones-fail l = sym (passed ∙ rule-passes 6 six (rule 8 eight ∷ []) fine6 ∙ rule-fails 8 eight [] (and-both (rewrites p gone gs) (isNil (freeZones p gs)) q (empty (freeZones p gs) (λ z m. free-low p gs z m) l)))
+        zones-fail l =
+            sym (passed
+            ∙ rule-passes 6 six (rule 8 eight ∷ []) fine6
+            ∙ rule-fails 8 eight []
+            (and-both (rewrites p gone gs) (isNil (freeZones p gs)) q (empty (freeZones p gs) (λ z m. free-low p gs z m) l)))
           where
             empty : (l : List ℕ) → ((z : ℕ) → In z l → z < p .Z) → p .Z ≤ firstOr (p .Z) l → isNil l ≡ true
             empty [] f h = unfold isNil in refl
@@ -195,7 +221,8 @@ module _ (p : Params) (gone : ℕ) (gs : List Segment) where
                 as! m = unfold freeZones segmentNumbers in below-in (p .Z) z (keep-in (λ z. not (any (λ (g : Segment). eqb (g .seg) z) gs)) (below (p .Z)) z m .0)
 
         pub zones-suffice : firstOr (p .Z) (freeZones p gs) < p .Z → none ≡ firstRefusal (restChecks p gone gs)
-        zones-suffice l = sym (passed ∙ rule-passes 6 six (rule 8 eight ∷ []) fine6 ∙ rule-passes 8 eight [] (and-false-right (rewrites p gone gs) (isNil (freeZones p gs)) (some! (freeZones p gs) l)) ∙ none-left)
+        zones-suffice l =
+            sym (passed ∙ rule-passes 6 six (rule 8 eight ∷ []) fine6 ∙ rule-passes 8 eight [] (and-false-right (rewrites p gone gs) (isNil (freeZones p gs)) (some! (freeZones p gs) l)) ∙ none-left)
           where
             some! : (l : List ℕ) → firstOr (p .Z) l < p .Z → isNil l ≡ false
             some! [] h = absurd (as! h)

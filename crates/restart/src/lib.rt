@@ -62,7 +62,11 @@ fn checks(
     inflight: &[u8],
     missing: usize,
 ) -> Check
-    ensures { λ r. ⌜ ((st : StateOf) → checked r ≡ firstRefusal (frontChecks p (lentOk p (mkDisk (now (image .entry)) (now (pointers .entry))) (mkMemory st (now (addresses .entry)) (now (compact .entry)) (now (inflight .entry)))) (viewOf p (now (image .entry)) (now (pointers .entry))) missing)) ⌝ }
+    ensures { λ r. ⌜
+        ((st : StateOf)
+        → checked r ≡ firstRefusal (frontChecks p (lentOk p (mkDisk (now (image .entry)) (now (pointers .entry)))
+        (mkMemory st (now (addresses .entry)) (now (compact .entry)) (now (inflight .entry))))
+        (viewOf p (now (image .entry)) (now (pointers .entry))) missing)) ⌝ }
 {
     if bad_numbers(p, missing) {
         return Check::Fail(Answer::Refused(1));
@@ -94,7 +98,12 @@ fn is_ragged(p: Params, e: Exam) -> bool
 // 01, Refusals: what of 9 is left, then 6 and 8, in order.
 fn rest_checks(p: Params, gone: u8, kept: &[bool], serials: &[u64], e: Exam) -> Check
     requires { ⌜ (p .Z ≤ length (now kept)) × (p .Z ≤ length (now serials)) ⌝ }
-    ensures { λ r. ⌜ ((v : View) → Keeps p v gone (now (kept .entry)) → Serials p v gone (now (serials .entry)) → Examined p gone (segments p v gone) e → checked r ≡ firstRefusal (restChecks p gone (segments p v gone))) ⌝ }
+    ensures { λ r. ⌜
+        ((v : View)
+        → Keeps p v gone (now (kept .entry))
+        → Serials p v gone (now (serials .entry))
+        → Examined p gone (segments p v gone) e
+        → checked r ≡ firstRefusal (restChecks p gone (segments p v gone))) ⌝ }
 {
     if e.zone < p.Z {
         return Check::Fail(Answer::BadZone(e.zone as u64));
@@ -131,7 +140,9 @@ fn stores(
     requires { ⌜ Whole p (mkDisk (now image) (now pointers)) ⌝ }
     requires { ⌜ Keeps p (viewOf p (now image) (now pointers)) gone (now kept) × Serials p (viewOf p (now image) (now pointers)) gone (now serials) ⌝ }
     requires { ⌜ Examined p gone (segments p (viewOf p (now image) (now pointers)) gone) e × (e .zone ≡ p .Z) × (gone ≡ 0 → Sane p (viewOf p (now image) (now pointers))) ⌝ }
-    ensures { λ r. ⌜ Storing p count (restartStores p gone (segments p (viewOf p (now (image .entry)) (now (pointers .entry))) gone)) (mkDisk (now (image .entry)) (now (pointers .entry))) r (mkDisk (now (image .exit)) (now (pointers .exit))) ⌝ }
+    ensures { λ r. ⌜
+        Storing p count (restartStores p gone (segments p (viewOf p (now (image .entry)) (now (pointers .entry))) gone))
+        (mkDisk (now (image .entry)) (now (pointers .entry))) r (mkDisk (now (image .exit)) (now (pointers .exit))) ⌝ }
 {
     if gone != 0 {
         return Made {
@@ -185,7 +196,10 @@ fn recover(
     requires { ⌜ Whole p (mkDisk (now image) (now pointers)) ⌝ }
     requires { ⌜ pointerFaults p (viewOf p (now image) (now pointers)) gone ≡ [] ⌝ }
     requires { ⌜ (length (now addresses) ≡ addressesLen p) × (length (now compact) ≡ compactLen p) ⌝ }
-    ensures { λ r. ⌜ ((fl : List ℕ) → after r (now (image .exit)) (now (pointers .exit)) (now (addresses .exit)) (now (compact .exit)) fl [] ≡ recovered p (mkDisk (now (image .entry)) (now (pointers .entry))) (mkMemory state (now (addresses .entry)) (now (compact .entry)) fl) gone count) ⌝ }
+    ensures { λ r. ⌜
+        ((fl : List ℕ)
+        → after r (now (image .exit)) (now (pointers .exit)) (now (addresses .exit)) (now (compact .exit)) fl [] ≡ recovered p
+        (mkDisk (now (image .entry)) (now (pointers .entry))) (mkMemory state (now (addresses .entry)) (now (compact .entry)) fl) gone count) ⌝ }
 {
     let t = settle(p, image, pointers, gone, count);
     let c = t.check;
@@ -215,7 +229,10 @@ pub fn restart(
     missing: usize,
     count: u64,
 ) -> Done
-    ensures { λ r. ⌜ after r (now (image .exit)) (now (pointers .exit)) (now (addresses .exit)) (now (compact .exit)) (now (inflight .entry)) [] ≡ callDisk p (mkDisk (now (image .entry)) (now (pointers .entry))) (mkMemory state (now (addresses .entry)) (now (compact .entry)) (now (inflight .entry))) (restart missing count) ⌝ }
+    ensures { λ r. ⌜
+        after r (now (image .exit)) (now (pointers .exit)) (now (addresses .exit)) (now (compact .exit)) (now (inflight .entry)) []
+        ≡ callDisk p (mkDisk (now (image .entry)) (now (pointers .entry)))
+        (mkMemory state (now (addresses .entry)) (now (compact .entry)) (now (inflight .entry))) (restart missing count) ⌝ }
 {
     let c = checks(p, image, pointers, addresses, compact, inflight, missing);
     if let Check::Fail(answer) = c {

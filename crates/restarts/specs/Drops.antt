@@ -141,7 +141,8 @@ module _ (p : Params) (r : Ranged p) where
       keep-has (λ z. not (any (λ (g : Segment). eqb (g .seg) z) (map (segmentOf p v gone) (remaining p v gone)))) z (below (p .Z)) i in (
         below-has z (p .Z) (a .0),
         λ j. not-2 (any (λ (g : Segment). eqb (g .seg) z) (map (segmentOf p v gone) (remaining p v gone))) (a .1)
-            (has-any (λ (g : Segment). eqb (g .seg) z) (map (segmentOf p v gone) (remaining p v gone)) (segmentOf p v gone z) (has-map (segmentOf p v gone) (remaining p v gone) z j) (eq-eqb (segmentOf p v gone z .seg) z (own z))),
+            (has-any (λ (g : Segment). eqb (g .seg) z) (map (segmentOf p v gone) (remaining p v gone)) (segmentOf p v gone z)
+            (has-map (segmentOf p v gone) (remaining p v gone) z j) (eq-eqb (segmentOf p v gone z .seg) z (own z))),
       )
     where
       own : (z : ℕ) → segmentOf p v gone z .seg ≡ z

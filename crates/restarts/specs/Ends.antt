@@ -87,18 +87,22 @@ module _ (p : Params) (r : Ranged p) (g : Ghost) (v : View) (k : Settled p r g v
   pub us-has : (q : Segment) → Has q (unsealed (segments p v (named noDrive))) → (z : ℕ) × Has z (remaining p v (named noDrive)) × (q ≡ G z) × (G z .full ≡ false)
   unfolding unsealed segments
   us-has q i =
-      let a : Has q (map (segmentOf p v (named noDrive)) (remaining p v (named noDrive))) × (not (q .full) ≡ true) = keep-has (λ (g : Segment). not (g .full)) q (map (segmentOf p v (named noDrive)) (remaining p v (named noDrive))) i in
+      let a : Has q (map (segmentOf p v (named noDrive)) (remaining p v (named noDrive))) × (not (q .full) ≡ true) =
+      keep-has (λ (g : Segment). not (g .full)) q (map (segmentOf p v (named noDrive)) (remaining p v (named noDrive))) i in
       let b : (z : ℕ) × Has z (remaining p v (named noDrive)) × (q ≡ G z) = map-has (segmentOf p v (named noDrive)) q (remaining p v (named noDrive)) (a .0) in
       (b .0, b .1, b .2, ap (λ (x : Segment). x .full) (sym (b .2)) ∙ not-true (q .full) (a .1))
 
   pub has-us : (z : ℕ) → Has z (remaining p v (named noDrive)) → G z .full ≡ false → Has (G z) (unsealed (segments p v (named noDrive)))
   unfolding unsealed segments
-  has-us z i e = has-keep (λ (g : Segment). not (g .full)) (G z) (map (segmentOf p v (named noDrive)) (remaining p v (named noDrive))) (has-map (segmentOf p v (named noDrive)) (remaining p v (named noDrive)) z i) (ap not e)
+  has-us z i e =
+      has-keep (λ (g : Segment). not (g .full)) (G z) (map (segmentOf p v (named noDrive)) (remaining p v (named noDrive)))
+      (has-map (segmentOf p v (named noDrive)) (remaining p v (named noDrive)) z i) (ap not e)
 
   -- two unsealed segments are one
   pub one-of : (y z : ℕ) → Has y (remaining p v (named noDrive)) → Has z (remaining p v (named noDrive)) → G y .full ≡ false → G z .full ≡ false → y ≡ z
   one-of y z i j a b =
-      accepted (parOf p r) g (itemsIn p v) (k .on .facts) noDrive none-choice .one y z (remaining-has p r g v (k .on) noDrive none-choice y i .1) (remaining-has p r g v (k .on) noDrive none-choice z j .1) (rag y i a) (rag z j b)
+      accepted (parOf p r) g (itemsIn p v) (k .on .facts) noDrive none-choice .one y z (remaining-has p r g v (k .on) noDrive none-choice y i .1)
+      (remaining-has p r g v (k .on) noDrive none-choice z j .1) (rag y i a) (rag z j b)
     where
       rag : (y : ℕ) → Has y (remaining p v (named noDrive)) → G y .full ≡ false → Ragged (parOf p r) noDrive (itemsIn p v) y
       rag y i a = ragged-of p r g v (k .on) noDrive none-choice y i a
@@ -167,7 +171,11 @@ module _ (p : Params) (r : Ranged p) (g : Ghost) (v : View) (k : Settled p r g v
         )
         go (q ∷ l) e =
             let a : (z : ℕ) × Has z (remaining p v (named noDrive)) × (q ≡ G z) × (G z .full ≡ false) = us-has q (subst (λ (x : List Segment). Has q x) (sym e) (inl refl)) in
-            let o : (counted p (named noDrive) (G (a .0)) ≡ below (length (counted p (named noDrive) (G (a .0))))) × (uncounted p (named noDrive) (G (a .0)) ≡ []) × (length (counted p (named noDrive) (G (a .0))) < p .S) = ord (a .0) (a .1) (a .3) in
+            let o :
+            (counted p (named noDrive) (G (a .0)) ≡ below (length (counted p (named noDrive) (G (a .0)))))
+            × (uncounted p (named noDrive) (G (a .0)) ≡ [])
+            × (length (counted p (named noDrive) (G (a .0))) < p .S) =
+            ord (a .0) (a .1) (a .3) in
             let b : a .0 < p .Z = settled-used p r g v k (a .0) (a .1) .0 in (
               true,
               a .0,
@@ -189,7 +197,15 @@ module _ (p : Params) (r : Ranged p) (g : Ghost) (v : View) (k : Settled p r g v
             few-counted : (z : ℕ) → length (counted p (named noDrive) (G z)) ≤ p .S
             few-counted z = unfold counted in omega (arith, length-keep (counts p (named noDrive) (G z)) (below (p .S)), length-below (p .S))
 
-            no-footer : (z : ℕ) → Has z (remaining p v (named noDrive)) → G z .full ≡ false → length (counted p (named noDrive) (G z)) < p .S → (d : ℕ) → d < p .N → Dec (suc (p .S) < length (itemsIn p v d z)) → length (itemsIn p v d z) ≤ suc (p .S)
+            no-footer :
+                (z : ℕ)
+                → Has z (remaining p v (named noDrive))
+                → G z .full ≡ false
+                → length (counted p (named noDrive) (G z)) < p .S
+                → (d : ℕ)
+                → d < p .N
+                → Dec (suc (p .S) < length (itemsIn p v d z))
+                → length (itemsIn p v d z) ≤ suc (p .S)
             no-footer z i f c d l (no q) = omega arith
             no-footer z i f c d l (yes q) =
                 let every : (s : ℕ) → s < p .S → Has s (counted p (named noDrive) (G z)) = λ s b.
@@ -197,7 +213,9 @@ module _ (p : Params) (r : Ranged p) (g : Ghost) (v : View) (k : Settled p r g v
                 absurd (let w : p .S ≤ length (counted p (named noDrive) (G z)) = many (counted p (named noDrive) (G z)) every in let j : ⊥ = omega arith in j)
               where
                 many : (l : List ℕ) → ((s : ℕ) → s < p .S → Has s l) → p .S ≤ length l
-                many l h = pigeon (p .S) (length l) (λ s. at s (decLt s (p .S)) .0) (λ s b. at s (decLt s (p .S)) .1 b .0) (λ s t a b e. sym (at s (decLt s (p .S)) .1 a .1) ∙ ap (λ (x : ℕ). getD l x 0) e ∙ at t (decLt t (p .S)) .1 b .1)
+                many l h =
+                    pigeon (p .S) (length l) (λ s. at s (decLt s (p .S)) .0) (λ s b. at s (decLt s (p .S)) .1 b .0)
+                    (λ s t a b e. sym (at s (decLt s (p .S)) .1 a .1) ∙ ap (λ (x : ℕ). getD l x 0) e ∙ at t (decLt t (p .S)) .1 b .1)
                   where
                     at : (s : ℕ) → Dec (s < p .S) → (j : ℕ) × (s < p .S → (j < length l) × (getD l j 0 ≡ s))
                     at s (yes b) = let q : (j : ℕ) × (j < length l) × (getD l j 0 ≡ s) = has-getD l s 0 (h s b) in (q .0, λ x. (q .1, q .2))
@@ -206,12 +224,18 @@ module _ (p : Params) (r : Ranged p) (g : Ghost) (v : View) (k : Settled p r g v
             open-at : (q : Segment) (l : List Segment) → unsealed (segments p v (named noDrive)) ≡ q ∷ l → (z : ℕ) → q ≡ G z → openOf (unsealed (segments p v (named noDrive))) ≡ suc z
             open-at q l e z w = unfold openOf in (ap openOf e ∙ ap (λ (x : Segment). suc (x .seg)) w ∙ ap suc (seg-is z))
 
-            next-at : (q : Segment) (l : List Segment) → unsealed (segments p v (named noDrive)) ≡ q ∷ l → (z : ℕ) → q ≡ G z → nextOf p (unsealed (segments p v (named noDrive))) ≡ length (counted p (named noDrive) (G z))
+            next-at :
+                (q : Segment) (l : List Segment)
+                → unsealed (segments p v (named noDrive)) ≡ q ∷ l
+                → (z : ℕ)
+                → q ≡ G z
+                → nextOf p (unsealed (segments p v (named noDrive))) ≡ length (counted p (named noDrive) (G z))
             next-at q l e z w = unfold nextOf in (ap (nextOf p) e ∙ ap₂ (λ (n : ℕ) (x : Segment). length (counted p n x)) (sym none-named) w)
 
   -- ---- what is read, the greatest stamp and serial
   pub ends-reads : Reads (parOf p r) (g .hd) (itemsIn p v) (g .un) (stampRead p r g v (k .on) noDrive none-choice)
-  ends-reads = Reads-none-any (parOf p r) (g .hd) (itemsIn p v) noDrive (g .un) (far-off p r g v k) (k .none) (stampRead p r g v (k .on) noDrive none-choice) (reads p r g v (k .on) noDrive none-choice)
+  ends-reads =
+      Reads-none-any (parOf p r) (g .hd) (itemsIn p v) noDrive (g .un) (far-off p r g v k) (k .none) (stampRead p r g v (k .on) noDrive none-choice) (reads p r g v (k .on) noDrive none-choice)
 
   pub ends-stamps : (x : Val) → Counted (parOf p r) (g .hd) (itemsIn p v) (g .un) x → x .stamp ≤ greatestStamp (candidates p (named noDrive) (segments p v (named noDrive)))
   unfolding candsSeen
@@ -224,5 +248,6 @@ module _ (p : Params) (r : Ranged p) (g : Ghost) (v : View) (k : Settled p r g v
       let e : G y .serial ≡ g .hd .ser y = serial-is p r g v (k .on) noDrive none-choice y i in
       let b : G y .serial ≤ greatest (map (λ (g : Segment). g .serial) (map (segmentOf p v (named noDrive)) (remaining p v (named noDrive)))) =
       greatest-most (G y .serial) (map (λ (g : Segment). g .serial) (map (segmentOf p v (named noDrive)) (remaining p v (named noDrive))))
-      (has-map (λ (g : Segment). g .serial) (map (segmentOf p v (named noDrive)) (remaining p v (named noDrive))) (G y) (has-map (segmentOf p v (named noDrive)) (remaining p v (named noDrive)) y i)) in
+      (has-map (λ (g : Segment). g .serial) (map (segmentOf p v (named noDrive)) (remaining p v (named noDrive))) (G y)
+      (has-map (segmentOf p v (named noDrive)) (remaining p v (named noDrive)) y i)) in
       omega (arith, b, e)

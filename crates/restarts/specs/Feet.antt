@@ -102,10 +102,14 @@ module _ (p : Params) (r : Ranged p) (g₀ : Ghost) (a : List Val) (s : Bool) wh
       len = zone-len p r (withPr g₀ alone) w (k .set .on) d o dl (omega (arith, dl, k .set .none)) ob ∙ e
 
       shape′ : Shape p (storeView (put d o (footerBlock p (sparesIn p (zoneAt w d o)) j) zeroSpare) w)
-      shape′ = shape-store p w (put d o (footerBlock p (sparesIn p (zoneAt w d o)) j) zeroSpare) (k .linked .shape) (sound-fits p r w (put d o (footerBlock p (sparesIn p (zoneAt w d o)) j) zeroSpare) (k .linked .shape) sound)
+      shape′ =
+          shape-store p w (put d o (footerBlock p (sparesIn p (zoneAt w d o)) j) zeroSpare) (k .linked .shape)
+          (sound-fits p r w (put d o (footerBlock p (sparesIn p (zoneAt w d o)) j) zeroSpare) (k .linked .shape) sound)
 
       linked′ : Linked p r (storeView (put d o (footerBlock p (sparesIn p (zoneAt w d o)) j) zeroSpare) w) (withPr g₀ alone) a s off
-      linked′ = linked-step p r w (storeView (put d o (footerBlock p (sparesIn p (zoneAt w d o)) j) zeroSpare) w) (withPr g₀ alone) (withPr g₀ alone) a a s s off off (after (itemsIn p w) d o (foot j)) (k .linked)
+      linked′ =
+          linked-step p r w (storeView (put d o (footerBlock p (sparesIn p (zoneAt w d o)) j) zeroSpare) w) (withPr g₀ alone) (withPr g₀ alone) a a s
+          s off off (after (itemsIn p w) d o (foot j)) (k .linked)
           (restart-footer (stateOn p w (withPr g₀ alone) a s off) d o j (k .set .none) (k .set .rest) dl (omega (arith, len)) (unfold capacity in omega (arith, len, jl)) (λ t l. k .stripes d t dl l))
           (sym items′) shape′ (λ e l n. bytes-store p r w (put d o (footerBlock p (sparesIn p (zoneAt w d o)) j) zeroSpare) (k .linked .shape) sound e (k .linked .bytes e l n))
 
@@ -177,8 +181,11 @@ module _ (p : Params) (r : Ranged p) (g₀ : Ghost) (a : List Val) (s : Bool) wh
       drive-step : ((d : ℕ) → d < p .N → pointerAt v d o ≡ suc (p .S + footersStored p (zoneAt v d o)))
           → (d : ℕ) (w : View) → d < p .N → Upto d w → Always (Footing o) w (feetOn d) × Upto (suc d) (storeAll storeView (feetOn d) w)
       drive-step starts d w dl k = (
-        run-always (Footing o) (Within d) st (footers p) (λ j u i. i .foot) (λ j u l i. within-step d j u dl l i) (footersStored p (zoneAt v d o)) (footers p - footersStored p (zoneAt v d o)) fits w begin?,
-        ended? (storeAll storeView (feetOn d) w) (run-end (Footing o) (Within d) st (footers p) (λ j u i. i .foot) (λ j u l i. within-step d j u dl l i) (footersStored p (zoneAt v d o)) (footers p - footersStored p (zoneAt v d o)) (footers p) fits (omega (arith, stored-few (zoneAt v d o))) w begin?),
+        run-always (Footing o) (Within d) st (footers p) (λ j u i. i .foot) (λ j u l i. within-step d j u dl l i) (footersStored p (zoneAt v d o))
+            (footers p - footersStored p (zoneAt v d o)) fits w begin?,
+        ended? (storeAll storeView (feetOn d) w) (run-end (Footing o) (Within d) st (footers p) (λ j u i. i .foot)
+            (λ j u l i. within-step d j u dl l i) (footersStored p (zoneAt v d o)) (footers p - footersStored p (zoneAt v d o)) (footers p) fits
+            (omega (arith, stored-few (zoneAt v d o))) w begin?),
       )
         where
           st : ℕ → Store
@@ -224,7 +231,9 @@ module _ (p : Params) (r : Ranged p) (g₀ : Ghost) (a : List Val) (s : Bool) wh
 
       pub feet-sound : ((d : ℕ) → d < p .N → pointerAt v d o ≡ suc (p .S + footersStored p (zoneAt v d o))) → Footing o v → AllSound p v (flat feetOn (below (p .N)))
       unfolding below
-      feet-sound starts k = runs-sound p Upto feetOn (p .N) (drive-sound starts) 0 (p .N) (omega arith) v (record { foot = k; done = λ e b l. absurd (let q : ⊥ = omega arith in q); left = λ e b. refl; other = λ e y n. refl })
+      feet-sound starts k =
+          runs-sound p Upto feetOn (p .N) (drive-sound starts) 0 (p .N) (omega arith) v
+          (record { foot = k; done = λ e b l. absurd (let q : ⊥ = omega arith in q); left = λ e b. refl; other = λ e y n. refl })
 
       pub feet-all : ((d : ℕ) → d < p .N → pointerAt v d o ≡ suc (p .S + footersStored p (zoneAt v d o))) → Footing o v
           → Always (Footing o) v (flat feetOn (below (p .N))) × Upto (p .N) (storeAll storeView (flat feetOn (below (p .N))) v)
@@ -257,7 +266,8 @@ module _ (p : Params) (r : Ranged p) (g : Ghost) (v : View) (k : Settled p r g v
 
   pub whole-stripes : (d t : ℕ) → d < p .N → t < p .S → (x : Val) × In (chunk t x) (itemsIn p v d o)
   whole-stripes d t l b =
-      let st : Stripe (parOf p r) (itemsIn p v) noDrive o t (pieceAt p r g v (k .on) noDrive (none-choice p r g v k) o t) = counted-stripe p r g v (k .on) noDrive (none-choice p r g v k) o t ob (all-count t b) in
+      let st : Stripe (parOf p r) (itemsIn p v) noDrive o t (pieceAt p r g v (k .on) noDrive (none-choice p r g v k) o t) =
+      counted-stripe p r g v (k .on) noDrive (none-choice p r g v k) o t ob (all-count t b) in
       (pieceAt p r g v (k .on) noDrive (none-choice p r g v k) o t d, st .on d l (omega (arith, l, far-off p r g v k)))
 
   -- its data blocks are all there
@@ -278,7 +288,10 @@ module _ (p : Params) (r : Ranged p) (g : Ghost) (v : View) (k : Settled p r g v
           go : p .S ≤ min (z .pointer - 1) (p .S) → z .pointer ≤ 1 + p .S + footers p → z .pointer ≡ suc (p .S + min (z .pointer - 1 - p .S) (footers p))
           go q l = omega (arith, r .stripes-low)
 
-  pub feet-are : missingFooters p G ≡ flat (λ d. map (λ j. put d o (footerBlock p (sparesIn p (zoneAt v d o)) j) zeroSpare) (upFrom (footersStored p (zoneAt v d o)) (footers p - footersStored p (zoneAt v d o)))) (below (p .N))
+  pub feet-are :
+      missingFooters p G
+      ≡ flat (λ d. map (λ j. put d o (footerBlock p (sparesIn p (zoneAt v d o)) j) zeroSpare)
+      (upFrom (footersStored p (zoneAt v d o)) (footers p - footersStored p (zoneAt v d o)))) (below (p .N))
   feet-are = unfold missingFooters drivesOf zoneOn footerStores footersOf segmentOf in
       same (below (p .N)) (λ d j. below-has d (p .N) j)
     where
@@ -314,8 +327,13 @@ module _ (p : Params) (r : Ranged p) (g₀ : Ghost) (a : List Val) (s : Bool) (v
       go (no w) =
           let same : (d : ℕ) → d < p .N → zoneAt u d z ≡ zoneAt v d z = λ d l. q .other d z w in
           let used? : (z < p .Z) × Used (parOf p r) (g₀ .un) (itemsIn p u) z = settled-used p r (withPr g₀ alone) u set z j in
-          let j′ : Has z (remaining p v (named noDrive)) = settled-remains p r (withPr g₀ alone) v k z
-          (used? .1 .0, used? .1 .1, subst (λ (x : List Item). 0 < length x) (items-in p u (used? .1 .0) z ∙ ap (itemsOf p) (same (used? .1 .0) (used? .1 .1 .0)) ∙ sym (items-in p v (used? .1 .0) z)) (used? .1 .2)) in
+          let j′ : Has z (remaining p v (named noDrive)) = settled-remains p r (withPr g₀ alone) v k z (
+            used? .1 .0,
+            used? .1 .1,
+            subst (λ (x : List Item). 0 < length x)
+                (items-in p u (used? .1 .0) z ∙ ap (itemsOf p) (same (used? .1 .0) (used? .1 .1 .0)) ∙ sym (items-in p v (used? .1 .0) z))
+                (used? .1 .2),
+          ) in
           w (one-of p r (withPr g₀ alone) v k z o j′ i (ap (λ (x : Segment). x .full) (sym (segment-same p r v u noDrive z same)) ∙ e) un)
 
   pub feet-order : InOrder p u

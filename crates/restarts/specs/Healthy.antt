@@ -115,7 +115,8 @@ module _ (p : Params) (r : Ranged p) (v₀ : View) (g₀ : Ghost) (a : List Val)
     -- ---- missing footers
     module _ (w : isWhole p (segmentOf p v (named noDrive) o) ≡ true) where
       abbrev feet : List Store
-      feet = flat (λ d. map (λ j. put d o (footerBlock p (sparesIn p (zoneAt v d o)) j) zeroSpare) (upFrom (footersStored p (zoneAt v d o)) (footers p - footersStored p (zoneAt v d o)))) (below (p .N))
+      feet =
+          flat (λ d. map (λ j. put d o (footerBlock p (sparesIn p (zoneAt v d o)) j) zeroSpare) (upFrom (footersStored p (zoneAt v d o)) (footers p - footersStored p (zoneAt v d o)))) (below (p .N))
 
       footing : Footing p r g₀ a s o v
       footing = record { linked = linked₁; set = k; stripes = whole-stripes p r (withPr g₀ alone) v k o i w }
@@ -130,7 +131,9 @@ module _ (p : Params) (r : Ranged p) (v₀ : View) (g₀ : Ghost) (a : List Val)
       u = storeAll storeView feet v
 
       done? : RestartDone p r (withPr g₀ alone) a s u
-      done? = plain-done p r u u (withPr g₀ alone) a s off (feet? .1 .foot .linked) none [] (record { are = tt; every = λ z x y d l. absurd (y (feet? .1 .foot .set .rest z x)) }) (unfold applyAll in refl) (feet? .1 .foot .set)
+      done? =
+          plain-done p r u u (withPr g₀ alone) a s off (feet? .1 .foot .linked) none []
+          (record { are = tt; every = λ z x y d l. absurd (y (feet? .1 .foot .set .rest z x)) }) (unfold applyAll in refl) (feet? .1 .foot .set)
           (feet-order p r g₀ a s v u k o i un (feet? .1))
 
       feet-done : RestartDone p r g₀ a s u
@@ -148,7 +151,9 @@ module _ (p : Params) (r : Ranged p) (v₀ : View) (g₀ : Ghost) (a : List Val)
         still = done? .still;
       }
 
-      pub feet-both : Always (CutTo p r g₀ a s) v (missingFooters p (segmentOf p v (named noDrive) o)) × RestartDone p r g₀ a s (storeAll storeView (missingFooters p (segmentOf p v (named noDrive) o)) v)
+      pub feet-both :
+          Always (CutTo p r g₀ a s) v (missingFooters p (segmentOf p v (named noDrive) o))
+          × RestartDone p r g₀ a s (storeAll storeView (missingFooters p (segmentOf p v (named noDrive) o)) v)
       feet-both = subst (λ (l : List Store). Always (CutTo p r g₀ a s) v l × RestartDone p r g₀ a s (storeAll storeView l v)) (sym (feet-are p r (withPr g₀ alone) v k o i w)) (feet-cut, feet-done)
 
       feet-right : AllSound p v (missingFooters p (segmentOf p v (named noDrive) o))
@@ -178,13 +183,19 @@ module _ (p : Params) (r : Ranged p) (v₀ : View) (g₀ : Ghost) (a : List Val)
             wide z l = unfold headerAt chunkAt zoneOn in l
 
         go : (greatest (map (λ (g : Segment). g .serial) (map (segmentOf p v₀ (named noDrive)) (remaining p v₀ (named noDrive)))) ≡ 0)
-            ⊎ Has (greatest (map (λ (g : Segment). g .serial) (map (segmentOf p v₀ (named noDrive)) (remaining p v₀ (named noDrive))))) (map (λ (g : Segment). g .serial) (map (segmentOf p v₀ (named noDrive)) (remaining p v₀ (named noDrive))))
+            ⊎ Has (greatest (map (λ (g : Segment). g .serial) (map (segmentOf p v₀ (named noDrive)) (remaining p v₀ (named noDrive)))))
+            (map (λ (g : Segment). g .serial) (map (segmentOf p v₀ (named noDrive)) (remaining p v₀ (named noDrive))))
             → greatest (map (λ (g : Segment). g .serial) (map (segmentOf p v₀ (named noDrive)) (remaining p v₀ (named noDrive)))) < 256 ^ 8
         go (inl e) = omega arith
         go (inr q) =
-            let x : (g : Segment) × Has g (map (segmentOf p v₀ (named noDrive)) (remaining p v₀ (named noDrive))) × (greatest (map (λ (g : Segment). g .serial) (map (segmentOf p v₀ (named noDrive)) (remaining p v₀ (named noDrive)))) ≡ g .serial) =
-            map-has (λ (g : Segment). g .serial) (greatest (map (λ (g : Segment). g .serial) (map (segmentOf p v₀ (named noDrive)) (remaining p v₀ (named noDrive))))) (map (segmentOf p v₀ (named noDrive)) (remaining p v₀ (named noDrive))) q in
-            let z : (z : ℕ) × Has z (remaining p v₀ (named noDrive)) × (x .0 ≡ segmentOf p v₀ (named noDrive) z) = map-has (segmentOf p v₀ (named noDrive)) (x .0) (remaining p v₀ (named noDrive)) (x .1) in
+            let x : (g : Segment)
+            × Has g (map (segmentOf p v₀ (named noDrive)) (remaining p v₀ (named noDrive)))
+            × (greatest (map (λ (g : Segment). g .serial) (map (segmentOf p v₀ (named noDrive)) (remaining p v₀ (named noDrive)))) ≡ g .serial) =
+            map-has (λ (g : Segment). g .serial)
+            (greatest (map (λ (g : Segment). g .serial) (map (segmentOf p v₀ (named noDrive)) (remaining p v₀ (named noDrive)))))
+            (map (segmentOf p v₀ (named noDrive)) (remaining p v₀ (named noDrive))) q in
+            let z : (z : ℕ) × Has z (remaining p v₀ (named noDrive)) × (x .0 ≡ segmentOf p v₀ (named noDrive) z) =
+            map-has (segmentOf p v₀ (named noDrive)) (x .0) (remaining p v₀ (named noDrive)) (x .1) in
             subst (λ (y : ℕ). y < 256 ^ 8) (sym (x .2 ∙ ap (λ (g : Segment). g .serial) (z .2))) (one (z .0) (z .1))
 
     module _ (rag : isRagged p (segmentOf p v₀ (named noDrive) o) ≡ true) where
@@ -192,10 +203,14 @@ module _ (p : Params) (r : Ranged p) (v₀ : View) (g₀ : Ghost) (a : List Val)
       not-last = go (eqb (greatestSerial gs) lastCount) refl
         where
           yes? : rewrites p (named noDrive) gs ≡ true
-          yes? = unfold rewrites unsealed segments in and-both (eqb (named noDrive) 0) (any (isRagged p) (keep (λ (g : Segment). not (g .full)) (map (segmentOf p v₀ (named noDrive)) (remaining p v₀ (named noDrive)))))
+          yes? =
+              unfold rewrites unsealed segments in and-both (eqb (named noDrive) 0)
+              (any (isRagged p) (keep (λ (g : Segment). not (g .full)) (map (segmentOf p v₀ (named noDrive)) (remaining p v₀ (named noDrive)))))
               (eq-eqb (named noDrive) 0 none-named)
               (has-any (isRagged p) (keep (λ (g : Segment). not (g .full)) (map (segmentOf p v₀ (named noDrive)) (remaining p v₀ (named noDrive)))) (segmentOf p v₀ (named noDrive) o)
-              (has-keep (λ (g : Segment). not (g .full)) (segmentOf p v₀ (named noDrive) o) (map (segmentOf p v₀ (named noDrive)) (remaining p v₀ (named noDrive))) (has-map (segmentOf p v₀ (named noDrive)) (remaining p v₀ (named noDrive)) o i₀) (ap not un₀)) rag)
+              (has-keep (λ (g : Segment). not (g .full)) (segmentOf p v₀ (named noDrive) o)
+              (map (segmentOf p v₀ (named noDrive)) (remaining p v₀ (named noDrive)))
+              (has-map (segmentOf p v₀ (named noDrive)) (remaining p v₀ (named noDrive)) o i₀) (ap not un₀)) rag)
 
           go : (b : Bool) → eqb (greatestSerial gs) lastCount ≡ b → b ≡ false
           go false e = refl
@@ -221,10 +236,19 @@ module _ (p : Params) (r : Ranged p) (v₀ : View) (g₀ : Ghost) (a : List Val)
 
           go : (b : Bool) → isWhole p (segmentOf p v (named noDrive) o) ≡ b → isRagged p (segmentOf p v (named noDrive) o) ≡ true → isWhole p (segmentOf p v (named noDrive) o) ≡ false
           go false e q = e
-          go true e q = true≢false (sym (ap (λ (x : Bool). not x && (not (sameList (counted p 0 (segmentOf p v (named noDrive) o)) (below (length (counted p 0 (segmentOf p v (named noDrive) o))))) || not (isNil (uncounted p 0 (segmentOf p v (named noDrive) o))))) e) ∙ reveal q)
+          go true e q =
+              true≢false (sym (ap (λ (x : Bool). not x
+              && (not (sameList (counted p 0 (segmentOf p v (named noDrive) o))
+              (below (length (counted p 0 (segmentOf p v (named noDrive) o)))))
+              || not (isNil (uncounted p 0 (segmentOf p v (named noDrive) o))))) e)
+              ∙ reveal q)
             where
               reveal : isRagged p (segmentOf p v (named noDrive) o) ≡ true
-                  → (not (isWhole p (segmentOf p v (named noDrive) o)) && (not (sameList (counted p 0 (segmentOf p v (named noDrive) o)) (below (length (counted p 0 (segmentOf p v (named noDrive) o))))) || not (isNil (uncounted p 0 (segmentOf p v (named noDrive) o))))) ≡ true
+                  → (not (isWhole p (segmentOf p v (named noDrive) o))
+                  && (not (sameList (counted p 0 (segmentOf p v (named noDrive) o))
+                  (below (length (counted p 0 (segmentOf p v (named noDrive) o)))))
+                  || not (isNil (uncounted p 0 (segmentOf p v (named noDrive) o)))))
+                  ≡ true
               reveal q = unfold isRagged in q
 
       pub moved-both : Always (CutTo p r g₀ a s) v (rewriteStores p (segmentOf p v (named noDrive) o) (firstOr 0 (freeZones p gs)) (suc (greatestSerial gs)))
@@ -284,10 +308,19 @@ module _ (p : Params) (r : Ranged p) (v₀ : View) (g₀ : Ghost) (a : List Val)
     mended-right = subst (λ (x : Segment). AllSound p v (mendStores p gs x)) same-G (go (isWhole p (segmentOf p v (named noDrive) o)) refl (isRagged p (segmentOf p v (named noDrive) o)) refl)
       where
         is : (b c : Bool) → isWhole p (segmentOf p v (named noDrive) o) ≡ b → isRagged p (segmentOf p v (named noDrive) o) ≡ c
-            → mendStores p gs (segmentOf p v (named noDrive) o) ≡ cond b (missingFooters p (segmentOf p v (named noDrive) o)) (cond c (rewriteStores p (segmentOf p v (named noDrive) o) (firstOr 0 (freeZones p gs)) (suc (greatestSerial gs))) [])
-        is b c e f = unfold mendStores in ap₂ (λ (x y : Bool). cond x (missingFooters p (segmentOf p v (named noDrive) o)) (cond y (rewriteStores p (segmentOf p v (named noDrive) o) (firstOr 0 (freeZones p gs)) (suc (greatestSerial gs))) [])) e f
+            → mendStores p gs (segmentOf p v (named noDrive) o)
+            ≡ cond b (missingFooters p (segmentOf p v (named noDrive) o))
+            (cond c (rewriteStores p (segmentOf p v (named noDrive) o) (firstOr 0 (freeZones p gs)) (suc (greatestSerial gs))) [])
+        is b c e f =
+            unfold mendStores in ap₂ (λ (x y : Bool). cond x (missingFooters p (segmentOf p v (named noDrive) o))
+            (cond y (rewriteStores p (segmentOf p v (named noDrive) o) (firstOr 0 (freeZones p gs)) (suc (greatestSerial gs))) [])) e f
 
-        go : (b : Bool) → isWhole p (segmentOf p v (named noDrive) o) ≡ b → (c : Bool) → isRagged p (segmentOf p v (named noDrive) o) ≡ c → AllSound p v (mendStores p gs (segmentOf p v (named noDrive) o))
+        go :
+            (b : Bool)
+            → isWhole p (segmentOf p v (named noDrive) o) ≡ b
+            → (c : Bool)
+            → isRagged p (segmentOf p v (named noDrive) o) ≡ c
+            → AllSound p v (mendStores p gs (segmentOf p v (named noDrive) o))
         go true e c f = subst (AllSound p v) (sym (is true c e f)) (feet-right e)
         go false e true f = subst (AllSound p v) (sym (is false true e f)) (moved-right (ap (isRagged p) (sym same-G) ∙ f))
         go false e false f = subst (AllSound p v) (sym (is false false e f)) tt
@@ -296,8 +329,12 @@ module _ (p : Params) (r : Ranged p) (v₀ : View) (g₀ : Ghost) (a : List Val)
     mended = subst (λ (x : Segment). Both (mendStores p gs x)) same-G (go (isWhole p (segmentOf p v (named noDrive) o)) refl (isRagged p (segmentOf p v (named noDrive) o)) refl)
       where
         is : (b c : Bool) → isWhole p (segmentOf p v (named noDrive) o) ≡ b → isRagged p (segmentOf p v (named noDrive) o) ≡ c
-            → mendStores p gs (segmentOf p v (named noDrive) o) ≡ cond b (missingFooters p (segmentOf p v (named noDrive) o)) (cond c (rewriteStores p (segmentOf p v (named noDrive) o) (firstOr 0 (freeZones p gs)) (suc (greatestSerial gs))) [])
-        is b c e f = unfold mendStores in ap₂ (λ (x y : Bool). cond x (missingFooters p (segmentOf p v (named noDrive) o)) (cond y (rewriteStores p (segmentOf p v (named noDrive) o) (firstOr 0 (freeZones p gs)) (suc (greatestSerial gs))) [])) e f
+            → mendStores p gs (segmentOf p v (named noDrive) o)
+            ≡ cond b (missingFooters p (segmentOf p v (named noDrive) o))
+            (cond c (rewriteStores p (segmentOf p v (named noDrive) o) (firstOr 0 (freeZones p gs)) (suc (greatestSerial gs))) [])
+        is b c e f =
+            unfold mendStores in ap₂ (λ (x y : Bool). cond x (missingFooters p (segmentOf p v (named noDrive) o))
+            (cond y (rewriteStores p (segmentOf p v (named noDrive) o) (firstOr 0 (freeZones p gs)) (suc (greatestSerial gs))) [])) e f
 
         go : (b : Bool) → isWhole p (segmentOf p v (named noDrive) o) ≡ b → (c : Bool) → isRagged p (segmentOf p v (named noDrive) o) ≡ c → Both (mendStores p gs (segmentOf p v (named noDrive) o))
         go true e c f = subst Both (sym (is true c e f)) (feet-both e)
@@ -309,7 +346,10 @@ module _ (p : Params) (r : Ranged p) (v₀ : View) (g₀ : Ghost) (a : List Val)
   Whole? l = Always (CutTo p r g₀ a s) v₀ l × RestartDone p r g₀ a s (storeAll storeView l v₀)
 
   join : (l : List Store) → Always (CutTo p r g₀ a s) v l × RestartDone p r g₀ a s (storeAll storeView l v) → Whole? (dropStores p gs ++ l)
-  join l b = (always-append (CutTo p r g₀ a s) v₀ (dropStores p gs) l (drops-cut p r v₀ g₀ a s m lk none) (b .0), subst (RestartDone p r g₀ a s) (sym (storeAll-append storeView (dropStores p gs) l v₀)) (b .1))
+  join l b = (
+    always-append (CutTo p r g₀ a s) v₀ (dropStores p gs) l (drops-cut p r v₀ g₀ a s m lk none) (b .0),
+    subst (RestartDone p r g₀ a s) (sym (storeAll-append storeView (dropStores p gs) l v₀)) (b .1),
+  )
 
   pub healthy : Whole? (restartStores p (named noDrive) gs)
   healthy = subst Whole? (sym stores-are) (go (unsealed gs) refl)
@@ -342,7 +382,8 @@ module _ (p : Params) (r : Ranged p) (v₀ : View) (g₀ : Ghost) (a : List Val)
           none-open : InOrder p v
           none-open z j f = absurd (subst (λ (x : List Segment). Has (segmentOf p v (named noDrive) z) x) (ap unsealed same-gs ∙ e) (has-us p r (withPr g₀ alone) v k z j f))
       go (q ∷ []) e =
-          let z : (z : ℕ) × Has z (remaining p v₀ (named noDrive)) × (q ≡ segmentOf p v₀ (named noDrive) z) × (segmentOf p v₀ (named noDrive) z .full ≡ false) = from q (subst (λ (x : List Segment). Has q x) (sym e) (inl refl)) in
+          let z : (z : ℕ) × Has z (remaining p v₀ (named noDrive)) × (q ≡ segmentOf p v₀ (named noDrive) z) × (segmentOf p v₀ (named noDrive) z .full ≡ false) =
+          from q (subst (λ (x : List Segment). Has q x) (sym e) (inl refl)) in
           subst (λ (x : List Store). Whole? (dropStores p gs ++ x)) (single q (z .0) (z .2)) (join (mendStores p gs (segmentOf p v₀ (named noDrive) (z .0))) (mended (z .0) (z .1) (z .3)))
         where
           single : (q : Segment) (z : ℕ) → q ≡ segmentOf p v₀ (named noDrive) z → mendStores p gs (segmentOf p v₀ (named noDrive) z) ≡ flat (mendStores p gs) (q ∷ [])
@@ -377,8 +418,10 @@ module _ (p : Params) (r : Ranged p) (v₀ : View) (g₀ : Ghost) (a : List Val)
       go : (l : List Segment) → unsealed gs ≡ l → AllSound p v₀ (dropStores p gs ++ flat (mendStores p gs) l)
       go [] e = dropped (flat (mendStores p gs) []) (unfold flat in tt)
       go (q ∷ []) e =
-          let z : (z : ℕ) × Has z (remaining p v₀ (named noDrive)) × (q ≡ segmentOf p v₀ (named noDrive) z) × (segmentOf p v₀ (named noDrive) z .full ≡ false) = from q (subst (λ (x : List Segment). Has q x) (sym e) (inl refl)) in
-          subst (λ (x : List Store). AllSound p v₀ (dropStores p gs ++ x)) (single q (z .0) (z .2)) (dropped (mendStores p gs (segmentOf p v₀ (named noDrive) (z .0))) (mended-right (z .0) (z .1) (z .3)))
+          let z : (z : ℕ) × Has z (remaining p v₀ (named noDrive)) × (q ≡ segmentOf p v₀ (named noDrive) z) × (segmentOf p v₀ (named noDrive) z .full ≡ false) =
+          from q (subst (λ (x : List Segment). Has q x) (sym e) (inl refl)) in
+          subst (λ (x : List Store). AllSound p v₀ (dropStores p gs ++ x)) (single q (z .0) (z .2))
+          (dropped (mendStores p gs (segmentOf p v₀ (named noDrive) (z .0))) (mended-right (z .0) (z .1) (z .3)))
         where
           single : (q : Segment) (z : ℕ) → q ≡ segmentOf p v₀ (named noDrive) z → mendStores p gs (segmentOf p v₀ (named noDrive) z) ≡ flat (mendStores p gs) (q ∷ [])
           single q z h = unfold flat in (ap (mendStores p gs) (sym h) ∙ sym (append-nil (mendStores p gs q)))

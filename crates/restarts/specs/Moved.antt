@@ -82,16 +82,23 @@ module _ (p : Params) (r : Ranged p) (v : View) (w : ℕ) (wb : w < p .Z) where
   -- a row: one store on each drive
   module _ (t : ℕ) (b sp : ℕ → List ℕ) (it : ℕ → Item)
       (kind : (d : ℕ) (u : View) → d < p .N → At t d u → (k : Kind p d w (zoneAt u d w) (b d) (sp d)) × (kindItem p d w (zoneAt u d w) (b d) (sp d) k ≡ it d)) where
-    row-step : (d : ℕ) (u : View) → d < p .N → At t d u → Sound p u (put d w (b d) (sp d)) × (storeItem p u (put d w (b d) (sp d)) ≡ m-put d w (it d)) × At t (suc d) (storeView (put d w (b d) (sp d)) u)
+    row-step :
+        (d : ℕ) (u : View)
+        → d < p .N
+        → At t d u
+        → Sound p u (put d w (b d) (sp d)) × (storeItem p u (put d w (b d) (sp d)) ≡ m-put d w (it d)) × At t (suc d)
+        (storeView (put d w (b d) (sp d)) u)
     row-step d u l a =
         let k : (k : Kind p d w (zoneAt u d w) (b d) (sp d)) × (kindItem p d w (zoneAt u d w) (b d) (sp d) k ≡ it d) = kind d u l a in
         ((l, wb, k .0), store-put p u d w (b d) (sp d) (k .0) ∙ ap (m-put d w) (k .1), at-next t d u (b d) (sp d) l a (k .0))
 
     pub row-follows : (u : View) → At t 0 u
-        → Follows p u (map (λ d. put d w (b d) (sp d)) (upFrom 0 (p .N))) (list (λ d. m-put d w (it d)) 0 (p .N)) × At (suc t) 0 (storeAll storeView (map (λ d. put d w (b d) (sp d)) (upFrom 0 (p .N))) u)
+        → Follows p u (map (λ d. put d w (b d) (sp d)) (upFrom 0 (p .N))) (list (λ d. m-put d w (it d)) 0 (p .N))
+        × At (suc t) 0 (storeAll storeView (map (λ d. put d w (b d) (sp d)) (upFrom 0 (p .N))) u)
     row-follows u a = (
       follows-list p (At t) (λ d. put d w (b d) (sp d)) (λ d. m-put d w (it d)) (p .N) row-step 0 (p .N) (omega arith) u a,
-      at-turn t (storeAll storeView (map (λ d. put d w (b d) (sp d)) (upFrom 0 (p .N))) u) (follows-end p (At t) (λ d. put d w (b d) (sp d)) (λ d. m-put d w (it d)) (p .N) row-step 0 (p .N) (p .N) (omega arith) (omega arith) u a),
+      at-turn t (storeAll storeView (map (λ d. put d w (b d) (sp d)) (upFrom 0 (p .N))) u)
+          (follows-end p (At t) (λ d. put d w (b d) (sp d)) (λ d. m-put d w (it d)) (p .N) row-step 0 (p .N) (p .N) (omega arith) (omega arith) u a),
     )
 
 module _ (p : Params) (r : Ranged p) (g : Ghost) (v : View) (k : Settled p r g v) (o : ℕ) (i : Has o (remaining p v (named noDrive))) (w : ℕ) (wb : w < p .Z)
@@ -174,7 +181,8 @@ module _ (p : Params) (r : Ranged p) (g : Ghost) (v : View) (k : Settled p r g v
       stripe-follow s j hs (omega (arith, jl, plan-few p r g v k o i)) q u a in
       let more : Follows p (storeAll storeView (movedStripe p G w s j) u) (movedStripes p G w ss (suc j)) (rows row (p .N) (suc (suc j)) (length ss))
       × At p r v w wb (suc (length cs)) 0 (storeAll storeView (movedStripes p G w ss (suc j)) (storeAll storeView (movedStripe p G w s j) u)) =
-      moved-follow ss (suc j) (λ t l. h (suc t) (omega arith) ∙ ap (λ (x : ℕ). getD cs x 0) (let q : j + suc t ≡ suc j + t = omega arith in q)) (omega (arith, e)) (storeAll storeView (movedStripe p G w s j) u) (one .1) in (
+      moved-follow ss (suc j) (λ t l. h (suc t) (omega arith) ∙ ap (λ (x : ℕ). getD cs x 0) (let q : j + suc t ≡ suc j + t = omega arith in q))
+      (omega (arith, e)) (storeAll storeView (movedStripe p G w s j) u) (one .1) in (
         follows-append p u (movedStripe p G w s j) (movedStripes p G w ss (suc j)) (list (row (suc j)) 0 (p .N)) (rows row (p .N) (suc (suc j)) (length ss)) (one .0) (more .0),
         subst (At p r v w wb (suc (length cs)) 0) (sym (storeAll-append storeView (movedStripe p G w s j) (movedStripes p G w ss (suc j)) u)) (more .1),
       )
@@ -195,7 +203,8 @@ module _ (p : Params) (r : Ranged p) (g : Ghost) (v : View) (k : Settled p r g v
       let a : Follows p v (headerStores p w n (G .serial)) (list (row 0) 0 (p .N)) × At p r v w wb 1 0 (storeAll storeView (headerStores p w n (G .serial)) v) = headers-follow in
       let v₁ : View = storeAll storeView (headerStores p w n (G .serial)) v in
       let b : Follows p v₁ (movedStripes p G w (counted p 0 G) 0) (rows row (p .N) 1 (length cs)) = moved? v₁ (a .1) in
-      follows-append p v (headerStores p w n (G .serial) ++ movedStripes p G w (counted p 0 G) 0) (resetStores p (G .seg)) (list (row 0) 0 (p .N) ++ rows row (p .N) 1 (length cs)) (drops (parOf p r) gM w o π)
+      follows-append p v (headerStores p w n (G .serial) ++ movedStripes p G w (counted p 0 G) 0) (resetStores p (G .seg))
+      (list (row 0) 0 (p .N) ++ rows row (p .N) 1 (length cs)) (drops (parOf p r) gM w o π)
       (follows-append p v (headerStores p w n (G .serial)) (movedStripes p G w (counted p 0 G) 0) (list (row 0) 0 (p .N)) (rows row (p .N) 1 (length cs)) (a .0) b)
       (resets-follow′ (storeAll storeView (headerStores p w n (G .serial) ++ movedStripes p G w (counted p 0 G) 0) v))
     where

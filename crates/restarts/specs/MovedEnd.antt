@@ -82,7 +82,8 @@ module _ (p : Params) (r : Ranged p) (v₀ : View) (g₀ : Ghost) (a : List Val)
     linked = linked-step p r v₀ (storeAll storeView (take n (dropStores p (segments p v₀ (named noDrive)))) v₀) g₀ g₀ a a s s m off (applyAll (itemsIn p v₀) (take n ms)) lk
         (restart-cut₁ (stateOn p v₀ g₀ a s m) n none ms (dropping p r g₀ v₀ on₀ none))
         (sym (follows-cut p r v₀ (dropStores p (segments p v₀ (named noDrive))) ms n (lk .shape) fd))
-        (shape-cut p r v₀ (dropStores p (segments p v₀ (named noDrive))) ms (lk .shape) fd n) (bytes-cut p r v₀ (dropStores p (segments p v₀ (named noDrive))) ms (lk .shape) fd (g₀ .un) n (lk .bytes));
+        (shape-cut p r v₀ (dropStores p (segments p v₀ (named noDrive))) ms (lk .shape) fd n)
+        (bytes-cut p r v₀ (dropStores p (segments p v₀ (named noDrive))) ms (lk .shape) fd (g₀ .un) n (lk .bytes));
   }
     where
       fd : Follows p v₀ (dropStores p (segments p v₀ (named noDrive))) (dropItems p (segments p v₀ (named noDrive)))
@@ -164,7 +165,8 @@ module _ (p : Params) (r : Ranged p) (v₀ : View) (g₀ : Ghost) (a : List Val)
     low-end d t x l q = rewrite-low (parOf p r) (withPr g₀ alone) (itemsIn p v) w o n π ready (k .rest) (k .on .facts) d t x l (subst (λ (y : m-View). In (chunk t x) (y d w)) items-end q)
 
     has-end : (d t : ℕ) → d < p .N → t < c → (x : Val) × In (chunk t x) (itemsIn p u d w)
-    has-end d t l b = (π .F t d, subst (λ (y : m-View). In (chunk t (π .F t d)) (y d w)) (sym items-end) (rewrite-has (parOf p r) (withPr g₀ alone) (itemsIn p v) w o n π ready (k .rest) (k .on .facts) d t l b))
+    has-end d t l b =
+        (π .F t d, subst (λ (y : m-View). In (chunk t (π .F t d)) (y d w)) (sym items-end) (rewrite-has (parOf p r) (withPr g₀ alone) (itemsIn p v) w o n π ready (k .rest) (k .on .facts) d t l b))
 
     ch : Choice (parOf p r) (gE .un) noDrive
     ch = none-choice p r gE u set-end
@@ -189,16 +191,21 @@ module _ (p : Params) (r : Ranged p) (v₀ : View) (g₀ : Ghost) (a : List Val)
         rises = unfold counted in rising-keep (counts p (named noDrive) (segmentOf p u (named noDrive) w)) (below (p .S)) (rising-below (p .S))
 
     uncounted-is : uncounted p (named noDrive) (segmentOf p u (named noDrive) w) ≡ []
-    uncounted-is = unfold uncounted in keep-nil (λ t. any (hasChunk (segmentOf p u (named noDrive) w) t) (present p (named noDrive)) && not (counts p (named noDrive) (segmentOf p u (named noDrive) w) t)) (below (p .S))
+    uncounted-is =
+        unfold uncounted in keep-nil (λ t. any (hasChunk (segmentOf p u (named noDrive) w) t) (present p (named noDrive))
+        && not (counts p (named noDrive) (segmentOf p u (named noDrive) w) t)) (below (p .S))
         (λ t q. go t (any (hasChunk (segmentOf p u (named noDrive) w) t) (present p (named noDrive))) refl)
       where
         go : (t : ℕ) (b : Bool) → any (hasChunk (segmentOf p u (named noDrive) w) t) (present p (named noDrive)) ≡ b
             → (any (hasChunk (segmentOf p u (named noDrive) w) t) (present p (named noDrive)) && not (counts p (named noDrive) (segmentOf p u (named noDrive) w) t)) ≡ false
         go t false e = and-false-1 (any (hasChunk (segmentOf p u (named noDrive) w) t) (present p (named noDrive))) (not (counts p (named noDrive) (segmentOf p u (named noDrive) w) t)) e
         go t true e =
-            let d : (d : ℕ) × Has d (present p (named noDrive)) × (hasChunk (segmentOf p u (named noDrive) w) t d ≡ true) = any-has (hasChunk (segmentOf p u (named noDrive) w) t) (present p (named noDrive)) e in
+            let d : (d : ℕ) × Has d (present p (named noDrive)) × (hasChunk (segmentOf p u (named noDrive) w) t d ≡ true) =
+            any-has (hasChunk (segmentOf p u (named noDrive) w) t) (present p (named noDrive)) e in
             let l : (d .0 < p .N) × (d .0 ≢ noDrive) = present-has p r noDrive (d .0) (d .1) in
-            let b : t < c = low-end (d .0) t (pieceValue (storedPiece (segmentOf p u (named noDrive) w) t (d .0))) (l .0) (stored-in p r gE u (set-end .on) noDrive ch w t (d .0) wb (l .0) (l .1) (d .2)) in
+            let b : t < c =
+            low-end (d .0) t (pieceValue (storedPiece (segmentOf p u (named noDrive) w) t (d .0))) (l .0)
+            (stored-in p r gE u (set-end .on) noDrive ch w t (d .0) wb (l .0) (l .1) (d .2)) in
             and-false-2 (any (hasChunk (segmentOf p u (named noDrive) w) t) (present p (named noDrive))) (not (counts p (named noDrive) (segmentOf p u (named noDrive) w) t)) (ap not (passes t b))
           where
             passes : (t : ℕ) → t < c → counts p (named noDrive) (segmentOf p u (named noDrive) w) t ≡ true
@@ -222,14 +229,19 @@ module _ (p : Params) (r : Ranged p) (v₀ : View) (g₀ : Ghost) (a : List Val)
           where
             gone : Ragged (parOf p r) noDrive (itemsIn p u) z → ⊥
             gone (d, t, b, f) =
-                let y : itemsIn p u d z ≡ [] = ap (itemsIn p u d) q ∙ ap (λ (x : m-View). x d o) items-end ∙ rewrite-empty (parOf p r) (withPr g₀ alone) (itemsIn p v) w o n π ready (k .rest) (k .on .facts) d (t .0) in
+                let y : itemsIn p u d z ≡ [] =
+                ap (itemsIn p u d) q
+                ∙ ap (λ (x : m-View). x d o) items-end
+                ∙ rewrite-empty (parOf p r) (withPr g₀ alone) (itemsIn p v) w o n π ready (k .rest) (k .on .facts) d (t .0) in
                 let x : 0 < length {A = Item} [] = subst (λ (l : List Item). 0 < length l) y b in let j : ⊥ = omega arith in j
         go (no q) (yes x) = rw x (counted-is ∙ ap below (sym (ap length counted-is ∙ length-below c)), uncounted-is, subst (λ (y : ℕ). y < p .S) (sym (ap length counted-is ∙ length-below c)) part)
         go (no q) (no x) = absurd (q (same rag))
           where
             same : Ragged (parOf p r) noDrive (itemsIn p u) z → z ≡ o
             same (d, t, b, f) =
-                let y : itemsIn p u d z ≡ itemsIn p v d z = ap (λ (x : m-View). x d z) items-end ∙ rewrite-others (parOf p r) (withPr g₀ alone) (itemsIn p v) w o n π ready (k .rest) (k .on .facts) d z q x in
+                let y : itemsIn p u d z ≡ itemsIn p v d z =
+                ap (λ (x : m-View). x d z) items-end
+                ∙ rewrite-others (parOf p r) (withPr g₀ alone) (itemsIn p v) w o n π ready (k .rest) (k .on .facts) d z q x in
                 one (d, (t .0, omega (arith, t .0, none)), subst (λ (l : List Item). 0 < length l) y b, subst (λ (l : List Item). length l < capacity p) y f) (ready .ragged)
               where
                 one : Ragged (parOf p r) (g₀ .un) (itemsIn p v) z → Ragged (parOf p r) (g₀ .un) (itemsIn p v) o → z ≡ o
@@ -272,7 +284,8 @@ module _ (p : Params) (r : Ranged p) (v₀ : View) (g₀ : Ghost) (a : List Val)
           since = false;
           mode = run (restMem (op .0) (op .1) (op .2) (stampTop p u) (serialTop p u));
         })) whole-items
-        (λ rd up rg wh bl sr. m-restart (stateOn p v₀ g₀ a s m) none ms (dropping p r g₀ v₀ on₀ none) w o n π ready₀ (readOn p r gE u set-end) (stampTop p u) rd up (op .0) (op .1) (op .2) (op .3 .few) rg wh bl (serialTop p u) sr)
+        (λ rd up rg wh bl sr. m-restart (stateOn p v₀ g₀ a s m) none ms (dropping p r g₀ v₀ on₀ none) w o n π ready₀ (readOn p r gE u set-end)
+        (stampTop p u) rd up (op .0) (op .1) (op .2) (op .3 .few) rg wh bl (serialTop p u) sr)
         rd up (op .3 .lone) (op .3 .whole) (op .3 .low) sr
 
     cl : Claim (stateOn p v₀ g₀ a s m) (readOn p r gE u set-end)

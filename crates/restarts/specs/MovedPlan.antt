@@ -50,7 +50,8 @@ use Rattle.restarts.specs.Same.{Stripe-none-any}
 
 rising-map : (f : ℕ → ℕ) → ((i j : ℕ) → i < j → f i < f j) → (l : List ℕ) → Rising l → Rising (map f l)
 rising-map f h [] r = tt
-rising-map f h (a ∷ l) r = ((λ b i. let q : (j : ℕ) × Has j l × (b ≡ f j) = map-has f b l i in let w : f a < f (q .0) = h a (q .0) (r .0 (q .0) (q .1)) in omega (arith, w, q .2)), rising-map f h l (r .1))
+rising-map f h (a ∷ l) r =
+    ((λ b i. let q : (j : ℕ) × Has j l × (b ≡ f j) = map-has f b l i in let w : f a < f (q .0) = h a (q .0) (r .0 (q .0) (q .1)) in omega (arith, w, q .2)), rising-map f h l (r .1))
 
 data-rises : (p : Params) (s i j : ℕ) → i < j → dataDrive p s i < dataDrive p s j
 unfolding dataDrive
@@ -58,9 +59,14 @@ data-rises p s i j l = go (decLt i (parityDrive p s)) (decLt j (parityDrive p s)
   where
     go : Dec (i < parityDrive p s) → Dec (j < parityDrive p s) → cond (ltb i (parityDrive p s)) i (suc i) < cond (ltb j (parityDrive p s)) j (suc j)
     go (yes a) (yes b) = rw (cond-true (ltb i (parityDrive p s)) i (suc i) (lt-ltb i (parityDrive p s) a), cond-true (ltb j (parityDrive p s)) j (suc j) (lt-ltb j (parityDrive p s) b)) l
-    go (yes a) (no b) = rw (cond-true (ltb i (parityDrive p s)) i (suc i) (lt-ltb i (parityDrive p s) a), cond-false (ltb j (parityDrive p s)) j (suc j) (le-ltb j (parityDrive p s) (omega arith))) (omega arith)
+    go (yes a) (no b) =
+        rw (cond-true (ltb i (parityDrive p s)) i (suc i) (lt-ltb i (parityDrive p s) a), cond-false (ltb j (parityDrive p s)) j (suc j) (le-ltb j (parityDrive p s) (omega arith))) (omega arith)
     go (no a) (yes b) = absurd (let q : ⊥ = omega arith in q)
-    go (no a) (no b) = rw (cond-false (ltb i (parityDrive p s)) i (suc i) (le-ltb i (parityDrive p s) (omega arith)), cond-false (ltb j (parityDrive p s)) j (suc j) (le-ltb j (parityDrive p s) (omega arith))) (omega arith)
+    go (no a) (no b) =
+        rw (
+          cond-false (ltb i (parityDrive p s)) i (suc i) (le-ltb i (parityDrive p s) (omega arith)),
+          cond-false (ltb j (parityDrive p s)) j (suc j) (le-ltb j (parityDrive p s) (omega arith)),
+        ) (omega arith)
 
 -- the data drives are the drives that aren't parity's, rising
 pub keep-data : (p : Params) → Ranged p → (s : ℕ) → keep (isData p s) (below (p .N)) ≡ dataDrives p s
@@ -87,7 +93,8 @@ xorAll-map-lt k f (q ∷ l) h = xor-lt k (f q) (xorAll (map f l)) (h q (inl refl
 pub parity-wide : (p : Params) (t : ℕ) (qs : List Piece) → t < 256 ^ 4 → ((q : Piece) → Has q qs → Wide (q .rec)) → Wide (parityPiece p t qs .rec)
 unfolding parityPiece parityRec
 parity-wide p t qs l h = record {
-  address = subst (λ (x : List ℕ). xorAll x < 2 ^ 64) (sym (map-map (λ (x : Rec). x .address) (λ (q : Piece). q .rec) qs)) (xorAll-map-lt 64 (λ (q : Piece). q .rec .address) qs (λ q i. h q i .address));
+  address =
+      subst (λ (x : List ℕ). xorAll x < 2 ^ 64) (sym (map-map (λ (x : Rec). x .address) (λ (q : Piece). q .rec) qs)) (xorAll-map-lt 64 (λ (q : Piece). q .rec .address) qs (λ q i. h q i .address));
   stamp = subst (λ (x : List ℕ). xorAll x < 2 ^ 64) (sym (map-map (λ (x : Rec). x .stamp) (λ (q : Piece). q .rec) qs)) (xorAll-map-lt 64 (λ (q : Piece). q .rec .stamp) qs (λ q i. h q i .stamp));
   stripe = l;
 }
@@ -114,7 +121,8 @@ module _ (p : Params) (r : Ranged p) (g : Ghost) (v : View) (k : Settled p r g v
 
   piece-wide : (s d : ℕ) → Has s (counted p (named noDrive) G) → d < p .N → Wide (storedPiece G s d .rec)
   piece-wide s d h l =
-      let a : (offsetOn G d s < dataStored p (zoneAt v d o)) × (recordOf (blockIn (zoneAt v d o) (suc (offsetOn G d s)) .spare) .stripe ≡ s) = offset-on p r g v (k .on) noDrive ch o s d ob l (away d l) (here? s d h l) in
+      let a : (offsetOn G d s < dataStored p (zoneAt v d o)) × (recordOf (blockIn (zoneAt v d o) (suc (offsetOn G d s)) .spare) .stripe ≡ s) =
+      offset-on p r g v (k .on) noDrive ch o s d ob l (away d l) (here? s d h l) in
       let b : (offsetOn G d s < p .S) × (suc (offsetOn G d s) < zoneAt v d o .pointer) = stored-below p (zoneAt v d o) (offsetOn G d s) (a .0) in
       subst (λ (q : Piece). Wide (q .rec)) (sym (stored-piece p r g v (k .on) noDrive ch o s d ob l (away d l) (here? s d h l)))
       (zone-bytes p r g v (k .on) d o l (omega (arith, l, k .none)) ob .wide (offsetOn G d s) (b .0) (b .1))
@@ -143,7 +151,10 @@ module _ (p : Params) (r : Ranged p) (g : Ghost) (v : View) (k : Settled p r g v
 
     on-data : (d : ℕ) → isData p t d ≡ true → d < p .N → movedOn p (movedPieces p G s t) t d ≡ renumbered t (storedPiece G s (dataDrive p s (dataPosition p t d)))
     unfolding movedOn
-    on-data d e l = cond-true (isData p t d) (getD (movedPieces p G s t) (dataPosition p t d) (mkPiece [] (mkRec 0 0 0))) (parityPiece p t (movedPieces p G s t)) e ∙ qs-at (dataPosition p t d) (position-lt p t d e l)
+    on-data d e l =
+        cond-true (isData p t d) (getD (movedPieces p G s t) (dataPosition p t d) (mkPiece [] (mkRec 0 0 0))) (parityPiece p t (movedPieces p G s t))
+        e
+        ∙ qs-at (dataPosition p t d) (position-lt p t d e l)
 
     on-parity : (d : ℕ) → isData p t d ≡ false → movedOn p (movedPieces p G s t) t d ≡ parityPiece p t (movedPieces p G s t)
     unfolding movedOn
@@ -158,17 +169,23 @@ module _ (p : Params) (r : Ranged p) (g : Ghost) (v : View) (k : Settled p r g v
       where
         go : (b : Bool) → isData p t d ≡ b → Wide (movedOn p (movedPieces p G s t) t d .rec)
         go true e = subst (λ (q : Piece). Wide (q .rec)) (sym (on-data d e l))
-            (moved-wide-at (storedPiece G s (dataDrive p s (dataPosition p t d))) (piece-wide s (dataDrive p s (dataPosition p t d)) h (data-drive-lt p s (dataPosition p t d) (position-lt p t d e l))))
+            (moved-wide-at (storedPiece G s (dataDrive p s (dataPosition p t d)))
+            (piece-wide s (dataDrive p s (dataPosition p t d)) h (data-drive-lt p s (dataPosition p t d) (position-lt p t d e l))))
         go false e = subst (λ (q : Piece). Wide (q .rec)) (sym (on-parity d e)) (parity-wide p t (movedPieces p G s t) (omega (arith, tl, r .stripes-high)) (λ q m.
             let a : (j : ℕ) × Has j (below (dataCount p)) × (q ≡ renumbered t (storedPiece G s (dataDrive p s j))) =
             map-has (λ j. renumbered t (storedPiece G s (dataDrive p s j))) q (below (dataCount p)) (subst (λ (x : List Piece). Has q x) qs-is m) in
-            subst (λ (x : Piece). Wide (x .rec)) (sym (a .2)) (moved-wide-at (storedPiece G s (dataDrive p s (a .0))) (piece-wide s (dataDrive p s (a .0)) h (data-drive-lt p s (a .0) (below-has (a .0) (dataCount p) (a .1)))))))
+            subst (λ (x : Piece). Wide (x .rec)) (sym (a .2))
+            (moved-wide-at (storedPiece G s (dataDrive p s (a .0)))
+            (piece-wide s (dataDrive p s (a .0)) h (data-drive-lt p s (a .0) (below-has (a .0) (dataCount p) (a .1)))))))
 
     pub moved-long : (d : ℕ) → d < p .N → length (movedOn p (movedPieces p G s t) t d .block) ≡ p .B
     moved-long d l = go (isData p t d) refl
       where
         go : (b : Bool) → isData p t d ≡ b → length (movedOn p (movedPieces p G s t) t d .block) ≡ p .B
-        go true e = ap (λ (q : Piece). length (q .block)) (on-data d e l) ∙ same (storedPiece G s (dataDrive p s (dataPosition p t d))) ∙ piece-block s (dataDrive p s (dataPosition p t d)) h (data-drive-lt p s (dataPosition p t d) (position-lt p t d e l))
+        go true e =
+            ap (λ (q : Piece). length (q .block)) (on-data d e l)
+            ∙ same (storedPiece G s (dataDrive p s (dataPosition p t d)))
+            ∙ piece-block s (dataDrive p s (dataPosition p t d)) h (data-drive-lt p s (dataPosition p t d) (position-lt p t d e l))
           where
             same : (q : Piece) → length (renumbered t q .block) ≡ length (q .block)
             same q = unfold renumbered in refl
@@ -212,7 +229,11 @@ module _ (p : Params) (r : Ranged p) (g : Ghost) (v : View) (k : Settled p r g v
         let pd : parityDrive p t < p .N = parity-on p r t in
         let np : isData p t (parityDrive p t) ≡ false = parity-not t in
         let e : F (parityDrive p t) ≡ X =
-        ap pieceValue (on-parity (parityDrive p t) np) ∙ parity-value p t (movedPieces p G s t) qs-long ∙ ap xorL (sym values-same) ∙ ap (λ (l : List ℕ). xorL (map F l)) (sym (keep-data p r t)) ∙ xor-below (isData p t) F (p .N) in
+        ap pieceValue (on-parity (parityDrive p t) np)
+        ∙ parity-value p t (movedPieces p G s t) qs-long
+        ∙ ap xorL (sym values-same)
+        ∙ ap (λ (l : List ℕ). xorL (map F l)) (sym (keep-data p r t))
+        ∙ xor-below (isData p t) F (p .N) in
         xorN-put (p .N) (parityDrive p t) F (onlyWhere (isData p t) F) pd (λ d l n. sym (only-there (isData p t) F d (is-data p t d n))) (only-else (isData p t) F (parityDrive p t) np)
         ∙ ap (λ (x : Val). x ⊕ X) e ∙ ⊕-self X
       where

@@ -54,11 +54,15 @@ unfolding rebuiltZone headStore lostRest lostStores lostStore lostFeet lostSpare
 rebuilt-parts p d g =
     let cs = keep (counts p (named d) g) (below (p .S)) in
     let z = zoneOn (g .seg) d in
-    ap (λ (l : List Store). put d z (headerBlock p d z (g .serial) (g .copied)) zeroSpare ∷ (l ++ cond (g .full) (map (λ i. put d z (footerBlock p (lostSpares p d g) i) zeroSpare) (below (footers p))) []))
+    ap (λ (l : List Store). put d z (headerBlock p d z (g .serial) (g .copied)) zeroSpare ∷
+    (l ++ cond (g .full) (map (λ i. put d z (footerBlock p (lostSpares p d g) i) zeroSpare) (below (footers p))) []))
     (map-map (putPiece d z) (λ s. pieceOf p (named d) g s d) cs)
 
 -- the stores of a rebuilt zone are puts on it
-feet-puts : (p : Params) (d : ℕ) (g : Segment) → lostFeet p d g ≡ map (putAt d (zoneOn (g .seg) d)) (cond (g .full) (map (λ i. mkChunk (footerBlock p (lostSpares p d g) i) zeroSpare) (below (footers p))) [])
+feet-puts :
+    (p : Params) (d : ℕ) (g : Segment)
+    → lostFeet p d g ≡ map (putAt d (zoneOn (g .seg) d))
+    (cond (g .full) (map (λ i. mkChunk (footerBlock p (lostSpares p d g) i) zeroSpare) (below (footers p))) [])
 unfolding lostFeet putAt
 feet-puts p d g = go (g .full)
   where

@@ -50,7 +50,9 @@ fn put_header_with(
     requires { ⌜ inRange p ≡ true ⌝ }
     requires { ⌜ Whole p (mkDisk (now image) (now pointers)) ⌝ }
     requires { ⌜ (drive < p .N) × (zone < p .Z) × (pointerOf p (now pointers) drive zone < capacity p) × (length (now unit) ≡ unitLen p) × (now spare ≡ zeroSpare) ⌝ }
-    ensures { λ r. ⌜ Storing p count (put drive zone (headerBlock p drive zone (serial .0) (copied .0)) zeroSpare ∷ []) (mkDisk (now (image .entry)) (now (pointers .entry))) r (mkDisk (now (image .exit)) (now (pointers .exit))) ⌝ }
+    ensures { λ r. ⌜
+        Storing p count (put drive zone (headerBlock p drive zone (serial .0) (copied .0)) zeroSpare ∷ [])
+        (mkDisk (now (image .entry)) (now (pointers .entry))) r (mkDisk (now (image .exit)) (now (pointers .exit))) ⌝ }
 {
     records::write_header(unit, p, drive, zone, serial, copied);
     let b = p.B;
@@ -71,7 +73,9 @@ pub fn put_header(
     requires { ⌜ inRange p ≡ true ⌝ }
     requires { ⌜ Whole p (mkDisk (now image) (now pointers)) ⌝ }
     requires { ⌜ (drive < p .N) × (zone < p .Z) × (pointerOf p (now pointers) drive zone < capacity p) ⌝ }
-    ensures { λ r. ⌜ Storing p count (put drive zone (headerBlock p drive zone (serial .0) (copied .0)) zeroSpare ∷ []) (mkDisk (now (image .entry)) (now (pointers .entry))) r (mkDisk (now (image .exit)) (now (pointers .exit))) ⌝ }
+    ensures { λ r. ⌜
+        Storing p count (put drive zone (headerBlock p drive zone (serial .0) (copied .0)) zeroSpare ∷ [])
+        (mkDisk (now (image .entry)) (now (pointers .entry))) r (mkDisk (now (image .exit)) (now (pointers .exit))) ⌝ }
 {
     let mut unit = [0u8; 4116];
     let spare = [0u8; 20];

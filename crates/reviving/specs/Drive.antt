@@ -127,7 +127,8 @@ module _ (p : Params) (d n : ℕ) (flags : List Bool) (k₀ : Disk) where
 
   pub zones-done : (g left : ℕ) (k : Disk) → Zones g left k → p .Z ≤ g → Storing p n (zonesStores p d (seen p k₀) flags) k₀ (record { left = left; cut = false }) k
   zones-done g left k s h = moving-done p (named d) n (zonesStores p d (seen p k₀) flags) k₀ left k
-      (moving-as p (named d) n (zonesStores p d (seen p k₀) flags) k₀ (flat (oneStores p d (seen p k₀) flags) (upFrom g (p .Z - g))) [] left k (flat-end (oneStores p d (seen p k₀) flags) g (p .Z) h) (s .moving))
+      (moving-as p (named d) n (zonesStores p d (seen p k₀) flags) k₀ (flat (oneStores p d (seen p k₀) flags) (upFrom g (p .Z - g))) [] left k
+      (flat-end (oneStores p d (seen p k₀) flags) g (p .Z) h) (s .moving))
 
 module _ (p : Params) (r : Ranged p) (d n : ℕ) (hd : d < p .N) (flags : List Bool) (k₀ : Disk) (g left : ℕ) (k : Disk) (s : Zones p d n flags k₀ g left k) (hg : g < p .Z) where
   abbrev ours : List Store
@@ -231,7 +232,9 @@ module _ (p : Params) (r : Ranged p) (d n : ℕ) (hd : d < p .N) (flags : List B
       where
         zone! : zoneAt (seen p k) d z ≡ storeAll zoneStore (reset d z ∷ []) (zoneAt (seen p k₀) d z)
         zone! =
-            ap (λ (v : View). zoneAt v d z) (seen-after p r k₀ k (driveResets p d) w (going-first p n every k₀ (driveResets p d) (zonesStores p d (seen p k₀) flags) n k₀ (begun .going)) (storing-all p n (driveResets p d) k₀ m k t c))
+            ap (λ (v : View). zoneAt v d z) (seen-after p r k₀ k (driveResets p d) w
+            (going-first p n every k₀ (driveResets p d) (zonesStores p d (seen p k₀) flags) n k₀ (begun .going))
+            (storing-all p n (driveResets p d) k₀ m k t c))
             ∙ zone-after p (seen p k₀) d z (driveResets p d) (sized-of p k₀ w) hd hz ∙ ap (λ (l : List Store). storeAll zoneStore l (zoneAt (seen p k₀) d z)) (reset-hit p d z hz)
 
         nought : storeAll zoneStore (reset d z ∷ []) (zoneAt (seen p k₀) d z) .pointer ≡ 0

@@ -98,7 +98,9 @@ module _ (p : Params) (r : Ranged p) (d g n : ℕ) (hd : d < p .N) (hg : g < p .
 
   module _ (fits : AllFit p (seen p k₀) (rebuiltZone p d sg)) (zero! : pointerOf p (k₀ .pointers) d g ≡ 0) where
     whole-list : Moving p (named d) n (rebuiltZone p d sg) k₀ ((headStore p d sg ∷ []) ++ lostRest p d sg) n k₀
-    whole-list = moving-as p (named d) n (rebuiltZone p d sg) k₀ (rebuiltZone p d sg) ((headStore p d sg ∷ []) ++ lostRest p d sg) n k₀ (rebuilt-parts p d sg) (moving-start p (named d) n (rebuiltZone p d sg) k₀ w fits)
+    whole-list =
+        moving-as p (named d) n (rebuiltZone p d sg) k₀ (rebuiltZone p d sg) ((headStore p d sg ∷ []) ++ lostRest p d sg) n k₀ (rebuilt-parts p d sg)
+        (moving-start p (named d) n (rebuiltZone p d sg) k₀ w fits)
 
     head-on : OnDrive d (headStore p d sg ∷ [])
     head-on e y q = head-apart p d sg e y (off-left d e (zoneOn (sg .seg) d) y q)

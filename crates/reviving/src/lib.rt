@@ -34,7 +34,9 @@ fn rebuild_data(
     requires { ⌜ full ≡ sealedIn p (viewOf p (now image) (now pointers)) (named drive) seg ⌝ }
     requires { ⌜ recsFault p (named drive) (segmentOf p (viewOf p (now image) (now pointers)) (named drive) seg) ≡ false ⌝ }
     requires { ⌜ AllFit p (viewOf p (now image) (now pointers)) (lostRest p drive (segmentOf p (viewOf p (now image) (now pointers)) (named drive) seg)) ⌝ }
-    ensures { λ r. ⌜ Storing p count (lostRest p drive (segmentOf p (viewOf p (now (image .entry)) (now (pointers .entry))) (named drive) seg)) (mkDisk (now (image .entry)) (now (pointers .entry))) r (mkDisk (now (image .exit)) (now (pointers .exit))) ⌝ }
+    ensures { λ r. ⌜
+        Storing p count (lostRest p drive (segmentOf p (viewOf p (now (image .entry)) (now (pointers .entry))) (named drive) seg))
+        (mkDisk (now (image .entry)) (now (pointers .entry))) r (mkDisk (now (image .exit)) (now (pointers .exit))) ⌝ }
 {
     let made = decoding::put_groups(p, image, pointers, gone, seg, full, drive, count);
     if made.cut {
@@ -63,7 +65,9 @@ fn rebuild_zone(
     requires { ⌜ (gone ≡ named drive) × (drive < p .N) × (seg < p .Z) × (pointerOf p (now pointers) drive seg ≡ 0) ⌝ }
     requires { ⌜ recsFault p (named drive) (segmentOf p (viewOf p (now image) (now pointers)) (named drive) seg) ≡ false ⌝ }
     requires { ⌜ AllFit p (viewOf p (now image) (now pointers)) (rebuiltZone p drive (segmentOf p (viewOf p (now image) (now pointers)) (named drive) seg)) ⌝ }
-    ensures { λ r. ⌜ Storing p count (rebuiltZone p drive (segmentOf p (viewOf p (now (image .entry)) (now (pointers .entry))) (named drive) seg)) (mkDisk (now (image .entry)) (now (pointers .entry))) r (mkDisk (now (image .exit)) (now (pointers .exit))) ⌝ }
+    ensures { λ r. ⌜
+        Storing p count (rebuiltZone p drive (segmentOf p (viewOf p (now (image .entry)) (now (pointers .entry))) (named drive) seg))
+        (mkDisk (now (image .entry)) (now (pointers .entry))) r (mkDisk (now (image .exit)) (now (pointers .exit))) ⌝ }
 {
     let low = remains::low_drive(p, gone);
     let serial = remains::serial_on(p, image, low, seg);
@@ -93,7 +97,9 @@ fn rebuild_if(
     requires { ⌜ (gone ≡ named drive) × (drive < p .N) × (seg < p .Z) × (pointerOf p (now pointers) drive seg ≡ 0) ⌝ }
     requires { ⌜ (kept ≡ true → recsFault p (named drive) (segmentOf p (viewOf p (now image) (now pointers)) (named drive) seg) ≡ false) ⌝ }
     requires { ⌜ AllFit p (viewOf p (now image) (now pointers)) (cond kept (rebuiltZone p drive (segmentOf p (viewOf p (now image) (now pointers)) (named drive) seg)) []) ⌝ }
-    ensures { λ r. ⌜ Storing p count (cond kept (rebuiltZone p drive (segmentOf p (viewOf p (now (image .entry)) (now (pointers .entry))) (named drive) seg)) []) (mkDisk (now (image .entry)) (now (pointers .entry))) r (mkDisk (now (image .exit)) (now (pointers .exit))) ⌝ }
+    ensures { λ r. ⌜
+        Storing p count (cond kept (rebuiltZone p drive (segmentOf p (viewOf p (now (image .entry)) (now (pointers .entry))) (named drive) seg)) [])
+        (mkDisk (now (image .entry)) (now (pointers .entry))) r (mkDisk (now (image .exit)) (now (pointers .exit))) ⌝ }
 {
     if !kept {
         return Made {
@@ -120,7 +126,9 @@ fn rebuild_zones(
     requires { ⌜ EmptyFrom p drive 0 (now pointers) ⌝ }
     requires { ⌜ GoodRecs p drive (viewOf p (now image) (now pointers)) (now kept) ⌝ }
     requires { ⌜ AllFit p (viewOf p (now image) (now pointers)) (zonesStores p drive (viewOf p (now image) (now pointers)) (now kept)) ⌝ }
-    ensures { λ r. ⌜ Storing p count (zonesStores p drive (viewOf p (now (image .entry)) (now (pointers .entry))) (now (kept .entry))) (mkDisk (now (image .entry)) (now (pointers .entry))) r (mkDisk (now (image .exit)) (now (pointers .exit))) ⌝ }
+    ensures { λ r. ⌜
+        Storing p count (zonesStores p drive (viewOf p (now (image .entry)) (now (pointers .entry))) (now (kept .entry)))
+        (mkDisk (now (image .entry)) (now (pointers .entry))) r (mkDisk (now (image .exit)) (now (pointers .exit))) ⌝ }
 {
     let mut left = count;
     let mut g = 0;
@@ -150,7 +158,9 @@ pub fn rebuild_stores(
     requires { ⌜ (gone ≡ named drive) × (drive < p .N) × (p .Z ≤ length (now kept)) ⌝ }
     requires { ⌜ GoodRecs p drive (viewOf p (now image) (now pointers)) (now kept) ⌝ }
     requires { ⌜ AllFit p (viewOf p (now image) (now pointers)) (driveStores p drive (viewOf p (now image) (now pointers)) (now kept)) ⌝ }
-    ensures { λ r. ⌜ Storing p count (driveStores p drive (viewOf p (now (image .entry)) (now (pointers .entry))) (now (kept .entry))) (mkDisk (now (image .entry)) (now (pointers .entry))) r (mkDisk (now (image .exit)) (now (pointers .exit))) ⌝ }
+    ensures { λ r. ⌜
+        Storing p count (driveStores p drive (viewOf p (now (image .entry)) (now (pointers .entry))) (now (kept .entry)))
+        (mkDisk (now (image .entry)) (now (pointers .entry))) r (mkDisk (now (image .exit)) (now (pointers .exit))) ⌝ }
 {
     let made = restoring::reset_drive(p, pointers, drive, count);
     if made.cut {

@@ -75,7 +75,10 @@ from-step p g b k n h =
     first c = unfold upFrom keep in split (counts p 0 g (b + k)) (keep (counts p 0 g) (upFrom (suc (b + k)) (n - (k + 1))))
 
 -- one group, then the others
-pub from-group : (p : Params) (g : Segment) (base : ℕ) → base < p .S → countedFrom p g base (p .S - base) ≡ countedFrom p g base (groupLen p base) ++ countedFrom p g (base + p .G) (p .S - (base + p .G))
+pub from-group :
+    (p : Params) (g : Segment) (base : ℕ)
+    → base < p .S
+    → countedFrom p g base (p .S - base) ≡ countedFrom p g base (groupLen p base) ++ countedFrom p g (base + p .G) (p .S - (base + p .G))
 unfolding countedFrom
 from-group p g base h = ap (keep (counts p 0 g)) (stripes-step p base h) ∙ keep-append (counts p 0 g) (upFrom base (groupLen p base)) (upFrom (base + p .G) (p .S - (base + p .G)))
 
@@ -134,7 +137,9 @@ module _ (p : Params) (r : Ranged p) (g : Segment) (to seg : ℕ) (hz : seg < p 
     ss = movedStripes p g to L (m₀ .next)
 
     parts : Moves p (m₀ .left) ss k₀ seg (movedStripes p g to A (m .next) ++ movedStripes p g to B (m .next + length A)) (m .left) k
-    parts = moves-as p (m₀ .left) ss k₀ seg (movedStripes p g to (A ++ B) (m .next)) (movedStripes p g to A (m .next) ++ movedStripes p g to B (m .next + length A)) (m .left) k (moved-append p g to A B (m .next)) (u .moves)
+    parts =
+        moves-as p (m₀ .left) ss k₀ seg (movedStripes p g to (A ++ B) (m .next))
+        (movedStripes p g to A (m .next) ++ movedStripes p g to B (m .next + length A)) (m .left) k (moved-append p g to A B (m .next)) (u .moves)
 
     pub upto-first : AllFit p (seen p k) (movedStripes p g to A (m .next))
     upto-first = moves-first p (m₀ .left) ss k₀ seg (movedStripes p g to A (m .next)) (movedStripes p g to B (m .next + length A)) (m .left) k parts
@@ -149,7 +154,8 @@ module _ (p : Params) (r : Ranged p) (g : Segment) (to seg : ℕ) (hz : seg < p 
       pub upto-turn : m′ .cut ≡ false → Upto p g to seg m₀ k₀ L B m′ k′
       upto-turn c = record {
         moves = subst (λ (x : ℕ). Moves p (m₀ .left) ss k₀ seg (movedStripes p g to B x) (m′ .left) k′) (sym (s .number c))
-            (moves-turn p r (m₀ .left) ss k₀ seg hz (movedStripes p g to A (m .next)) (movedStripes p g to B (m .next + length A)) (m .left) k (madeBy m′) k′ parts (s .stored) c (λ e he. moved-misses p g to A (m .next) e seg he ne));
+            (moves-turn p r (m₀ .left) ss k₀ seg hz (movedStripes p g to A (m .next)) (movedStripes p g to B (m .next + length A)) (m .left) k
+            (madeBy m′) k′ parts (s .stored) c (λ e he. moved-misses p g to A (m .next) e seg he ne));
         number = let e = s .number c in let f = u .number in let l = length-append A B in omega arith;
         uncut = c;
       }

@@ -46,13 +46,15 @@ module _ (p : Params) (r : Ranged p) (n seg : ℕ) (hz : seg < p .Z) (to : ℕ) 
   -- nothing is stored yet
   pub rewrite-start : Whole p k₀ → AllFit p (seen p k₀) (rewriteStores p (segmentOf p (seen p k₀) 0 seg) to serial)
       → Moves p n (rewriteStores p (segmentOf p (seen p k₀) 0 seg) to serial) k₀ seg
-      (headerStores p to serial (segmentOf p (seen p k₀) 0 seg .serial) ++ (movedStripes p (segmentOf p (seen p k₀) 0 seg) to (counted p 0 (segmentOf p (seen p k₀) 0 seg)) 0 ++ resetStores p seg)) n k₀
+      (headerStores p to serial (segmentOf p (seen p k₀) 0 seg .serial) ++
+      (movedStripes p (segmentOf p (seen p k₀) 0 seg) to (counted p 0 (segmentOf p (seen p k₀) 0 seg)) 0 ++ resetStores p seg)) n k₀
   rewrite-start w f = moves-as p n all! k₀ seg all! (heads ++ (movs ++ resetStores p seg)) n k₀ in-parts (moves-start p n all! k₀ seg w f)
 
   head-misses : (e : ℕ) → e < p .N → hits e seg heads ≡ []
   head-misses e he = hits-headers p e seg to serial (x .serial) he ∙ cond-false (eqb to seg) (put e to (headerBlock p e to serial (x .serial)) zeroSpare ∷ []) [] (ne-eqb to seg ne)
 
-  module _ (w : Whole p k₀) (f : AllFit p (seen p k₀) (rewriteStores p (segmentOf p (seen p k₀) 0 seg) to serial)) (copied : ℕ) (ec : copied ≡ segmentOf p (seen p k₀) 0 seg .serial) (m₁ : Made) (k₁ : Disk)
+  module _ (w : Whole p k₀) (f : AllFit p (seen p k₀) (rewriteStores p (segmentOf p (seen p k₀) 0 seg) to serial)) (copied : ℕ)
+      (ec : copied ≡ segmentOf p (seen p k₀) 0 seg .serial) (m₁ : Made) (k₁ : Disk)
       (s₁ : Storing p n (headerStores p to serial copied) k₀ m₁ k₁) where
     first : Storing p n heads k₀ m₁ k₁
     first = subst (λ (c : ℕ). Storing p n (headerStores p to serial c) k₀ m₁ k₁) ec s₁
@@ -90,7 +92,11 @@ module _ (p : Params) (r : Ranged p) (n seg : ℕ) (hz : seg < p .Z) (to : ℕ) 
         rewrite-moves c = moves-cut p n all! k₀ seg movs (resetStores p seg) (m₁ .left) k₁ m₂ k₂ headed second c
 
         -- the resets, done or cut
-        pub rewrite-resets : m₂ .cut ≡ false → (m₃ : Made) (k₃ : Disk) → Storing p (m₂ .left) (resetStores p seg) k₂ m₃ k₃ → Storing p n (rewriteStores p (segmentOf p (seen p k₀) 0 seg) to serial) k₀ m₃ k₃
+        pub rewrite-resets :
+            m₂ .cut ≡ false
+            → (m₃ : Made) (k₃ : Disk)
+            → Storing p (m₂ .left) (resetStores p seg) k₂ m₃ k₃
+            → Storing p n (rewriteStores p (segmentOf p (seen p k₀) 0 seg) to serial) k₀ m₃ k₃
         rewrite-resets c m₃ k₃ s =
             moves-turn p r n all! k₀ seg hz movs (resetStores p seg) (m₁ .left) k₁ m₂ k₂ headed second c (λ e he. moved-misses p x to (counted p 0 x) 0 e seg he ne) .going .owes m₃ k₃ s
 

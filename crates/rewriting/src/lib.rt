@@ -40,8 +40,13 @@ fn move_if(
     requires { ⌜ Shown p w (now at) k ⌝ }
     requires { ⌜ Reads p (now image) (now pointers) w (now at) ⌝ }
     requires { ⌜ (to < p .Z) × (m .next ≤ w .base + k) × (m .cut ≡ false) × (to ≡ w .seg → ⊥) ⌝ }
-    requires { ⌜ AllFit p (viewOf p (now image) (now pointers)) (movedStripes p (segmentIn p (now image) (now pointers) w) to (itself p (segmentIn p (now image) (now pointers) w) (w .base + k)) (m .next)) ⌝ }
-    ensures { λ r. ⌜ Step p (segmentIn p (now (image .entry)) (now (pointers .entry)) w) to (itself p (segmentIn p (now (image .entry)) (now (pointers .entry)) w) (w .base + k)) m (mkDisk (now (image .entry)) (now (pointers .entry))) r (mkDisk (now (image .exit)) (now (pointers .exit))) ⌝ }
+    requires { ⌜
+        AllFit p (viewOf p (now image) (now pointers))
+        (movedStripes p (segmentIn p (now image) (now pointers) w) to (itself p (segmentIn p (now image) (now pointers) w) (w .base + k)) (m .next)) ⌝ }
+    ensures { λ r. ⌜
+        Step p (segmentIn p (now (image .entry)) (now (pointers .entry)) w) to
+        (itself p (segmentIn p (now (image .entry)) (now (pointers .entry)) w) (w .base + k)) m
+        (mkDisk (now (image .entry)) (now (pointers .entry))) r (mkDisk (now (image .exit)) (now (pointers .exit))) ⌝ }
 {
     if !groups::counts(p, w.gone, at, k) {
         return m;
@@ -69,8 +74,14 @@ fn move_group(
     requires { ⌜ (length (now at) ≡ 2048) × (w .seg < p .Z) × (w .base < p .S) × (w .base % p .G ≡ 0) × (w .gone ≡ 0) ⌝ }
     requires { ⌜ (w .full ≡ sealedIn p (viewOf p (now image) (now pointers)) (w .gone) (w .seg)) × (recsFault p (w .gone) (segmentIn p (now image) (now pointers) w) ≡ false) ⌝ }
     requires { ⌜ (to < p .Z) × (m .next ≤ w .base) × (m .cut ≡ false) × (to ≡ w .seg → ⊥) ⌝ }
-    requires { ⌜ AllFit p (viewOf p (now image) (now pointers)) (movedStripes p (segmentIn p (now image) (now pointers) w) to (countedFrom p (segmentIn p (now image) (now pointers) w) (w .base) (groupLen p (w .base))) (m .next)) ⌝ }
-    ensures { λ r. ⌜ Step p (segmentIn p (now (image .entry)) (now (pointers .entry)) w) to (countedFrom p (segmentIn p (now (image .entry)) (now (pointers .entry)) w) (w .base) (groupLen p (w .base))) m (mkDisk (now (image .entry)) (now (pointers .entry))) r (mkDisk (now (image .exit)) (now (pointers .exit))) ⌝ }
+    requires { ⌜
+        AllFit p (viewOf p (now image) (now pointers))
+        (movedStripes p (segmentIn p (now image) (now pointers) w) to
+        (countedFrom p (segmentIn p (now image) (now pointers) w) (w .base) (groupLen p (w .base))) (m .next)) ⌝ }
+    ensures { λ r. ⌜
+        Step p (segmentIn p (now (image .entry)) (now (pointers .entry)) w) to
+        (countedFrom p (segmentIn p (now (image .entry)) (now (pointers .entry)) w) (w .base) (groupLen p (w .base))) m
+        (mkDisk (now (image .entry)) (now (pointers .entry))) r (mkDisk (now (image .exit)) (now (pointers .exit))) ⌝ }
 {
     groups::index_group(p, image, pointers, w, at);
     let len = groups::group_len(p, w.base);
@@ -97,9 +108,20 @@ fn move_stripes(
 ) -> Made
     requires { ⌜ inRange p ≡ true ⌝ }
     requires { ⌜ Whole p (mkDisk (now image) (now pointers)) ⌝ }
-    requires { ⌜ (seg < p .Z) × (to < p .Z) × (sealedIn p (viewOf p (now image) (now pointers)) 0 seg ≡ false) × (recsFault p 0 (segmentOf p (viewOf p (now image) (now pointers)) 0 seg) ≡ false) × (to ≡ seg → ⊥) ⌝ }
-    requires { ⌜ AllFit p (viewOf p (now image) (now pointers)) (movedStripes p (segmentOf p (viewOf p (now image) (now pointers)) 0 seg) to (counted p 0 (segmentOf p (viewOf p (now image) (now pointers)) 0 seg)) 0) ⌝ }
-    ensures { λ r. ⌜ Storing p count (movedStripes p (segmentOf p (viewOf p (now (image .entry)) (now (pointers .entry))) 0 seg) to (counted p 0 (segmentOf p (viewOf p (now (image .entry)) (now (pointers .entry))) 0 seg)) 0) (mkDisk (now (image .entry)) (now (pointers .entry))) r (mkDisk (now (image .exit)) (now (pointers .exit))) ⌝ }
+    requires { ⌜
+        (seg < p .Z)
+        × (to < p .Z)
+        × (sealedIn p (viewOf p (now image) (now pointers)) 0 seg ≡ false)
+        × (recsFault p 0 (segmentOf p (viewOf p (now image) (now pointers)) 0 seg) ≡ false)
+        × (to ≡ seg → ⊥) ⌝ }
+    requires { ⌜
+        AllFit p (viewOf p (now image) (now pointers))
+        (movedStripes p (segmentOf p (viewOf p (now image) (now pointers)) 0 seg) to
+        (counted p 0 (segmentOf p (viewOf p (now image) (now pointers)) 0 seg)) 0) ⌝ }
+    ensures { λ r. ⌜
+        Storing p count (movedStripes p (segmentOf p (viewOf p (now (image .entry)) (now (pointers .entry))) 0 seg) to
+        (counted p 0 (segmentOf p (viewOf p (now (image .entry)) (now (pointers .entry))) 0 seg)) 0)
+        (mkDisk (now (image .entry)) (now (pointers .entry))) r (mkDisk (now (image .exit)) (now (pointers .exit))) ⌝ }
 {
     let mut at = [0u16; 2048];
     let mut m = Moved {
@@ -143,10 +165,17 @@ pub fn rewrite(
 ) -> Made
     requires { ⌜ inRange p ≡ true ⌝ }
     requires { ⌜ Whole p (mkDisk (now image) (now pointers)) ⌝ }
-    requires { ⌜ (seg < p .Z) × (to < p .Z) × (sealedIn p (viewOf p (now image) (now pointers)) 0 seg ≡ false) × (recsFault p 0 (segmentOf p (viewOf p (now image) (now pointers)) 0 seg) ≡ false) × (to ≡ seg → ⊥) ⌝ }
+    requires { ⌜
+        (seg < p .Z)
+        × (to < p .Z)
+        × (sealedIn p (viewOf p (now image) (now pointers)) 0 seg ≡ false)
+        × (recsFault p 0 (segmentOf p (viewOf p (now image) (now pointers)) 0 seg) ≡ false)
+        × (to ≡ seg → ⊥) ⌝ }
     requires { ⌜ (copied .0 ≡ segmentOf p (viewOf p (now image) (now pointers)) 0 seg .serial) × ((d : ℕ) → d < p .N → pointerOf p (now pointers) d to ≡ 0) ⌝ }
     requires { ⌜ AllFit p (viewOf p (now image) (now pointers)) (rewriteStores p (segmentOf p (viewOf p (now image) (now pointers)) 0 seg) to (serial .0)) ⌝ }
-    ensures { λ r. ⌜ Storing p count (rewriteStores p (segmentOf p (viewOf p (now (image .entry)) (now (pointers .entry))) 0 seg) to (serial .0)) (mkDisk (now (image .entry)) (now (pointers .entry))) r (mkDisk (now (image .exit)) (now (pointers .exit))) ⌝ }
+    ensures { λ r. ⌜
+        Storing p count (rewriteStores p (segmentOf p (viewOf p (now (image .entry)) (now (pointers .entry))) 0 seg) to (serial .0))
+        (mkDisk (now (image .entry)) (now (pointers .entry))) r (mkDisk (now (image .exit)) (now (pointers .exit))) ⌝ }
 {
     let made = zones::header_stores(p, image, pointers, to, serial, copied, count);
     if made.cut {

@@ -96,7 +96,8 @@ module _ (p : Params) (h : Ranged p) (g : Ghost) (v : m-View) (st : State) (fl :
 
   there : (j : ℕ) → j < 8 → inUse st j ≡ true
       → SlotOf p v (beginStripe st i) fl (M .zone) j (begunMem (parOf p h) M .F (stripeIn (beginStripe st i) j)) (begunMem (parOf p h) M .ready (stripeIn (beginStripe st i) j))
-  there j jl q = slot-keep p h (λ e. v e (M .zone)) (λ e. v e (M .zone)) (slotBlock p fl j) (slotBlock p fl j) (entryIn st j) (entryIn (beginStripe st i) j) (offsetIn st j) (offsetIn (beginStripe st i) j)
+  there j jl q =
+      slot-keep p h (λ e. v e (M .zone)) (λ e. v e (M .zone)) (slotBlock p fl j) (slotBlock p fl j) (entryIn st j) (entryIn (beginStripe st i) j) (offsetIn st j) (offsetIn (beginStripe st i) j)
       (stripeIn st j) (stripeIn (beginStripe st i) j) (filledIn st j) (filledIn (beginStripe st i) j) (landedIn st j) (landedIn (beginStripe st i) j)
       (begunMem (parOf p h) M .F (stripeIn (beginStripe st i) j)) (begunMem (parOf p h) M .ready (stripeIn (beginStripe st i) j))
       (S .number) (S .filled) (S .landed) (λ e el. refl) (S .entry) (S .offset) (λ e x y el w. w) (λ e x el w. w)
@@ -128,7 +129,10 @@ module _ (p : Params) (h : Ranged p) (g : Ghost) (v : m-View) (st : State) (fl :
     serial-fits = unfold beginStripe in R .serial-fits;
     flying = λ j jl q. ⊎-elim (λ (e : j ≡ i). rw (e, number) (setAt-here (M .fly) s true))
         (λ (e : inUse st j ≡ true). rw (numbers j e) (setAt-elim (λ (x : Bool). x ≡ true) (M .fly) s true (stripeIn st j) (λ w. refl) (λ w. R .flying j jl e))) (with-cases j q);
-    slot = λ j jl q. ⊎-elim (λ (e : j ≡ i). subst (λ (x : ℕ). SlotOf p v (beginStripe st i) fl (M .zone) x (begunMem (parOf p h) M .F (stripeIn (beginStripe st i) x)) (begunMem (parOf p h) M .ready (stripeIn (beginStripe st i) x))) (sym e) here)
+    slot =
+        λ j jl q. ⊎-elim (λ (e : j ≡ i). subst (λ (x : ℕ). SlotOf p v (beginStripe st i) fl (M .zone) x
+        (begunMem (parOf p h) M .F (stripeIn (beginStripe st i) x)) (begunMem (parOf p h) M .ready (stripeIn (beginStripe st i) x))) (sym e)
+        here)
         (λ (e : inUse st j ≡ true). there j jl e) (with-cases j q);
     once = λ j l jl ll q w e. once j l jl ll (with-cases j q) (with-cases l w) e;
     flies = λ x q. flies x q (ℕ-discrete x s);
@@ -164,7 +168,8 @@ module _ (p : Params) (h : Ranged p) (g : Ghost) (v : m-View) (st : State) (fl :
         k = q .k;
         filled = omega (arith, S .filled, q .filled);
         write = S .write (q .k) ∙ q .write;
-        val = ap (λ (F : ℕ → Val). F (dataDrive p y (q .k))) (setAt-else (M .F) s (unfilled (parOf p h) s) y (let z : y ≢ s = omega (arith, older (q .i) (q .lt) (q .inUse?), q .number) in z)) ∙ q .val;
+        val =
+            ap (λ (F : ℕ → Val). F (dataDrive p y (q .k))) (setAt-else (M .F) s (unfilled (parOf p h) s) y (let z : y ≢ s = omega (arith, older (q .i) (q .lt) (q .inUse?), q .number) in z)) ∙ q .val;
       }
 
   -- the others as they were

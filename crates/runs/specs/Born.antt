@@ -92,7 +92,9 @@ module _ (p : Params) (h : Ranged p) (k : Disk) (e : emptyDisk p k ≡ true) (fl
 
   state-is : restartMemory p v 0 fl .state ≡ idleState 1 0 0 0 0 0
   unfolding restartMemory
-  state-is = ap (λ (gs : List Segment). idleState 1 0 (greatestStamp (candidates p 0 gs)) (greatestSerial gs) (openOf (cond (eqb 0 0) (unsealed gs) [])) (nextOf p (cond (eqb 0 0) (unsealed gs) []))) none-segments
+  state-is =
+      ap (λ (gs : List Segment). idleState 1 0 (greatestStamp (candidates p 0 gs)) (greatestSerial gs) (openOf (cond (eqb 0 0) (unsealed gs) []))
+      (nextOf p (cond (eqb 0 0) (unsealed gs) []))) none-segments
       ∙ (unfold candidates flat greatestStamp greatestSerial greatest unsealed keep openOf nextOf in refl)
 
   -- nothing has been sent
@@ -118,7 +120,9 @@ module _ (p : Params) (h : Ranged p) (k : Disk) (e : emptyDisk p k ≡ true) (fl
       truth = unfold restartMemory in refl
 
       table : TableOk p h (bornGhost P) (itemsIn p v) (restartMemory p v 0 fl .addresses)
-      table = table-said p h (bornGhost P) v (record { shape = start-on p h k e .shape; bytes = bytes; facts = I .facts }) none? (restartMemory p v 0 fl .addresses) truth [] false (run (restMem false 0 0 0 0)) I
+      table =
+          table-said p h (bornGhost P) v (record { shape = start-on p h k e .shape; bytes = bytes; facts = I .facts }) none?
+          (restartMemory p v 0 fl .addresses) truth [] false (run (restMem false 0 0 0 0)) I
 
       fresh : Live p h v (idleState 1 0 0 0 0 0) (restartMemory p v 0 fl .inflight) (restartMemory p v 0 fl .addresses) [] 0
       fresh = rest-live p h v (restartMemory p v 0 fl .inflight) (restartMemory p v 0 fl .addresses) [] 0 (bornGhost P) [] false noTrack 1 0 0 0 0 false 0 0 (record {
@@ -129,7 +133,8 @@ module _ (p : Params) (h : Ranged p) (k : Disk) (e : emptyDisk p k ≡ true) (fl
         logged = record { count = refl; same = λ j l. absurd (let z : ⊥ = omega arith in z); acks = λ j l q. absurd (let z : ⊥ = omega arith in z) };
         marked = omega arith;
         still = λ q. refl;
-      }) (rest-rel p (itemsIn p v) (restartMemory p v 0 fl .inflight) 1 0 0 0 0 false 0 0 (omega arith) (omega arith) refl (λ q. true≢false q) (λ q. true≢false q) (λ q. true≢false q) (λ q. true≢false q))
+      }) (rest-rel p (itemsIn p v) (restartMemory p v 0 fl .inflight) 1 0 0 0 0 false 0 0 (omega arith) (omega arith) refl (λ q. true≢false q)
+          (λ q. true≢false q) (λ q. true≢false q) (λ q. true≢false q))
           (λ j l. absurd (let z : ⊥ = omega arith in z)) table
 
 -- ---- and goes on, whatever is called but a restart
@@ -143,7 +148,12 @@ abbrev pub NoRestart : List Call → Type 0
 NoRestart [] = Unit {0}
 NoRestart (c ∷ cs) = (restartOf c ≡ none) × NoRestart cs
 
-pub goes-or-ends : (p : Params) (h : Ranged p) (n : ℕ) (cs : List Call) → NoRestart cs → (s : Hist) → (Running p h s n) ⊎ (Halted p h s n) → (Running p h (afterCalls p s cs) n) ⊎ (Halted p h (afterCalls p s cs) n)
+pub goes-or-ends :
+    (p : Params) (h : Ranged p) (n : ℕ) (cs : List Call)
+    → NoRestart cs
+    → (s : Hist)
+    → (Running p h s n) ⊎ (Halted p h s n)
+    → (Running p h (afterCalls p s cs) n) ⊎ (Halted p h (afterCalls p s cs) n)
 unfolding afterCalls
 goes-or-ends p h n [] r s x = x
 goes-or-ends p h n (c ∷ cs) r s x = goes-or-ends p h n cs (r .1) (step p s (calls c)) (one x)
@@ -160,4 +170,5 @@ goes-or-ends p h n (c ∷ cs) r s x = goes-or-ends p h n cs (r .1) (step p s (ca
 pub first-run : (p : Params) (h : Ranged p) (k : Disk) → emptyDisk p k ≡ true → (fl : List ℕ) (o : Opt Mark) (cs : List Call) → NoRestart cs
     → (Running p h (afterCalls p (record { world = mkWorld k (restartMemory p (seen p k) 0 fl); sends = []; untrusted = 0; mark = o }) cs) 0)
     ⊎ (Halted p h (afterCalls p (record { world = mkWorld k (restartMemory p (seen p k) 0 fl); sends = []; untrusted = 0; mark = o }) cs) 0)
-first-run p h k e fl o cs r = goes-or-ends p h 0 cs r (record { world = mkWorld k (restartMemory p (seen p k) 0 fl); sends = []; untrusted = 0; mark = o }) (inl (record { healthy = born p h k e fl; trusted = refl }))
+first-run p h k e fl o cs r =
+    goes-or-ends p h 0 cs r (record { world = mkWorld k (restartMemory p (seen p k) 0 fl); sends = []; untrusted = 0; mark = o }) (inl (record { healthy = born p h k e fl; trusted = refl }))

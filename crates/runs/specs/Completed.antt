@@ -39,7 +39,8 @@ use Rattle.runs.specs.Held.{Grown, Entry, TableOk, entry-to, table-grown
 use Rattle.runs.specs.Placed.{drive-cases}
 use Rattle.runs.specs.Pointed.{pointTo, pointed-none, pointed-some, best-some}
 
-module _ (p : Params) (h : Ranged p) (g : Ghost) (u : View) (k : OnDrives p h g u) (none? : p .N ≤ g .un) (v : m-View) (gr : Grown (parOf p h) v (itemsIn p u)) (tb : List ℕ) (long : length tb ≡ addressesLen p)
+module _ (p : Params) (h : Ranged p) (g : Ghost) (u : View) (k : OnDrives p h g u) (none? : p .N ≤ g .un) (v : m-View)
+    (gr : Grown (parOf p h) v (itemsIn p u)) (tb : List ℕ) (long : length tb ≡ addressesLen p)
     (T : TableOk p h g v tb) (st : State) (i z s : ℕ) (F : ℕ → Val) (zl : z < p .Z) (full : filledIn st i ≡ dataCount p) (number : stripeIn st i ≡ s)
     (ent : (j : ℕ) → j < dataCount p → (F (dataDrive p s j) .addr ≡ entryIn st i j .address) × (F (dataDrive p s j) .stamp ≡ entryIn st i j .stamp))
     (on : (d : ℕ) → d < p .N → Off (itemsIn p u d z) (suc (offsetIn st i d)) (chunk s (F d)))
@@ -111,7 +112,8 @@ module _ (p : Params) (h : Ranged p) (g : Ghost) (u : View) (k : OnDrives p h g 
     drive = subst (λ (y : ℕ). y < p .N) (sym place-d) dl;
     zone = subst (λ (y : ℕ). y < p .Z) (sym place-z) zl;
     at = subst (λ (y : ℕ). Off (itemsIn p u (placeDrive p (placeOf p d z (1 + o))) (placeZone p (placeOf p d z (1 + o)))) y (chunk s (F d))) (sym place-b)
-        (subst (λ (y : ℕ). Off (itemsIn p u y (placeZone p (placeOf p d z (1 + o)))) (suc o) (chunk s (F d))) (sym place-d) (subst (λ (y : ℕ). Off (itemsIn p u d y) (suc o) (chunk s (F d))) (sym place-z) (on d dl)));
+        (subst (λ (y : ℕ). Off (itemsIn p u y (placeZone p (placeOf p d z (1 + o)))) (suc o) (chunk s (F d))) (sym place-d)
+        (subst (λ (y : ℕ). Off (itemsIn p u d y) (suc o) (chunk s (F d))) (sym place-z) (on d dl)));
     counts = cnt d dl (λ q. data-not-parity p s j q) .0;
     same = cnt d dl (λ q. data-not-parity p s j q) .1 ∙ sym place-z;
     addr = e;
@@ -150,7 +152,9 @@ module _ (p : Params) (h : Ranged p) (g : Ghost) (u : View) (k : OnDrives p h g 
   -- no position has the address
   untouched : (a : ℕ) → a < p .L → ((c : Cand) → Has c cs → c .address ≢ a) → ((placeAt tb′ a ≡ neverPlace) × (base′ a ≡ 0)) ⊎ Entry p h g′ (itemsIn p u) (placeAt tb′ a) a
   untouched a al n = ⊎-elim (λ (w : (placeAt tb a ≡ neverPlace) × (g .base a ≡ 0)). inl (same ∙ w .0, base-same ∙ w .1))
-      (λ (w : Entry p h g (itemsIn p u) (placeAt tb a) a). inr (subst (λ (q : ℕ). Entry p h g′ (itemsIn p u) q a) (sym same) (old-entry (placeAt tb a) a w (subst (λ (y : ℕ). y ≤ w .x .stamp) (sym base-same) (w .floor))))) (was a al)
+      (λ (w : Entry p h g (itemsIn p u) (placeAt tb a) a). inr
+      (subst (λ (q : ℕ). Entry p h g′ (itemsIn p u) q a) (sym same)
+      (old-entry (placeAt tb a) a w (subst (λ (y : ℕ). y ≤ w .x .stamp) (sym base-same) (w .floor))))) (was a al)
     where
       same : placeAt tb′ a ≡ placeAt tb a
       same = pointed-none p u tb cs cs tb long a al n
@@ -165,24 +169,46 @@ module _ (p : Params) (h : Ranged p) (g : Ghost) (u : View) (k : OnDrives p h g 
     nonempty = unfold candsOf in has-keep (λ (c : Cand). eqb (c .address) a) (some? .0) cs (some? .1) (eq-eqb (some? .0 .address) a (some? .2))
 
     -- the entry of the one that holds
-    won : (w : Cand) → best (held p u tb a) (candsOf a cs) ≡ some w → Entry p h g′ (itemsIn p u) (w .place) a → ((placeAt tb′ a ≡ neverPlace) × (base′ a ≡ 0)) ⊎ Entry p h g′ (itemsIn p u) (placeAt tb′ a) a
+    won :
+        (w : Cand)
+        → best (held p u tb a) (candsOf a cs) ≡ some w
+        → Entry p h g′ (itemsIn p u) (w .place) a
+        → ((placeAt tb′ a ≡ neverPlace) × (base′ a ≡ 0)) ⊎ Entry p h g′ (itemsIn p u) (placeAt tb′ a) a
     won w e x = inr (subst (λ (q : ℕ). Entry p h g′ (itemsIn p u) q a) (sym (pointed-some p u tb cs cs tb long a al small (inr some?) ∙ is)) x)
       where
         is : pointTo p u tb cs a ≡ w .place
         is = ap placeOr e ∙ (unfold placeOr in refl)
 
         low : w .place < neverPlace
-        low = entry-low p h g u k none? (w .place) a (record { s = x .s; x = x .x; drive = x .drive; zone = x .zone; at = x .at; counts = x .counts; same = x .same; addr = x .addr; floor = omega (arith, x .floor, raise-low (parityDrive p s) F (g .base) a (p .N)) })
+        low =
+            entry-low p h g u k none? (w .place) a (record {
+              s = x .s;
+              x = x .x;
+              drive = x .drive;
+              zone = x .zone;
+              at = x .at;
+              counts = x .counts;
+              same = x .same;
+              addr = x .addr;
+              floor = omega
+                  (arith, x .floor, raise-low (parityDrive p s) F (g .base) a (p .N));
+            })
 
         small : pointTo p u tb cs a < 256 ^ 4
         small = omega (arith, is, low)
 
     -- a position holds
-    by-position : (w : Cand) → best (held p u tb a) (candsOf a cs) ≡ some w → Has w (candsOf a cs) → base′ a ≤ w .stamp → ((placeAt tb′ a ≡ neverPlace) × (base′ a ≡ 0)) ⊎ Entry p h g′ (itemsIn p u) (placeAt tb′ a) a
+    by-position :
+        (w : Cand)
+        → best (held p u tb a) (candsOf a cs) ≡ some w
+        → Has w (candsOf a cs)
+        → base′ a ≤ w .stamp
+        → ((placeAt tb′ a ≡ neverPlace) × (base′ a ≡ 0)) ⊎ Entry p h g′ (itemsIn p u) (placeAt tb′ a) a
     by-position w e m b =
         let o : Has w cs × (w .address ≡ a) = of-address w a m in
         let j : (j : ℕ) × (j < dataCount p) × (w ≡ landedCand p u z st i j) = position-of w (o .0) in
-        won w e (subst (λ (y : Cand). Entry p h g′ (itemsIn p u) (y .place) a) (sym (j .2)) (new-entry (j .0) (j .1) a (sym (cand-address (j .0) (j .1)) ∙ ap (λ (y : Cand). y .address) (sym (j .2)) ∙ o .1)
+        won w e (subst (λ (y : Cand). Entry p h g′ (itemsIn p u) (y .place) a) (sym (j .2)) (new-entry (j .0) (j .1) a
+        (sym (cand-address (j .0) (j .1)) ∙ ap (λ (y : Cand). y .address) (sym (j .2)) ∙ o .1)
         (omega (arith, b, ap (λ (y : Cand). y .stamp) (j .2), cand-stamp (j .0) (j .1)))))
 
     touched : ((placeAt tb′ a ≡ neverPlace) × (base′ a ≡ 0)) ⊎ Entry p h g′ (itemsIn p u) (placeAt tb′ a) a
@@ -208,13 +234,20 @@ module _ (p : Params) (h : Ranged p) (g : Ghost) (u : View) (k : OnDrives p h g 
             there = unfold held in cond-false (eqb (placeAt tb a) neverPlace) none (some (heldCand p u a (placeAt tb a))) (ne-eqb (placeAt tb a) neverPlace (omega (arith, low)))
 
             its-stamp : heldCand p u a (placeAt tb a) .stamp ≡ x .x .stamp
-            its-stamp = (let e : heldCand p u a (placeAt tb a) .stamp ≡ recordAt p u 0 (placeDrive p (placeAt tb a)) (placeZone p (placeAt tb a)) (placeBlock p (placeAt tb a) - 1) .stamp = unfold heldCand placeSegment in refl in e)
+            its-stamp =
+                (let e : heldCand p u a (placeAt tb a) .stamp
+                ≡ recordAt p u 0 (placeDrive p (placeAt tb a)) (placeZone p (placeAt tb a)) (placeBlock p (placeAt tb a) - 1) .stamp = unfold
+                heldCand placeSegment in refl in e)
                 ∙ entry-stamp p h g u k none? (placeAt tb a) a x
 
             its-place : heldCand p u a (placeAt tb a) .place ≡ placeAt tb a
             its-place = unfold heldCand in refl
 
-            go : (w : Cand) × (best (some (heldCand p u a (placeAt tb a))) (candsOf a cs) ≡ some w) × ((w ≡ heldCand p u a (placeAt tb a)) ⊎ Has w (candsOf a cs)) × (heldCand p u a (placeAt tb a) .stamp ≤ w .stamp)
+            go :
+                (w : Cand)
+                × (best (some (heldCand p u a (placeAt tb a))) (candsOf a cs) ≡ some w)
+                × ((w ≡ heldCand p u a (placeAt tb a)) ⊎ Has w (candsOf a cs))
+                × (heldCand p u a (placeAt tb a) .stamp ≤ w .stamp)
                 × ((c : Cand) → Has c (candsOf a cs) → c .stamp ≤ w .stamp) → ((placeAt tb′ a ≡ neverPlace) × (base′ a ≡ 0)) ⊎ Entry p h g′ (itemsIn p u) (placeAt tb′ a) a
             go (w, e, r, b, m) = ⊎-elim
                 (λ (q : w ≡ heldCand p u a (placeAt tb a)). won w (ap (λ (y : Opt Cand). best y (candsOf a cs)) there ∙ e)

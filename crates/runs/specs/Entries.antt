@@ -37,7 +37,9 @@ module _ (p : Params) (h : Ranged p) (g : Ghost) (v : View) (k : OnDrives p h g 
 
   found : (o : ℕ) × (placeBlock p q ≡ suc o) × (o < p .S) × (suc o < zone .pointer) × (recordOf (getD (zone .blocks) (suc o) noChunk .spare) .stripe ≡ e .s)
       × (valueOf (getD (zone .blocks) (suc o) noChunk .block) (recordOf (getD (zone .blocks) (suc o) noChunk .spare)) ≡ e .x)
-  found = of-chunk p zone (zone-low p h g v k dd zz (e .drive) trust (e .zone)) (placeBlock p q) (e .s) (e .x) (subst (λ (l : List Item). Off l (placeBlock p q) (chunk (e .s) (e .x))) (items-in p v dd zz) (e .at))
+  found =
+      of-chunk p zone (zone-low p h g v k dd zz (e .drive) trust (e .zone)) (placeBlock p q) (e .s) (e .x)
+      (subst (λ (l : List Item). Off l (placeBlock p q) (chunk (e .s) (e .x))) (items-in p v dd zz) (e .at))
 
   pub entry-block : (1 ≤ placeBlock p q) × (placeBlock p q ≤ p .S)
   entry-block = (omega (arith, found .1), omega (arith, found .1, found .2))

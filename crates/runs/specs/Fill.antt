@@ -136,7 +136,15 @@ module _ (p : Params) (h : Ranged p) (g : Ghost) (v : m-View) (a : List Val) (c 
   pub within-none : (st : State) (fl : List ℕ) (M : Mem) → Rel p v st fl M → Within p h g v a c st st fl M
   within-none st fl M R = record { M′ = M; go = λ T. go-none (parOf p h) (σ M) T; rel = R; waits = λ x s q. q }
 
-  pub pad-all : (n : ℕ) (st : State) (fl : List ℕ) (M : Mem) → Rel p v st fl M → Inv (parOf p h) (σ M) → length fl ≡ inflightLen p → (i : ℕ) → i < 8 → inUse st i ≡ true → filledIn st i + n ≤ dataCount p
+  pub pad-all :
+      (n : ℕ) (st : State) (fl : List ℕ) (M : Mem)
+      → Rel p v st fl M
+      → Inv (parOf p h) (σ M)
+      → length fl ≡ inflightLen p
+      → (i : ℕ)
+      → i < 8
+      → inUse st i ≡ true
+      → filledIn st i + n ≤ dataCount p
       → Within p h g v a c st (padded p i n st fl .state) (padded p i n st fl .inflight) M
   unfolding padded
   pad-all zero st fl M R I long i il u b = within-none st fl M R
@@ -145,7 +153,9 @@ module _ (p : Params) (h : Ranged p) (g : Ghost) (v : m-View) (a : List Val) (c 
       let st₁ : State = placed p st fl i paddingAddress 0 0 (replicate (p .B) 0) .state in
       let fl₁ : List ℕ = placed p st fl i paddingAddress 0 0 (replicate (p .B) 0) .inflight in
       let w : Within p h g v a c st st₁ fl₁ M = pad-one st fl M R I long i il u kl in
-      let e : filledIn st₁ i ≡ suc (filledIn st i) = ap (λ (x : State). filledIn x i) (placed-state p h st (R .long) fl long i il paddingAddress 0 0 (replicate (p .B) 0) (length-replicate (p .B) 0) kl)
+      let e : filledIn st₁ i
+      ≡ suc (filledIn st i) = ap (λ (x : State). filledIn x i)
+      (placed-state p h st (R .long) fl long i il paddingAddress 0 0 (replicate (p .B) 0) (length-replicate (p .B) 0) kl)
       ∙ add-filled st (R .long) i il paddingAddress 0 0 (let z : filledIn st i < 8 = omega (arith, data-count-high p h) in z) in
       let y : Within p h g v a c st₁ (padded p i n st₁ fl₁ .state) (padded p i n st₁ fl₁ .inflight) (w .M′) =
       pad-all n st₁ fl₁ (w .M′) (w .rel) (go-inv (parOf p h) (σ M) (σ (w .M′)) noTrack noTrack (w .go noTrack) I)

@@ -67,7 +67,10 @@ counted-kept P g g′ v v′ f no-pair un x q same = record {
   f = q .f;
   rem = record {
     left = λ d l n. subst (λ (y : List Item). 0 < length y) (sym (same d l)) (q .rem .left d l (λ e. n (e ∙ sym un)));
-    own = λ o k e. pair-alone (sym (f .swap .one (q .z) o (used P g′ v′ (g′ .un) (q .z) (inr refl) (λ d l n. subst (λ (y : List Item). 0 < length y) (sym (same d l)) (q .rem .left d l (λ e. n (e ∙ sym un)))))
+    own =
+        λ o k e. pair-alone (sym (f .swap .one (q .z) o
+        (used P g′ v′ (g′ .un) (q .z) (inr refl)
+        (λ d l n. subst (λ (y : List Item). 0 < length y) (sym (same d l)) (q .rem .left d l (λ e. n (e ∙ sym un)))))
         (used P g′ v′ (g′ .un) o (inr refl) k) e) ∙ no-pair);
   };
   st = record { on = λ d l n. subst (λ (y : List Item). In (chunk (q .s) (q .f d)) y) (sym (same d l)) (q .st .on d l (λ e. n (e ∙ sym un))); xor = q .st .xor };
@@ -108,5 +111,11 @@ pub table-grown : (p : Params) (h : Ranged p) (g : Ghost) (v v′ : m-View) (tb 
 table-grown p h g v v′ tb r t a l = ⊎-elim (λ w. inl w) (λ (w : Entry p h g v (placeAt tb a) a). inr (entry-grown p h g v v′ r (placeAt tb a) a w)) (t a l)
 
 -- every entry moves
-pub table-to : (p : Params) (h : Ranged p) (g g′ : Ghost) (v v′ : m-View) (tb : List ℕ) → g′ .base ≡ g .base → ((q a : ℕ) → Entry p h g v q a → Entry p h g′ v′ q a) → TableOk p h g v tb → TableOk p h g′ v′ tb
-table-to p h g g′ v v′ tb e f t a l = ⊎-elim (λ (w : (placeAt tb a ≡ neverPlace) × (g .base a ≡ 0)). inl (w .0, ap (λ (b : ℕ → ℕ). b a) e ∙ w .1)) (λ (w : Entry p h g v (placeAt tb a) a). inr (f (placeAt tb a) a w)) (t a l)
+pub table-to :
+    (p : Params) (h : Ranged p) (g g′ : Ghost) (v v′ : m-View) (tb : List ℕ)
+    → g′ .base ≡ g .base
+    → ((q a : ℕ) → Entry p h g v q a → Entry p h g′ v′ q a)
+    → TableOk p h g v tb
+    → TableOk p h g′ v′ tb
+table-to p h g g′ v v′ tb e f t a l =
+    ⊎-elim (λ (w : (placeAt tb a ≡ neverPlace) × (g .base a ≡ 0)). inl (w .0, ap (λ (b : ℕ → ℕ). b a) e ∙ w .1)) (λ (w : Entry p h g v (placeAt tb a) a). inr (f (placeAt tb a) a w)) (t a l)

@@ -87,7 +87,9 @@ sent-refused c a ss e = cond-false (endsRun a) (map forget ss) (ackedBy c a ss +
   where
     go : (c : Call) → ackedBy c a ss ++ sentBy c a ≡ ss
     go (write x y n) = unfold ackedBy sentBy in (
-        ap (λ (t : Bool). ss ++ consIf t (mkSend x y (getD (values a) 1 0) true false) []) (ne-eqb (kind a) 3 (let b : kind a ≢ 3 = omega (arith, refused-kind a e) in b)) ∙ (unfold consIf in append-nil ss))
+        ap (λ (t : Bool). ss ++ consIf t (mkSend x y (getD (values a) 1 0) true false) [])
+        (ne-eqb (kind a) 3 (let b : kind a ≢ 3 = omega (arith, refused-kind a e) in b))
+        ∙ (unfold consIf in append-nil ss))
     go (land d s n) = unfold ackedBy sentBy in (
         ap (λ (t : Bool). cond (t && ltb 0 (getD (values a) 0 0)) (map (acknowledge s) ss) ss ++ []) (ne-eqb (kind a) 4 (let b : kind a ≢ 4 = omega (arith, refused-kind a e) in b)) ∙ append-nil ss)
     go (close n) = unfold ackedBy sentBy in append-nil ss
@@ -109,19 +111,31 @@ module _ (p : Params) (h : Ranged p) (k : Disk) (m : Memory) (ss : List Send) (n
   pub lent-inflight : lentOk p k m ≡ true → length (m .inflight) ≡ inflightLen p
   unfolding lentOk
   lent-inflight e = eqb-true (length (m .inflight)) (inflightLen p)
-      (and-right (eqb (length (k .image)) (imageLen p) && eqb (length (k .pointers)) (pointersLen p) && eqb (length (m .addresses)) (addressesLen p) && eqb (length (m .compact)) (compactLen p)) (eqb (length (m .inflight)) (inflightLen p)) e)
+      (and-right (eqb (length (k .image)) (imageLen p)
+      && eqb (length (k .pointers)) (pointersLen p)
+      && eqb (length (m .addresses)) (addressesLen p)
+      && eqb (length (m .compact)) (compactLen p)) (eqb (length (m .inflight)) (inflightLen p)) e)
 
   pub lent-table : lentOk p k m ≡ true → length (m .addresses) ≡ addressesLen p
   unfolding lentOk
-  lent-table e = eqb-true (length (m .addresses)) (addressesLen p) (and-right (eqb (length (k .image)) (imageLen p) && eqb (length (k .pointers)) (pointersLen p)) (eqb (length (m .addresses)) (addressesLen p))
+  lent-table e =
+      eqb-true (length (m .addresses)) (addressesLen p) (and-right (eqb (length (k .image)) (imageLen p) && eqb (length (k .pointers)) (pointersLen p)) (eqb (length (m .addresses)) (addressesLen p))
       (and-left (eqb (length (k .image)) (imageLen p) && eqb (length (k .pointers)) (pointersLen p) && eqb (length (m .addresses)) (addressesLen p)) (eqb (length (m .compact)) (compactLen p))
-      (and-left (eqb (length (k .image)) (imageLen p) && eqb (length (k .pointers)) (pointersLen p) && eqb (length (m .addresses)) (addressesLen p) && eqb (length (m .compact)) (compactLen p)) (eqb (length (m .inflight)) (inflightLen p)) e)))
+      (and-left (eqb (length (k .image)) (imageLen p)
+      && eqb (length (k .pointers)) (pointersLen p)
+      && eqb (length (m .addresses)) (addressesLen p)
+      && eqb (length (m .compact)) (compactLen p)) (eqb (length (m .inflight)) (inflightLen p)) e)))
 
   -- a refusal changes nothing
   pub stays : (c : Call) (a : Answer) (b : List ℕ) → isRefused a ≡ true → Next p h (x .live .g) n (mkAfter a k m b) (sentAfter c a ss)
   stays c a b e = subst (λ (y : List Send). Next p h (x .live .g) n (mkAfter a k m b) y) (sym (sent-refused c a ss e)) (goes (refused-uncut a e) (refused-unfinished a e) x (later-same (x .live .g)))
 
-  due-next : (c : Call) (count : ℕ) (b : List ℕ) (q : Plan) (ss′ : List Send) → CallOk p h (x .live .g) (seen p k) q ss ss′ n → isCut (q .answer) ≡ false → finished (q .answer) ≡ false → sentAfter c (q .answer) ss ≡ ss′
+  due-next :
+      (c : Call) (count : ℕ) (b : List ℕ) (q : Plan) (ss′ : List Send)
+      → CallOk p h (x .live .g) (seen p k) q ss ss′ n
+      → isCut (q .answer) ≡ false
+      → finished (q .answer) ≡ false
+      → sentAfter c (q .answer) ss ≡ ss′
       → Next p h (x .live .g) n (outcome p (storeDisk p) count k m b (due q)) (sentAfter c (outcome p (storeDisk p) count k m b (due q) .answer) ss)
   unfolding outcome
   due-next c count b q ss′ ok uncut open? sent = go (leb (length (q .stores)) count)
@@ -131,7 +145,9 @@ module _ (p : Params) (h : Ranged p) (k : Disk) (m : Memory) (ss : List Send) (n
           (goes uncut open? (record { whole = whole-all p h k (x .whole) (q .stores) (ok .sound); live = live }) later)
         where
           moved : (y : Live p h (seen p (storeAll (storeDisk p) (q .stores) k)) (q .memory .state) (q .memory .inflight) (q .memory .addresses) ss′ n) × Later (x .live .g) (y .g)
-          moved = subst (λ (u : View). (y : Live p h u (q .memory .state) (q .memory .inflight) (q .memory .addresses) ss′ n) × Later (x .live .g) (y .g)) (sym (seen-stores p h k (x .whole) (q .stores) (ok .sound))) (ok .done)
+          moved =
+              subst (λ (u : View). (y : Live p h u (q .memory .state) (q .memory .inflight) (q .memory .addresses) ss′ n) × Later (x .live .g) (y .g))
+              (sym (seen-stores p h k (x .whole) (q .stores) (ok .sound))) (ok .done)
 
           live : Live p h (seen p (storeAll (storeDisk p) (q .stores) k)) (q .memory .state) (q .memory .inflight) (q .memory .addresses) ss′ n
           live = moved .0
@@ -154,12 +170,20 @@ module _ (p : Params) (h : Ranged p) (k : Disk) (m : Memory) (ss : List Send) (n
           moved = subst (λ (u : View). (y : Stopped p h u (map forget ss) n) × Later (x .live .g) (y .g)) (sym (seen-cut p h k (x .whole) (q .stores) (ok .sound) count)) (ok .cut count)
 
   -- a verdict
-  decided-next : (c : Call) (count : ℕ) (b : List ℕ) (cs : List Check) (q : Plan) (ss′ : List Send) → (firstRefusal cs ≡ none → CallOk p h (x .live .g) (seen p k) q ss ss′ n) → isCut (q .answer) ≡ false → finished (q .answer) ≡ false
+  decided-next :
+      (c : Call) (count : ℕ) (b : List ℕ) (cs : List Check) (q : Plan) (ss′ : List Send)
+      → (firstRefusal cs ≡ none → CallOk p h (x .live .g) (seen p k) q ss ss′ n)
+      → isCut (q .answer) ≡ false
+      → finished (q .answer) ≡ false
       → sentAfter c (q .answer) ss ≡ ss′
       → Next p h (x .live .g) n (outcome p (storeDisk p) count k m b (decided (firstRefusal cs) q)) (sentAfter c (outcome p (storeDisk p) count k m b (decided (firstRefusal cs) q) .answer) ss)
   decided-next c count b cs q ss′ ok uncut open? sent = go (firstRefusal cs) refl
     where
-      go : (o : Opt Answer) → firstRefusal cs ≡ o → Next p h (x .live .g) n (outcome p (storeDisk p) count k m b (decided o q)) (sentAfter c (outcome p (storeDisk p) count k m b (decided o q) .answer) ss)
+      go :
+          (o : Opt Answer)
+          → firstRefusal cs ≡ o
+          → Next p h (x .live .g) n (outcome p (storeDisk p) count k m b (decided o q))
+          (sentAfter c (outcome p (storeDisk p) count k m b (decided o q) .answer) ss)
       go none e = unfold decided in due-next c count b q ss′ (ok e) uncut open? sent
       go (some a) e = unfold decided outcome in stays c a b (refuses cs a e)
 
@@ -208,7 +232,10 @@ module _ (p : Params) (h : Ranged p) (k : Disk) (m : Memory) (ss : List Send) (n
       (λ e. land-ok p h v m ss n (x .live) (lent-inflight (fits e)) (lent-table (fits e)) d s (land-asked p long v m d s e)) uncut open? sent
     where
       fits : firstRefusal (landChecks p long v m d s) ≡ none → long ≡ true
-      fits e = unfold landChecks in lent-ok₂ (not (inRange p)) (rule 3 (not (eqb (m .state .missing) 0)) ∷ rule 5 (not (waiting p (m .state) d s)) ∷ zones (stateFaults p (m .state) ++ landFaults p v m d s) ∷ []) e
+      fits e =
+          unfold landChecks in lent-ok₂ (not (inRange p))
+          (rule 3 (not (eqb (m .state .missing) 0)) ∷ rule 5 (not (waiting p (m .state) d s)) ∷ zones
+          (stateFaults p (m .state) ++ landFaults p v m d s) ∷ []) e
 
       uncut : isCut (landPlan p v m d s .answer) ≡ false
       uncut = unfold landPlan isCut kind in refl
@@ -217,14 +244,19 @@ module _ (p : Params) (h : Ranged p) (k : Disk) (m : Memory) (ss : List Send) (n
       open? = unfold landPlan finished kind in refl
 
       sent : sentAfter (land d s count) (landPlan p v m d s .answer) ss ≡ landSends p (m .state) d s ss
-      sent = unfold sentAfter endsRun isCut finished kind landPlan ackedBy sentBy values landSends landCount in append-nil (cond (ltb 0 (cond (completes p (m .state) (slotOf (m .state) s) d) (writesIn (m .state) (slotOf (m .state) s)) 0)) (map (acknowledge s) ss) ss)
+      sent =
+          unfold sentAfter endsRun isCut finished kind landPlan ackedBy sentBy values landSends landCount in append-nil
+          (cond (ltb 0 (cond (completes p (m .state) (slotOf (m .state) s) d) (writesIn (m .state) (slotOf (m .state) s)) 0))
+          (map (acknowledge s) ss) ss)
 
   close-next : (count : ℕ) → Goal (close count)
   unfolding callDisk callOn storeCount lentBlock verdict closeVerdict
   close-next count = decided-next (close count) count [] (closeChecks p long v m) (closePlan p m) ss (λ e. close-ok p h v m ss n (x .live) (lent-inflight (fits e)) long e) uncut open? sent
     where
       fits : firstRefusal (closeChecks p long v m) ≡ none → long ≡ true
-      fits e = unfold closeChecks in lent-ok₂ (not (inRange p)) (rule 3 (not (eqb (m .state .missing) 0)) ∷ rule 5 (not (hasFilling p (m .state)) || (scarce p v 1 && not (isNil (idle p v (m .state) (victim p v (m .addresses))))))
+      fits e =
+          unfold closeChecks in lent-ok₂ (not (inRange p)) (rule 3 (not (eqb (m .state .missing) 0)) ∷ rule 5
+          (not (hasFilling p (m .state)) || (scarce p v 1 && not (isNil (idle p v (m .state) (victim p v (m .addresses))))))
           ∷ zones (stateFaults p (m .state) ++ cond (scarce p v 1) (tableFaults p (m .addresses)) []) ∷ []) e
 
       uncut : isCut (closePlan p m .answer) ≡ false
@@ -238,14 +270,17 @@ module _ (p : Params) (h : Ranged p) (k : Disk) (m : Memory) (ss : List Send) (n
 
   reclaim-next : (count : ℕ) → Goal (reclaim count)
   unfolding callDisk callOn storeCount lentBlock verdict reclaimVerdict reclaimPlan
-  reclaim-next count = decided-next (reclaim count) count [] (reclaimChecks p long v m (victim p v (m .addresses))) (reclaimPlan p v m) ss (λ e. reclaim-ok p h v m ss n (x .live) (lent-inflight (fits e)) long e) uncut open? sent
+  reclaim-next count =
+      decided-next (reclaim count) count [] (reclaimChecks p long v m (victim p v (m .addresses))) (reclaimPlan p v m) ss
+      (λ e. reclaim-ok p h v m ss n (x .live) (lent-inflight (fits e)) long e) uncut open? sent
     where
       w : Opt Victim
       w = victim p v (m .addresses)
 
       fits : firstRefusal (reclaimChecks p long v m (victim p v (m .addresses))) ≡ none → long ≡ true
       fits e = unfold reclaimChecks in lent-ok₂ (not (inRange p)) (rule 3 (not (eqb (m .state .missing) 0)) ∷ rule 5 (isNone w || (not (isNil (victimLive w)) && isNil (idle p v (m .state) w)))
-          ∷ rule 6 (not (isNil (victimLive w)) && noSerial p (m .state)) ∷ rule 7 (not (isNil (victimLive w)) && mustWait p (m .state)) ∷ rule 8 (not (isNil (victimLive w)) && opens p (m .state) && scarce p v 1)
+          ∷ rule 6 (not (isNil (victimLive w)) && noSerial p (m .state)) ∷ rule 7 (not (isNil (victimLive w)) && mustWait p (m .state)) ∷ rule 8
+          (not (isNil (victimLive w)) && opens p (m .state) && scarce p v 1)
           ∷ zones (stateFaults p (m .state) ++ tableFaults p (m .addresses) ++ map (λ q. victimSegment w) (keep (λ q. not (between 1 (p .S) (placeBlock p q))) (victimLive w))) ∷ []) e
 
       uncut : isCut (reclaimPlan p v m .answer) ≡ false
@@ -294,8 +329,12 @@ module _ (p : Params) (h : Ranged p) (k : Disk) (m : Memory) (ss : List Send) (n
 
   fill-next : (a : ℕ) (b : List ℕ) → Goal (fill a b)
   unfolding callDisk callOn storeCount lentBlock verdict fillVerdict
-  fill-next a b = decided-next (fill a b) 0 b (readChecks p (long && eqb (length b) (p .B)) a ++ (zones (stateFaults p (m .state) ++ foundFaults p v (m .state .missing) f) ∷ zones (decodeFaults p v (m .state .missing) (m .compact) f) ∷ []))
-      (mkPlan [] Filled m (readPiece p v (m .state .missing) (m .compact) f .block)) ss (λ e. same-ok p h v m ss n (x .live) Filled (readPiece p v (m .state .missing) (m .compact) f .block)) uncut open? sent
+  fill-next a b =
+      decided-next (fill a b) 0 b (readChecks p (long && eqb (length b) (p .B)) a ++
+      (zones (stateFaults p (m .state) ++ foundFaults p v (m .state .missing) f) ∷ zones (decodeFaults p v (m .state .missing) (m .compact) f) ∷
+      []))
+      (mkPlan [] Filled m (readPiece p v (m .state .missing) (m .compact) f .block)) ss
+      (λ e. same-ok p h v m ss n (x .live) Filled (readPiece p v (m .state .missing) (m .compact) f .block)) uncut open? sent
     where
       f : Found
       f = lookup p (m .state .missing) (m .addresses) a
@@ -313,7 +352,9 @@ module _ (p : Params) (h : Ranged p) (k : Disk) (m : Memory) (ss : List Send) (n
   no-rebuild : (d : ℕ) → firstRefusal (rebuildChecks p long v m d (segments p v (named d))) ≡ none → ⊥
   unfolding rebuildChecks namesMissing
   no-rebuild d e =
-      let q : (ltb d (p .N) && eqb (m .state .missing) (named d)) ≡ true = not-false (ltb d (p .N) && eqb (m .state .missing) (named d)) (or-r (not (inRange p)) (not (ltb d (p .N) && eqb (m .state .missing) (named d)))
+      let q : (ltb d (p .N) && eqb (m .state .missing) (named d))
+      ≡ true = not-false (ltb d (p .N) && eqb (m .state .missing) (named d)) (or-r (not (inRange p))
+      (not (ltb d (p .N) && eqb (m .state .missing) (named d)))
       (passes (rule 1 (not (inRange p) || not (ltb d (p .N) && eqb (m .state .missing) (named d))) ∷ rule 2 (not long) ∷ imageChecks p v (named d) (segments p v (named d))) e .0)) in
       let dl : d < p .N = ltb-true d (p .N) (and-left (ltb d (p .N)) (eqb (m .state .missing) (named d)) q) in
       let f : named d ≡ 0 = sym (eqb-true (m .state .missing) (named d) (and-right (ltb d (p .N)) (eqb (m .state .missing) (named d)) q)) ∙ x .live .rel .healthy in
@@ -326,13 +367,18 @@ module _ (p : Params) (h : Ranged p) (k : Disk) (m : Memory) (ss : List Send) (n
       q : Plan
       q = mkPlan (rebuildStores p d (segments p v (named d))) Rebuilt m []
 
-      go : (o : Opt Answer) → firstRefusal (rebuildChecks p long v m d (segments p v (named d))) ≡ o → isRefused (outcome p (storeDisk p) (storeCount (rebuild d count)) k m (lentBlock (rebuild d count)) (decided o q) .answer) ≡ true
+      go :
+          (o : Opt Answer)
+          → firstRefusal (rebuildChecks p long v m d (segments p v (named d))) ≡ o
+          → isRefused (outcome p (storeDisk p) (storeCount (rebuild d count)) k m (lentBlock (rebuild d count)) (decided o q) .answer) ≡ true
       go none e = absurd (no-rebuild d e)
       go (some a) e = unfold decided outcome in refuses (rebuildChecks p long v m d (segments p v (named d))) a e
 
   rebuild-next : (d count : ℕ) → Goal (rebuild d count)
   unfolding callDisk callOn storeCount lentBlock verdict rebuildVerdict
-  rebuild-next d count = decided-next (rebuild d count) count [] (rebuildChecks p long v m d (segments p v (named d))) (mkPlan (rebuildStores p d (segments p v (named d))) Rebuilt m []) ss (λ e. absurd (no-rebuild d e)) uncut open? sent
+  rebuild-next d count =
+      decided-next (rebuild d count) count [] (rebuildChecks p long v m d (segments p v (named d)))
+      (mkPlan (rebuildStores p d (segments p v (named d))) Rebuilt m []) ss (λ e. absurd (no-rebuild d e)) uncut open? sent
     where
       uncut : isCut Rebuilt ≡ false
       uncut = unfold isCut kind in refl

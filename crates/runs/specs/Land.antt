@@ -19,7 +19,8 @@ use Rattle.defs.specs.History.{Send, acknowledge, forget}
 use Rattle.defs.specs.Landing.{slotOf, completes, seals, flightRec, landedCands, pointed, sealStores, writesIn, landStore, landPlan}
 use Rattle.defs.specs.Layout.{parityDrive, dataDrive, Rec, recordBytes}
 use Rattle.defs.specs.Lists.{below, keep, tally, isIn}
-use Rattle.defs.specs.Memory.{Memory, slotCount, slots, stripeIn, filledIn, landedIn, isWrite, entryIn, offsetIn, openSegment, isFree, inFlight, setClosed, landedMask, markLanded, freeStripe, slotBlock}
+use Rattle.defs.specs.Memory.{Memory, slotCount, slots, stripeIn, filledIn, landedIn, isWrite, entryIn, offsetIn, openSegment, isFree, inFlight, setClosed}
+use Rattle.defs.specs.Memory.{landedMask, markLanded, freeStripe, slotBlock}
 use Rattle.defs.specs.Params.{dataCount, footers, capacity, addressesLen, inflightLen}
 use Rattle.laws.specs.Geometry.{Ranged}
 use Rattle.laws.specs.Ranges.{Test, test, and-left, and-right, and-both}
@@ -63,7 +64,10 @@ use Rattle.runs.specs.Sends.{value-addr, value-stamp, Logged, length-ack
 -- what is left of a plan where its parts are known
 pub call-as : (p : Params) (h : Ranged p) (g₀ : Ghost) (v : View) (q : Plan) (ws : List Store) (st : State) (fl tb : List ℕ) (ss ss′ ss″ : List Send) (n : ℕ)
     → q .stores ≡ ws → q .memory .state ≡ st → q .memory .inflight ≡ fl → q .memory .addresses ≡ tb → ss′ ≡ ss″
-    → AllSound p v ws → (x : Live p h (storeAll storeView ws v) st fl tb ss″ n) × Later g₀ (x .g) → ((k : ℕ) → (x : Stopped p h (storeAll storeView (take k ws) v) (map forget ss) n) × Later g₀ (x .g)) → CallOk p h g₀ v q ss ss′ n
+    → AllSound p v ws
+    → (x : Live p h (storeAll storeView ws v) st fl tb ss″ n) × Later g₀ (x .g)
+    → ((k : ℕ) → (x : Stopped p h (storeAll storeView (take k ws) v) (map forget ss) n) × Later g₀ (x .g))
+    → CallOk p h g₀ v q ss ss′ n
 call-as p h g₀ v q ws st fl tb ss ss′ ss″ n e f g c o sound live cuts = record {
   sound = subst (AllSound p v) (sym e) sound;
   done = subst (λ (x : List Store). (y : Live p h (storeAll storeView x v) (q .memory .state) (q .memory .inflight) (q .memory .addresses) ss′ n) × Later g₀ (y .g)) (sym e)
@@ -84,17 +88,24 @@ landSends p st d s ss = cond (ltb 0 (landCount p st d s)) (map (acknowledge s) s
 pub sends-none : (p : Params) (st : State) (d s : ℕ) (ss : List Send) → completes p st (slotOf st s) d ≡ false → landSends p st d s ss ≡ ss
 unfolding landSends landCount
 sends-none p st d s ss e =
-    cond-false (ltb 0 (cond (completes p st (slotOf st s) d) (writesIn st (slotOf st s)) 0)) (map (acknowledge s) ss) ss (ap (ltb 0) (cond-false (completes p st (slotOf st s) d) (writesIn st (slotOf st s)) 0 e) ∙ le-ltb 0 0 (omega arith))
+    cond-false (ltb 0 (cond (completes p st (slotOf st s) d) (writesIn st (slotOf st s)) 0)) (map (acknowledge s) ss) ss
+    (ap (ltb 0) (cond-false (completes p st (slotOf st s) d) (writesIn st (slotOf st s)) 0 e) ∙ le-ltb 0 0 (omega arith))
 
-pub sends-acked : (p : Params) (st : State) (d s : ℕ) (ss : List Send) → completes p st (slotOf st s) d ≡ true → ltb 0 (writesIn st (slotOf st s)) ≡ true → landSends p st d s ss ≡ map (acknowledge s) ss
+pub sends-acked :
+    (p : Params) (st : State) (d s : ℕ) (ss : List Send)
+    → completes p st (slotOf st s) d ≡ true
+    → ltb 0 (writesIn st (slotOf st s)) ≡ true
+    → landSends p st d s ss ≡ map (acknowledge s) ss
 unfolding landSends landCount
 sends-acked p st d s ss e f =
-    cond-true (ltb 0 (cond (completes p st (slotOf st s) d) (writesIn st (slotOf st s)) 0)) (map (acknowledge s) ss) ss (ap (ltb 0) (cond-true (completes p st (slotOf st s) d) (writesIn st (slotOf st s)) 0 e) ∙ f)
+    cond-true (ltb 0 (cond (completes p st (slotOf st s) d) (writesIn st (slotOf st s)) 0)) (map (acknowledge s) ss) ss
+    (ap (ltb 0) (cond-true (completes p st (slotOf st s) d) (writesIn st (slotOf st s)) 0 e) ∙ f)
 
 pub sends-as-were : (p : Params) (st : State) (d s : ℕ) (ss : List Send) → completes p st (slotOf st s) d ≡ true → ltb 0 (writesIn st (slotOf st s)) ≡ false → landSends p st d s ss ≡ ss
 unfolding landSends landCount
 sends-as-were p st d s ss e f =
-    cond-false (ltb 0 (cond (completes p st (slotOf st s) d) (writesIn st (slotOf st s)) 0)) (map (acknowledge s) ss) ss (ap (ltb 0) (cond-true (completes p st (slotOf st s) d) (writesIn st (slotOf st s)) 0 e) ∙ f)
+    cond-false (ltb 0 (cond (completes p st (slotOf st s) d) (writesIn st (slotOf st s)) 0)) (map (acknowledge s) ss) ss
+    (ap (ltb 0) (cond-true (completes p st (slotOf st s) d) (writesIn st (slotOf st s)) 0 e) ∙ f)
 
 -- a write makes the number positive
 pub write-counts : (st : State) (i k : ℕ) → k < filledIn st i → isWrite st i k ≡ true → 0 < writesIn st i
@@ -229,7 +240,8 @@ module _ (p : Params) (h : Ranged p) (v : View) (m : Memory) (ss : List Send) (n
     later₂ = record { un = refl; last = refl; sent = λ x k. k }
 
     go₂ : Go (parOf p h) (mst (l .g) v₀ (l .a) (l .c) (run M)) (mst g₂ (itemsIn p u) a₂ (l .c) (run (ended M s))) (l .T) (l .T)
-    go₂ = go-then (parOf p h) (mst (l .g) v₀ (l .a) (l .c) (run M)) (mst (l .g) (itemsIn p u) (l .a) (l .c) (run M)) (mst g₂ (itemsIn p u) a₂ (l .c) (run (ended M s))) (l .T) (l .T) (l .T) (step (l .T))
+    go₂ =
+        go-then (parOf p h) (mst (l .g) v₀ (l .a) (l .c) (run M)) (mst (l .g) (itemsIn p u) (l .a) (l .c) (run M)) (mst g₂ (itemsIn p u) a₂ (l .c) (run (ended M s))) (l .T) (l .T) (l .T) (step (l .T))
         (ack-go p h (l .g) (itemsIn p u) (l .a) (l .c) M (l .T) ss st s (land-flies p h v m ss n l fits d s A) all-on-u (l .waits) most)
 
     -- ---- the table
@@ -238,7 +250,8 @@ module _ (p : Params) (h : Ranged p) (v : View) (m : Memory) (ss : List Send) (n
 
     bits : (e : ℕ) → e < p .N → Off (itemsIn p u e z) (suc (offsetIn st₁ i e)) (chunk s (M .F s e))
     bits e el = subst (λ (x : m-View). Off (x e z) (suc (offsetIn st₁ i e)) (chunk s (M .F s e))) (sym items)
-        (bit-on p h v₀ st fl M (l .rel) d s i o (A .drive) (A .low) (A .used?) (A .number) oe wide e el (mask-full p h v₀ st fl M (l .rel) d s i o (A .drive) (A .low) (A .used?) (A .number) oe wide done′ e el))
+        (bit-on p h v₀ st fl M (l .rel) d s i o (A .drive) (A .low) (A .used?) (A .number) oe wide e el
+        (mask-full p h v₀ st fl M (l .rel) d s i o (A .drive) (A .low) (A .used?) (A .number) oe wide done′ e el))
 
     -- the parity has landed, so all positions are filled
     filled-all : filledIn st i ≡ dataCount p
@@ -272,7 +285,10 @@ module _ (p : Params) (h : Ranged p) (v : View) (m : Memory) (ss : List Send) (n
         f = M .F s;
         rem = record {
           left = left;
-          own = λ x k q. pair-alone (sym (I₁ .facts .swap .one z x (used (parOf p h) (l .g) (itemsIn p u) (l .g .un) z (inr refl) left) (used (parOf p h) (l .g) (itemsIn p u) (l .g .un) x (inr refl) k) q) ∙ I₁ .mode .no-pair);
+          own =
+              λ x k q. pair-alone (sym (I₁ .facts .swap .one z x (used (parOf p h) (l .g) (itemsIn p u) (l .g .un) z (inr refl) left)
+              (used (parOf p h) (l .g) (itemsIn p u) (l .g .un) x (inr refl) k) q)
+              ∙ I₁ .mode .no-pair);
         };
         st = record { on = λ x b k. off-in (itemsIn p u x z) (suc (offsetIn st₁ i x)) (chunk s (M .F s x)) (bits x b); xor = land-flight p h v m ss n l fits d s A .2 .xor };
         dt = record { d = e; lt = el; data? = np; val = refl };
@@ -306,7 +322,10 @@ module _ (p : Params) (h : Ranged p) (v : View) (m : Memory) (ss : List Send) (n
         go (no! e) = subst (Logged p a₂ (l .T)) (sym (sends-as-were p st d s ss done e)) (record {
           count = l .reached .logged .count;
           same = l .reached .logged .same;
-          acks = λ j b q. let k : InV (l .T .log j) (l .a) × (l .T .pos (l .T .log j .stamp) ≡ j) = l .reached .logged .acks j b q in (acked-old (l .T) ss s (l .a) (length ss) (l .T .log j) (k .0), k .1);
+          acks =
+              λ j b q. let k : InV (l .T .log j) (l .a)
+              × (l .T .pos (l .T .log j .stamp) ≡ j) = l .reached .logged .acks j b q in
+              (acked-old (l .T) ss s (l .a) (length ss) (l .T .log j) (k .0), k .1);
         })
 
     length₂ : length (landSends p st d s ss) ≡ length ss
@@ -323,9 +342,17 @@ module _ (p : Params) (h : Ranged p) (v : View) (m : Memory) (ss : List Send) (n
       where
         go : Test (ltb 0 (writesIn st i)) → (j : ℕ) → j < length (landSends p st d s ss) → sendAt (landSends p st d s ss) j .waits ≡ true
             → (j < length ss) × (sendAt ss j .waits ≡ true) × (sendAt ss j .stripe ≢ s) × (sendAt (landSends p st d s ss) j .stripe ≡ sendAt ss j .stripe)
-        go (yes! e) = subst (λ (y : List Send). (j : ℕ) → j < length y → sendAt y j .waits ≡ true → (j < length ss) × (sendAt ss j .waits ≡ true) × (sendAt ss j .stripe ≢ s) × (sendAt y j .stripe ≡ sendAt ss j .stripe))
+        go (yes! e) =
+            subst (λ (y : List Send). (j : ℕ)
+            → j < length y
+            → sendAt y j .waits ≡ true
+            → (j < length ss) × (sendAt ss j .waits ≡ true) × (sendAt ss j .stripe ≢ s) × (sendAt y j .stripe ≡ sendAt ss j .stripe))
             (sym (sends-acked p st d s ss done e)) (ack-waits (l .T) ss s (l .a))
-        go (no! e) = subst (λ (y : List Send). (j : ℕ) → j < length y → sendAt y j .waits ≡ true → (j < length ss) × (sendAt ss j .waits ≡ true) × (sendAt ss j .stripe ≢ s) × (sendAt y j .stripe ≡ sendAt ss j .stripe))
+        go (no! e) =
+            subst (λ (y : List Send). (j : ℕ)
+            → j < length y
+            → sendAt y j .waits ≡ true
+            → (j < length ss) × (sendAt ss j .waits ≡ true) × (sendAt ss j .stripe ≢ s) × (sendAt y j .stripe ≡ sendAt ss j .stripe))
             (sym (sends-as-were p st d s ss done e))
             (λ j b q. (b, q, none-waits (let x : writesIn st i ≤ 0 = ltb-false 0 (writesIn st i) e in omega arith) j b q, refl))
 
@@ -348,20 +375,26 @@ module _ (p : Params) (h : Ranged p) (v : View) (m : Memory) (ss : List Send) (n
     module _ (last : seals p (m .state) (slotOf (m .state) s) d ≡ true) (ends : l .M .next ≡ p .S) (lone : (j : ℕ) → j < 8 → inUse (m .state) j ≡ true → j ≡ slotOf (m .state) s) where
       room-u : (x : ℕ) → x < p .N → pointerAt v x z + cond (eqb x d) 1 0 ≤ suc (p .S)
       unfolding capacity
-      room-u x b = let k : pointerAt v x z + cond (eqb x d) 1 0 + footers p ≤ capacity p = subst (λ (y : ℕ). pointerAt v x y + cond (eqb x d) 1 0 + footers p ≤ capacity p) (land-zone p h v m ss n l fits d s A) (A .room last x b) in omega (arith, k)
+      room-u x b =
+          let k : pointerAt v x z + cond (eqb x d) 1 0 + footers p ≤ capacity p =
+          subst (λ (y : ℕ). pointerAt v x y + cond (eqb x d) 1 0 + footers p ≤ capacity p) (land-zone p h v m ss n l fits d s A)
+          (A .room last x b) in
+          omega (arith, k)
 
       ptr : (x : ℕ) → x < p .N → pointerAt u x z ≡ pointerAt v x z + cond (eqb x d) 1 0
       ptr x b = go (ℕ-discrete x d)
         where
           go : Dec (x ≡ d) → pointerAt u x z ≡ pointerAt v x z + cond (eqb x d) 1 0
           go (yes e) =
-              let k : pointerAt u d z ≡ suc (pointerAt v d z) = unfold pointerAt storeView putZone in ap (λ (q : Zone). q .pointer) (zone-set p v (l .reached .shape) d z (putZone (slotBlock p fl i d) (recordBytes (flightRec p st i d)) (zoneAt v d z)) (A .drive) zin) in
+              let k : pointerAt u d z ≡ suc (pointerAt v d z) = unfold pointerAt storeView putZone in
+              ap (λ (q : Zone). q .pointer) (zone-set p v (l .reached .shape) d z (putZone (slotBlock p fl i d) (recordBytes (flightRec p st i d)) (zoneAt v d z)) (A .drive) zin) in
               let f : _≡_ {A = ℕ} (cond (eqb x d) 1 0) 1 = cond-true (eqb x d) 1 0 (eq-eqb x d e) in
               let a : pointerAt u x z ≡ pointerAt u d z = ap (λ (y : ℕ). pointerAt u y z) e in
               let c : pointerAt v x z ≡ pointerAt v d z = ap (λ (y : ℕ). pointerAt v y z) e in
               omega (arith, k, f, a, c)
           go (no e) =
-              let k : pointerAt u x z ≡ pointerAt v x z = unfold pointerAt storeView in ap (λ (q : Zone). q .pointer) (zone-set-other p v (l .reached .shape) d z (putZone (slotBlock p fl i d) (recordBytes (flightRec p st i d)) (zoneAt v d z)) (A .drive) x z (inl e)) in
+              let k : pointerAt u x z ≡ pointerAt v x z = unfold pointerAt storeView in
+              ap (λ (q : Zone). q .pointer) (zone-set-other p v (l .reached .shape) d z (putZone (slotBlock p fl i d) (recordBytes (flightRec p st i d)) (zoneAt v d z)) (A .drive) x z (inl e)) in
               let f : _≡_ {A = ℕ} (cond (eqb x d) 1 0) 0 = cond-false (eqb x d) 1 0 (ne-eqb x d e) in
               omega (arith, k, f)
 
@@ -422,7 +455,8 @@ module _ (p : Params) (h : Ranged p) (v : View) (m : Memory) (ss : List Send) (n
       unfolding storeAll
       live-seal = live-after p h v (m .state) (m .inflight) (m .addresses) ss n l (w ∷ fs) sound₃ g₂ a₂ (l .c) (shut (ended M s)) (l .T) (setClosed st₂) fl tb₂ (landSends p st d s ss) later₂
           (go-more (parOf p h) (mst (l .g) v₀ (l .a) (l .c) (run M)) (mst g₂ (itemsIn p u₃) a₂ (l .c) (run (ended M s))) (mst g₂ (itemsIn p u₃) a₂ (l .c) (run (shut (ended M s)))) (l .T) (l .T) go₃
-          (seal (mst g₂ (itemsIn p u₃) a₂ (l .c) (run (ended M s))) (ended M s) refl none-ragged (sealed-idle p h v₀ st fl M (l .rel) d s i o (A .drive) (A .low) (A .used?) (A .number) oe wide done′ lone)))
+          (seal (mst g₂ (itemsIn p u₃) a₂ (l .c) (run (ended M s))) (ended M s) refl none-ragged
+          (sealed-idle p h v₀ st fl M (l .rel) d s i o (A .drive) (A .low) (A .used?) (A .number) oe wide done′ lone)))
           (sealed-rel p h v₀ st fl M (l .rel) d s i o (A .drive) (A .low) (A .used?) (A .number) oe wide done′ (itemsIn p u₃) lone)
           logged₂
           (λ j b q. let k : (j < length ss) × (sendAt ss j .waits ≡ true) × (sendAt ss j .stripe ≢ s) × (sendAt (landSends p st d s ss) j .stripe ≡ sendAt ss j .stripe) = still-waits j b q in
@@ -442,7 +476,10 @@ module _ (p : Params) (h : Ranged p) (v : View) (m : Memory) (ss : List Send) (n
   unfolding landPlan
   plan-stores = refl
 
-  plan-state : q .memory .state ≡ cond (seals p st i d) (setClosed (cond (completes p st i d) (freeStripe (markLanded st i d (pointerAt v d (zoneOn (openSegment st) d) - 1)) i) (markLanded st i d (pointerAt v d (zoneOn (openSegment st) d) - 1))))
+  plan-state :
+      q .memory .state
+      ≡ cond (seals p st i d) (setClosed (cond (completes p st i d) (freeStripe (markLanded st i d (pointerAt v d (zoneOn (openSegment st) d) - 1)) i)
+      (markLanded st i d (pointerAt v d (zoneOn (openSegment st) d) - 1))))
       (cond (completes p st i d) (freeStripe (markLanded st i d (pointerAt v d (zoneOn (openSegment st) d) - 1)) i) (markLanded st i d (pointerAt v d (zoneOn (openSegment st) d) - 1)))
   unfolding landPlan
   plan-state = refl
@@ -481,23 +518,30 @@ module _ (p : Params) (h : Ranged p) (v : View) (m : Memory) (ss : List Send) (n
 
   state-part : completes p st i d ≡ false → seals p st i d ≡ false → q .memory .state ≡ st₁
   state-part e f = plan-state
-      ∙ cond-false (seals p st i d) (setClosed (cond (completes p st i d) (freeStripe (markLanded st i d (pointerAt v d (zoneOn (openSegment st) d) - 1)) i) (markLanded st i d (pointerAt v d (zoneOn (openSegment st) d) - 1))))
+      ∙ cond-false (seals p st i d) (setClosed (cond (completes p st i d)
+      (freeStripe (markLanded st i d (pointerAt v d (zoneOn (openSegment st) d) - 1)) i)
+      (markLanded st i d (pointerAt v d (zoneOn (openSegment st) d) - 1))))
       (cond (completes p st i d) (freeStripe (markLanded st i d (pointerAt v d (zoneOn (openSegment st) d) - 1)) i) (markLanded st i d (pointerAt v d (zoneOn (openSegment st) d) - 1))) f
       ∙ cond-false (completes p st i d) (freeStripe (markLanded st i d (pointerAt v d (zoneOn (openSegment st) d) - 1)) i) (markLanded st i d (pointerAt v d (zoneOn (openSegment st) d) - 1)) e
       ∙ ap (markLanded st i d) plan-o
 
   state-done : completes p st i d ≡ true → seals p st i d ≡ false → q .memory .state ≡ freeStripe st₁ i
   state-done e f = plan-state
-      ∙ cond-false (seals p st i d) (setClosed (cond (completes p st i d) (freeStripe (markLanded st i d (pointerAt v d (zoneOn (openSegment st) d) - 1)) i) (markLanded st i d (pointerAt v d (zoneOn (openSegment st) d) - 1))))
+      ∙ cond-false (seals p st i d) (setClosed (cond (completes p st i d)
+      (freeStripe (markLanded st i d (pointerAt v d (zoneOn (openSegment st) d) - 1)) i)
+      (markLanded st i d (pointerAt v d (zoneOn (openSegment st) d) - 1))))
       (cond (completes p st i d) (freeStripe (markLanded st i d (pointerAt v d (zoneOn (openSegment st) d) - 1)) i) (markLanded st i d (pointerAt v d (zoneOn (openSegment st) d) - 1))) f
       ∙ cond-true (completes p st i d) (freeStripe (markLanded st i d (pointerAt v d (zoneOn (openSegment st) d) - 1)) i) (markLanded st i d (pointerAt v d (zoneOn (openSegment st) d) - 1)) e
       ∙ ap (λ (x : ℕ). freeStripe (markLanded st i d x) i) plan-o
 
   state-sealed : completes p st i d ≡ true → seals p st i d ≡ true → q .memory .state ≡ setClosed (freeStripe st₁ i)
   state-sealed e f = plan-state
-      ∙ cond-true (seals p st i d) (setClosed (cond (completes p st i d) (freeStripe (markLanded st i d (pointerAt v d (zoneOn (openSegment st) d) - 1)) i) (markLanded st i d (pointerAt v d (zoneOn (openSegment st) d) - 1))))
+      ∙ cond-true (seals p st i d) (setClosed (cond (completes p st i d)
+      (freeStripe (markLanded st i d (pointerAt v d (zoneOn (openSegment st) d) - 1)) i)
+      (markLanded st i d (pointerAt v d (zoneOn (openSegment st) d) - 1))))
       (cond (completes p st i d) (freeStripe (markLanded st i d (pointerAt v d (zoneOn (openSegment st) d) - 1)) i) (markLanded st i d (pointerAt v d (zoneOn (openSegment st) d) - 1))) f
-      ∙ ap setClosed (cond-true (completes p st i d) (freeStripe (markLanded st i d (pointerAt v d (zoneOn (openSegment st) d) - 1)) i) (markLanded st i d (pointerAt v d (zoneOn (openSegment st) d) - 1)) e
+      ∙ ap setClosed (cond-true (completes p st i d) (freeStripe (markLanded st i d (pointerAt v d (zoneOn (openSegment st) d) - 1)) i)
+      (markLanded st i d (pointerAt v d (zoneOn (openSegment st) d) - 1)) e
       ∙ ap (λ (x : ℕ). freeStripe (markLanded st i d x) i) plan-o)
 
   -- ---- which of the three
@@ -540,9 +584,12 @@ module _ (p : Params) (h : Ranged p) (v : View) (m : Memory) (ss : List Send) (n
       go : Test (seals p st i d) → Test (completes p st i d) → CallOk p h (l .g) v q ss (landSends p st d s ss) n
       go (yes! e) t =
           let c : (completes p st i d ≡ true) × (M .next ≡ p .S) = completed e in
-          call-as p h (l .g) v q (w ∷ sealStores p u z) (setClosed (freeStripe st₁ i)) fl (tb₂ (c .0)) ss (landSends p st d s ss) (landSends p st d s ss) n (stores-all-of e) (state-sealed (c .0) e) plan-inflight (addresses-done (c .0)) refl
+          call-as p h (l .g) v q (w ∷ sealStores p u z) (setClosed (freeStripe st₁ i)) fl (tb₂ (c .0)) ss (landSends p st d s ss)
+          (landSends p st d s ss) n (stores-all-of e) (state-sealed (c .0) e) plan-inflight (addresses-done (c .0)) refl
           (sound₃ (c .0) e (c .1) (only-one e)) (live-seal (c .0) e (c .1) (only-one e)) (cut₃ (c .0) e (c .1) (only-one e))
       go (no! e) (yes! c) =
-          call-as p h (l .g) v q (w ∷ []) (freeStripe st₁ i) fl (tb₂ c) ss (landSends p st d s ss) (landSends p st d s ss) n (stores-one e) (state-done c e) plan-inflight (addresses-done c) refl sound₁ (live-done c (another-flies c e)) cut₁
+          call-as p h (l .g) v q (w ∷ []) (freeStripe st₁ i) fl (tb₂ c) ss (landSends p st d s ss) (landSends p st d s ss) n (stores-one e)
+          (state-done c e) plan-inflight (addresses-done c) refl sound₁ (live-done c (another-flies c e)) cut₁
       go (no! e) (no! c) =
-          call-as p h (l .g) v q (w ∷ []) st₁ fl (m .addresses) ss (landSends p st d s ss) ss n (stores-one e) (state-part c e) plan-inflight (addresses-same c) (sends-none p st d s ss c) sound₁ (live-part c) cut₁
+          call-as p h (l .g) v q (w ∷ []) st₁ fl (m .addresses) ss (landSends p st d s ss) ss n (stores-one e) (state-part c e) plan-inflight
+          (addresses-same c) (sends-none p st d s ss c) sound₁ (live-part c) cut₁

@@ -32,13 +32,15 @@ use Rattle.machine.specs.Val.{Val}
 use Rattle.machine.specs.View.{Item, View as m-View, upd-same, after, In, chunk-num}
 use Rattle.machine.specs.View.Item.{chunk, foot}
 use Rattle.runs.specs.Base.{or-l, or-r, setAt-here, setAt-else}
-use Rattle.runs.specs.Cells.{SameSlot, same-used, same-then, land-long, land-number, land-filled, land-entry, land-write, land-landed, land-offset, land-offset-old, land-same, free-long, free-filled, free-same, closed-same}
+use Rattle.runs.specs.Cells.{SameSlot, same-used, same-then, land-long, land-number, land-filled, land-entry, land-write, land-landed, land-offset}
+use Rattle.runs.specs.Cells.{land-offset-old, land-same, free-long, free-filled, free-same, closed-same}
 use Rattle.runs.specs.Rel.{SlotRel, SlotOf, slot-keep, Long, inUse, used-filled, filled-used, Rel, Waiting}
 
 pub off-here : (l : List Item) (i : Item) → Off (l ++ (i ∷ [])) (length l) i
 off-here l i = (omega (arith, length-snoc l i), getD-append-seam l i [] (foot 0))
 
-module _ (p : Params) (h : Ranged p) (v : m-View) (st : State) (fl : List ℕ) (M : Mem) (R : Rel p v st fl M) (d s i o : ℕ) (dl : d < p .N) (il : i < 8) (u : inUse st i ≡ true) (number : stripeIn st i ≡ s)
+module _ (p : Params) (h : Ranged p) (v : m-View) (st : State) (fl : List ℕ) (M : Mem) (R : Rel p v st fl M) (d s i o : ℕ) (dl : d < p .N)
+    (il : i < 8) (u : inUse st i ≡ true) (number : stripeIn st i ≡ s)
     (oe : suc o ≡ length (v d (M .zone))) (wide : landedIn st i < 2 ^ p .N) where
   abbrev z : ℕ
   z = M .zone
@@ -105,7 +107,16 @@ module _ (p : Params) (h : Ranged p) (v : m-View) (st : State) (fl : List ℕ) (
   apart : (j : ℕ) → j < 8 → inUse st j ≡ true → j ≢ i → stripeIn st j ≢ s
   apart j jl q n e = n (R .once j i jl il q u (e ∙ sym number))
 
-  there : (st′ : State) (j : ℕ) → j < 8 → inUse st j ≡ true → j ≢ i → SameSlot st st′ j → (G : ℕ → Val) (r : ℕ → Bool) → G ≡ M .F (stripeIn st j) → r ≡ M .ready (stripeIn st j) → SlotOf p v′ st′ fl z j G r
+  there :
+      (st′ : State) (j : ℕ)
+      → j < 8
+      → inUse st j ≡ true
+      → j ≢ i
+      → SameSlot st st′ j
+      → (G : ℕ → Val) (r : ℕ → Bool)
+      → G ≡ M .F (stripeIn st j)
+      → r ≡ M .ready (stripeIn st j)
+      → SlotOf p v′ st′ fl z j G r
   there st′ j jl q n S G r eg er = slot-keep p h (λ e. v e z) (λ e. v′ e z) (slotBlock p fl j) (slotBlock p fl j) (entryIn st j) (entryIn st′ j) (offsetIn st j) (offsetIn st′ j)
       (stripeIn st j) (stripeIn st′ j) (filledIn st j) (filledIn st′ j) (landedIn st j) (landedIn st′ j) G r
       (S .number) (S .filled) (S .landed) (λ e el. refl) (S .entry) (S .offset) (λ e x y el w. fwd e x y w) (λ e x el w. back (stripeIn st j) (apart j jl q n) e x w)

@@ -88,7 +88,8 @@ ready-parts p st i d e =
 placed-well : (p : Params) (v : View) (d z s : ℕ) → misplaced p v d z s ≡ false → (1 ≤ pointerAt v d z) × (pointerAt v d z ≤ p .S) × (group p (pointerAt v d z - 1) ≡ group p s)
 unfolding misplaced
 placed-well p v d z s e =
-    let q : (between 1 (p .S) (pointerAt v d z) && eqb (group p (pointerAt v d z - 1)) (group p s)) ≡ true = not-false (between 1 (p .S) (pointerAt v d z) && eqb (group p (pointerAt v d z - 1)) (group p s)) e in
+    let q : (between 1 (p .S) (pointerAt v d z) && eqb (group p (pointerAt v d z - 1)) (group p s)) ≡ true =
+    not-false (between 1 (p .S) (pointerAt v d z) && eqb (group p (pointerAt v d z - 1)) (group p s)) e in
     let b : between 1 (p .S) (pointerAt v d z) ≡ true = and-left (between 1 (p .S) (pointerAt v d z)) (eqb (group p (pointerAt v d z - 1)) (group p s)) q in (
       between-low 1 (p .S) (pointerAt v d z) b,
       between-high 1 (p .S) (pointerAt v d z) b,
@@ -98,13 +99,17 @@ placed-well p v d z s e =
 room-of : (p : Params) (v : View) (d z : ℕ) → overfull p v d z ≡ false → (e : ℕ) → e < p .N → pointerAt v e z + cond (eqb e d) 1 0 + footers p ≤ capacity p
 unfolding overfull zoneOn drivesOf
 room-of p v d z q e l =
-    ltb-false (capacity p) (pointerAt v e z + cond (eqb e d) 1 0 + footers p) (any-false (λ e. ltb (capacity p) (pointerAt v e z + cond (eqb e d) 1 0 + footers p)) (below (p .N)) q e (has-below e (p .N) l))
+    ltb-false (capacity p) (pointerAt v e z + cond (eqb e d) 1 0 + footers p)
+    (any-false (λ e. ltb (capacity p) (pointerAt v e z + cond (eqb e d) 1 0 + footers p)) (below (p .N)) q e (has-below e (p .N) l))
 
 pub land-asked : (p : Params) (long : Bool) (v : View) (m : Memory) (d s : ℕ) → firstRefusal (landChecks p long v m d s) ≡ none → LandAsked p v (m .state) d s
 unfolding landChecks
 land-asked p long v m d s e =
     let st : State = m .state in
-    let q : (not (inRange p) ≡ false) × ((not long ≡ false) × ((not (eqb (st .missing) 0) ≡ false) × ((not (waiting p st d s) ≡ false) × ((stateFaults p st ++ landFaults p v m d s ≡ []) × Unit {0})))) =
+    let q : (not (inRange p) ≡ false)
+    × ((not long ≡ false)
+    × ((not (eqb (st .missing) 0) ≡ false) × ((not (waiting p st d s) ≡ false) × ((stateFaults p st ++ landFaults p v m d s ≡ []) × Unit {0}))))
+    =
     passes (landChecks p long v m d s) e in
     let w : ((ltb d (p .N) && ltb (slotOf st s) 8) && ready p st (slotOf st s) d) ≡ true = waits (not-false (waiting p st d s) (q .1 .1 .1 .0)) in
     let x : (ltb d (p .N) && ltb (slotOf st s) 8) ≡ true = and-left (ltb d (p .N) && ltb (slotOf st s) 8) (ready p st (slotOf st s) d) w in
@@ -135,8 +140,10 @@ land-asked p long v m d s e =
     faults : landFaults p v m d s ≡ [] → (misplaced p v d (openSegment (m .state)) s ≡ false) × ((seals p (m .state) (slotOf (m .state) s) d && overfull p v d (openSegment (m .state))) ≡ false)
     faults x = unfold landFaults zoneOn in
         let zs : List ℕ = cond (completes p (m .state) (slotOf (m .state) s) d) (flat (entryFaults p v (m .addresses)) (entriesIn (m .state) (slotOf (m .state) s))) [] in
-        let a : (misplaced p v d (openSegment (m .state)) s ≡ false) × (consIf (seals p (m .state) (slotOf (m .state) s) d && overfull p v d (openSegment (m .state))) (openSegment (m .state)) zs ≡ []) =
-        consIf-none (misplaced p v d (openSegment (m .state)) s) (openSegment (m .state)) (consIf (seals p (m .state) (slotOf (m .state) s) d && overfull p v d (openSegment (m .state))) (openSegment (m .state)) zs) x in
+        let a : (misplaced p v d (openSegment (m .state)) s ≡ false)
+        × (consIf (seals p (m .state) (slotOf (m .state) s) d && overfull p v d (openSegment (m .state))) (openSegment (m .state)) zs ≡ []) =
+        consIf-none (misplaced p v d (openSegment (m .state)) s) (openSegment (m .state))
+        (consIf (seals p (m .state) (slotOf (m .state) s) d && overfull p v d (openSegment (m .state))) (openSegment (m .state)) zs) x in
         (a .0, consIf-none (seals p (m .state) (slotOf (m .state) s) d && overfull p v d (openSegment (m .state))) (openSegment (m .state)) zs (a .1) .0)
 
 -- ---- the chunk
@@ -200,7 +207,9 @@ module _ (p : Params) (h : Ranged p) (v : View) (m : Memory) (ss : List Send) (n
 
   -- a filled position
   pub land-held : (k : ℕ) → k < filledIn (m .state) (slotOf (m .state) s)
-      → (l .M .F s (dataDrive p s k) ≡ valueOf (slotBlock p (m .inflight) (slotOf (m .state) s) (dataDrive p s k)) (entryIn (m .state) (slotOf (m .state) s) k)) × ((entryIn (m .state) (slotOf (m .state) s) k .address < 256 ^ 8) × (entryIn (m .state) (slotOf (m .state) s) k .stamp < 256 ^ 8))
+      → (l .M .F s (dataDrive p s k)
+      ≡ valueOf (slotBlock p (m .inflight) (slotOf (m .state) s) (dataDrive p s k)) (entryIn (m .state) (slotOf (m .state) s) k))
+      × ((entryIn (m .state) (slotOf (m .state) s) k .address < 256 ^ 8) × (entryIn (m .state) (slotOf (m .state) s) k .stamp < 256 ^ 8))
   land-held k b = (e, fit)
     where
       b′ : k < dataCount p
@@ -255,7 +264,9 @@ module _ (p : Params) (h : Ranged p) (v : View) (m : Memory) (ss : List Send) (n
   })
     where
       full : filledIn st i ≡ dataCount p
-      full = let b : dataCount p ≤ filledIn st i = leb-true (dataCount p) (filledIn st i) (sym (ready-parity p s (filledIn st i)) ∙ ap (readyAt p s (filledIn st i)) (sym e) ∙ A .may) in omega (arith, b, land-slot .most)
+      full =
+          let b : dataCount p ≤ filledIn st i = leb-true (dataCount p) (filledIn st i) (sym (ready-parity p s (filledIn st i)) ∙ ap (readyAt p s (filledIn st i)) (sym e) ∙ A .may) in
+          omega (arith, b, land-slot .most)
 
       is : flightRec p st i d ≡ parityRec s (map (entryIn st i) (below (filledIn st i)))
       is = unfold flightRec entriesIn in (
@@ -308,9 +319,12 @@ module _ (p : Params) (h : Ranged p) (v : View) (m : Memory) (ss : List Send) (n
   len = live-len p h v (m .state) (m .inflight) (m .addresses) ss n l d z (A .drive) zone-in
 
   pub land-step : (T : Track) → Go (parOf p h) (mst (l .g) (itemsIn p v) (l .a) (l .c) (run (l .M))) (mst (l .g) (itemsIn p landView) (l .a) (l .c) (run (l .M))) T T
-  land-step T = go-view (parOf p h) (mst (l .g) (itemsIn p v) (l .a) (l .c) (run (l .M))) (l .g) (after (itemsIn p v) d z (chunk s (M .F s d))) (itemsIn p landView) (l .a) (l .c) (run (l .M)) T T (sym land-items)
+  land-step T =
+      go-view (parOf p h) (mst (l .g) (itemsIn p v) (l .a) (l .c) (run (l .M))) (l .g) (after (itemsIn p v) d z (chunk s (M .F s d)))
+      (itemsIn p landView) (l .a) (l .c) (run (l .M)) T T (sym land-items)
       (go-step (parOf p h) (mst (l .g) (itemsIn p v) (l .a) (l .c) (run (l .M))) (mst (l .g) (after (itemsIn p v) d z (chunk s (M .F s d))) (l .a) (l .c) (run (l .M))) T
-      (m-land (mst (l .g) (itemsIn p v) (l .a) (l .c) (run (l .M))) M d s refl (A .drive) land-flies (λ x k. land-slot .out d (A .drive) (A .fresh) x (subst (λ (y : ℕ). In (chunk y x) (itemsIn p v d z)) (sym (A .number)) k)) may
+      (m-land (mst (l .g) (itemsIn p v) (l .a) (l .c) (run (l .M))) M d s refl (A .drive) land-flies
+      (λ x k. land-slot .out d (A .drive) (A .fresh) x (subst (λ (y : ℕ). In (chunk y x) (itemsIn p v d z)) (sym (A .number)) k)) may
       (λ k e. let f : pointerAt v d z ≡ suc k = sym len ∙ e in
       let o : pointerAt v d z - 1 ≡ k = omega (arith, f) in
       (omega (arith, f, to), sym (ap (λ (x : ℕ). group p (pointerAt v d x - 1)) (sym land-zone) ∙ A .group?) ∙ ap (group p) o))))

@@ -154,13 +154,16 @@ module _ (p : Params) (h : Ranged p) (g : Ghost) (v : View) (a : List Val) (c : 
   open-sound = follow .sound
 
   pub open-go : (T : Track) → Go (parOf p h) (mst g (itemsIn p v) a c (run M)) (mst g′ (itemsIn p (storeAll storeView ss v)) a c (run (openMem M w (suc (M .serial))))) T T
-  open-go T = go-view (parOf p h) (mst g (itemsIn p v) a c (run M)) g′ (applyAll (itemsIn p v) (headers (parOf p h) g w (suc (M .serial)))) (itemsIn p (storeAll storeView ss v)) a c (run (openMem M w (suc (M .serial)))) T T
+  open-go T =
+      go-view (parOf p h) (mst g (itemsIn p v) a c (run M)) g′ (applyAll (itemsIn p v) (headers (parOf p h) g w (suc (M .serial))))
+      (itemsIn p (storeAll storeView ss v)) a c (run (openMem M w (suc (M .serial)))) T T
       (sym (follows-all p h v ss (headers (parOf p h) g w (suc (M .serial))) s follow))
       (go-step (parOf p h) (mst g (itemsIn p v) a c (run M)) (mst g′ (applyAll (itemsIn p v) (headers (parOf p h) g w (suc (M .serial)))) a c (run (openMem M w (suc (M .serial))))) T
       (open-done (mst g (itemsIn p v) a c (run M)) M w refl (may-open p v two h g M shut?)))
 
   pub open-cut-go : (n : ℕ) (T : Track) → Go (parOf p h) (mst g (itemsIn p v) a c (run M)) (mst g′ (itemsIn p (storeAll storeView (take n ss) v)) a c off) T T
-  open-cut-go n T = go-view (parOf p h) (mst g (itemsIn p v) a c (run M)) g′ (applyAll (itemsIn p v) (take n (headers (parOf p h) g w (suc (M .serial))))) (itemsIn p (storeAll storeView (take n ss) v)) a c off T T
+  open-cut-go n T =
+      go-view (parOf p h) (mst g (itemsIn p v) a c (run M)) g′ (applyAll (itemsIn p v) (take n (headers (parOf p h) g w (suc (M .serial))))) (itemsIn p (storeAll storeView (take n ss) v)) a c off T T
       (sym (follows-cut p h v ss (headers (parOf p h) g w (suc (M .serial))) n s follow))
       (go-step (parOf p h) (mst g (itemsIn p v) a c (run M)) (mst g′ (applyAll (itemsIn p v) (take n (headers (parOf p h) g w (suc (M .serial))))) a c off) T
       (open-cut (mst g (itemsIn p v) a c (run M)) M w n refl (may-open p v two h g M shut?)))

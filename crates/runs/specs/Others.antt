@@ -49,7 +49,10 @@ use Rattle.runs.specs.Write.{append-none}
 
 -- ---- refused calls, whatever their answer
 
-pub refused-any : (p : Params) (s : Hist) (c : Call) → (firstRefusal (decides p (lentOk p (s .world .disk) (s .world .memory)) (seen p (s .world .disk)) (s .world .memory) c .checks) ≡ none → ⊥) → step p s (calls c) ≡ s
+pub refused-any :
+    (p : Params) (s : Hist) (c : Call)
+    → (firstRefusal (decides p (lentOk p (s .world .disk) (s .world .memory)) (seen p (s .world .disk)) (s .world .memory) c .checks) ≡ none → ⊥)
+    → step p s (calls c) ≡ s
 refused-any p s c out = go (firstRefusal (decides p (lentOk p (s .world .disk) (s .world .memory)) (seen p (s .world .disk)) (s .world .memory) c .checks)) refl
   where
     go : (o : Opt Answer) → firstRefusal (decides p (lentOk p (s .world .disk) (s .world .memory)) (seen p (s .world .disk)) (s .world .memory) c .checks) ≡ o → step p s (calls c) ≡ s
@@ -109,7 +112,9 @@ read-step p s a = go (firstRefusal (D .checks)) refl
         due-is = ap (decided none) plan-is ∙ (unfold decided in refl)
 
         is : callDisk p (s .world .disk) (s .world .memory) (read a) ≡ mkAfter (readAnswer p f) (s .world .disk) (s .world .memory) []
-        is = unfold callDisk callOn in (ap (outcome p (storeDisk p) (storeCount (read a)) (s .world .disk) (s .world .memory) (lentBlock (read a))) (D .is ∙ ap (λ (o : Opt Answer). decided o (D .plan)) e ∙ due-is)
+        is =
+            unfold callDisk callOn in (ap (outcome p (storeDisk p) (storeCount (read a)) (s .world .disk) (s .world .memory) (lentBlock (read a)))
+            (D .is ∙ ap (λ (o : Opt Answer). decided o (D .plan)) e ∙ due-is)
             ∙ nothing-due p (s .world .disk) (s .world .memory) (storeCount (read a)) (lentBlock (read a)) (readAnswer p f) [])
 
 pub fill-step : (p : Params) (s : Hist) (a : ℕ) (b : List ℕ) → step p s (calls (fill a b)) ≡ s
@@ -135,7 +140,9 @@ fill-step p s a b = go (firstRefusal (D .checks)) refl
         due-is = ap (decided none) plan-is ∙ (unfold decided in refl)
 
         is : callDisk p (s .world .disk) (s .world .memory) (fill a b) ≡ mkAfter Filled (s .world .disk) (s .world .memory) (D .plan .block)
-        is = unfold callDisk callOn in (ap (outcome p (storeDisk p) (storeCount (fill a b)) (s .world .disk) (s .world .memory) (lentBlock (fill a b))) (D .is ∙ ap (λ (o : Opt Answer). decided o (D .plan)) e ∙ due-is)
+        is =
+            unfold callDisk callOn in (ap (outcome p (storeDisk p) (storeCount (fill a b)) (s .world .disk) (s .world .memory) (lentBlock (fill a b)))
+            (D .is ∙ ap (λ (o : Opt Answer). decided o (D .plan)) e ∙ due-is)
             ∙ nothing-due p (s .world .disk) (s .world .memory) (storeCount (fill a b)) (lentBlock (fill a b)) Filled (D .plan .block))
 
 -- ---- the power is off: the state is all zeros
@@ -165,12 +172,16 @@ off-refused p long v m (land d s n) r z e = unfold landChecks in bad (append-non
   where
     bad : stateFaults p (m .state) ≡ [] → ⊥
     bad q = bad-fault p (m .state) (ap (stateOk p) z ∙ zero-bad p) q
-off-refused p long v m (close n) r z e = unfold closeChecks in bad (append-none (stateFaults p (m .state)) (cond (scarce p v 1) (tableFaults p (m .addresses)) []) (passes (closeChecks p long v m) e .1 .1 .1 .1 .0) .0)
+off-refused p long v m (close n) r z e =
+    unfold closeChecks in bad (append-none (stateFaults p (m .state)) (cond (scarce p v 1) (tableFaults p (m .addresses)) []) (passes (closeChecks p long v m) e .1 .1 .1 .1 .0) .0)
   where
     bad : stateFaults p (m .state) ≡ [] → ⊥
     bad q = bad-fault p (m .state) (ap (stateOk p) z ∙ zero-bad p) q
-off-refused p long v m (reclaim n) r z e = unfold reclaimChecks in bad (append-none (stateFaults p (m .state)) (tableFaults p (m .addresses)) (append-none (stateFaults p (m .state) ++ tableFaults p (m .addresses))
-    (map (λ q. victimSegment (victim p v (m .addresses))) (keep (λ q. not (between 1 (p .S) (placeBlock p q))) (victimLive (victim p v (m .addresses))))) (passes (reclaimChecks p long v m (victim p v (m .addresses))) e .1 .1 .1 .1 .1 .1 .1 .0) .0) .0)
+off-refused p long v m (reclaim n) r z e =
+    unfold reclaimChecks in bad (append-none (stateFaults p (m .state)) (tableFaults p (m .addresses)) (append-none (stateFaults p (m .state) ++ tableFaults p (m .addresses))
+    (map (λ q. victimSegment (victim p v (m .addresses)))
+    (keep (λ q. not (between 1 (p .S) (placeBlock p q))) (victimLive (victim p v (m .addresses)))))
+    (passes (reclaimChecks p long v m (victim p v (m .addresses))) e .1 .1 .1 .1 .1 .1 .1 .0) .0) .0)
   where
     bad : stateFaults p (m .state) ≡ [] → ⊥
     bad q = bad-fault p (m .state) (ap (stateOk p) z ∙ zero-bad p) q
@@ -190,7 +201,9 @@ off-refused p long v m (restart d n) r z e = absurd (let x : _≡_ {A = ℕ} 0 1
     boot : restartOf (restart d n) ≡ none → _≡_ {A = ℕ} 0 1
     boot e = unfold restartOf in cc
 off-refused p long v m (rebuild d n) r z e = unfold rebuildChecks namesMissing in
-    let q : (ltb d (p .N) && eqb (m .state .missing) (named d)) ≡ true = not-false (ltb d (p .N) && eqb (m .state .missing) (named d)) (or-r (not (inRange p)) (not (ltb d (p .N) && eqb (m .state .missing) (named d)))
+    let q : (ltb d (p .N) && eqb (m .state .missing) (named d))
+    ≡ true = not-false (ltb d (p .N) && eqb (m .state .missing) (named d)) (or-r (not (inRange p))
+    (not (ltb d (p .N) && eqb (m .state .missing) (named d)))
     (passes (rule 1 (not (inRange p) || not (ltb d (p .N) && eqb (m .state .missing) (named d))) ∷ rule 2 (not long) ∷ imageChecks p v (named d) (segments p v (named d))) e .0)) in
     named-nothing (not-false (inRange p) (or-l (not (inRange p)) (not (ltb d (p .N) && eqb (m .state .missing) (named d)))
     (passes (rule 1 (not (inRange p) || not (ltb d (p .N) && eqb (m .state .missing) (named d))) ∷ rule 2 (not long) ∷ imageChecks p v (named d) (segments p v (named d))) e .0)))
@@ -227,9 +240,13 @@ missing-step p s (close n) r nb z = refused-any p s (close n) (λ e. out (unfold
         (passes (closeChecks p (lentOk p (s .world .disk) (s .world .memory)) (seen p (s .world .disk)) (s .world .memory)) e .1 .1 .0))))
 missing-step p s (reclaim n) r nb z = refused-any p s (reclaim n) (λ e. out (unfold decides in e))
   where
-    out : firstRefusal (reclaimChecks p (lentOk p (s .world .disk) (s .world .memory)) (seen p (s .world .disk)) (s .world .memory) (victim p (seen p (s .world .disk)) (s .world .memory .addresses))) ≡ none → ⊥
+    out :
+        firstRefusal (reclaimChecks p (lentOk p (s .world .disk) (s .world .memory)) (seen p (s .world .disk)) (s .world .memory)
+        (victim p (seen p (s .world .disk)) (s .world .memory .addresses))) ≡ none
+        → ⊥
     out e = z (eqb-true (s .world .memory .state .missing) 0 (not-false (eqb (s .world .memory .state .missing) 0) (unfold reclaimChecks in
-        (passes (reclaimChecks p (lentOk p (s .world .disk) (s .world .memory)) (seen p (s .world .disk)) (s .world .memory) (victim p (seen p (s .world .disk)) (s .world .memory .addresses))) e .1 .1 .0))))
+        (passes (reclaimChecks p (lentOk p (s .world .disk) (s .world .memory)) (seen p (s .world .disk)) (s .world .memory)
+        (victim p (seen p (s .world .disk)) (s .world .memory .addresses))) e .1 .1 .0))))
 missing-step p s (read a) r nb z = read-step p s a
 missing-step p s (fill a b) r nb z = fill-step p s a b
 missing-step p s (restart d n) r nb z = absurd (let x : _≡_ {A = ℕ} 0 1 = boot r in let q : ⊥ = omega arith in q)

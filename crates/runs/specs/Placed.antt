@@ -194,7 +194,9 @@ module _ (p : Params) (h : Ranged p) (st : State) (L : Long st) (fl : List ℕ) 
 
     here : SlotOf p v (addEntry st i a t w) now (M .zone) i G r
     unfolding addEntry offsetIn stripeIn landedIn
-    here = rw (add-filled st L i il a t w k8) (slot-add p h (λ e. v e (M .zone)) (slotBlock p fl i) (slotBlock p now i) (entryIn st i) (entryIn (addEntry st i a t w) i) (offsetIn st i) s k (landedIn st i)
+    here =
+        rw (add-filled st L i il a t w k8) (slot-add p h (λ e. v e (M .zone)) (slotBlock p fl i) (slotBlock p now i) (entryIn st i)
+        (entryIn (addEntry st i a t w) i) (offsetIn st i) s k (landedIn st i)
         (M .F s) G (M .ready s) r (R .slot i il u) kl mine
         (λ j l n. placed-other i (dataDrive p s j) il (data-drive-lt p s j l) (inr ((λ e. n (data-drive-once p s j k e)), λ e. data-not-parity p s j e)))
         (λ j l. add-entry-old st L i il a t w k8 i j (omega (arith, k8)) (inr (omega arith)))
@@ -203,8 +205,11 @@ module _ (p : Params) (h : Ranged p) (st : State) (L : Long st) (fl : List ℕ) 
         old may)
 
     there : (j : ℕ) → j < 8 → U j ≡ true → j ≢ i → SlotOf p v (addEntry st i a t w) now (M .zone) j (M .F (stripeIn st j)) (M .ready (stripeIn st j))
-    there j jl q n = slot-keep p h (λ e. v e (M .zone)) (λ e. v e (M .zone)) (slotBlock p fl j) (slotBlock p now j) (entryIn st j) (entryIn (addEntry st i a t w) j) (offsetIn st j) (offsetIn (addEntry st i a t w) j)
-        (stripeIn st j) (stripeIn (addEntry st i a t w) j) (filledIn st j) (filledIn (addEntry st i a t w) j) (landedIn st j) (landedIn (addEntry st i a t w) j) (M .F (stripeIn st j)) (M .ready (stripeIn st j))
+    there j jl q n =
+        slot-keep p h (λ e. v e (M .zone)) (λ e. v e (M .zone)) (slotBlock p fl j) (slotBlock p now j) (entryIn st j)
+        (entryIn (addEntry st i a t w) j) (offsetIn st j) (offsetIn (addEntry st i a t w) j)
+        (stripeIn st j) (stripeIn (addEntry st i a t w) j) (filledIn st j) (filledIn (addEntry st i a t w) j) (landedIn st j)
+        (landedIn (addEntry st i a t w) j) (M .F (stripeIn st j)) (M .ready (stripeIn st j))
         (S .number) (S .filled) (S .landed) (λ e el. placed-other j e jl el (inl n)) (S .entry) (S .offset) (λ e x y el o. o) (λ e x el o. o) (R .slot j jl q)
       where
         S : SameSlot st (addEntry st i a t w) j

@@ -127,7 +127,10 @@ module _ (p : Params) (h : Ranged p) (g : Ghost) (v : View) (k : OnDrives p h g 
     place = ap (λ (y : Cand). y .place) (from .is) ∙ here
       where
         off-here : offsetOf (named 255) (segmentOf p v (named 255) (from .z)) (from .s) (from .d) ≡ o
-        off-here = unfold offsetOf o in cond-false (isIn (named 255) (from .d)) (from .s) (offsetOn (segmentOf p v (named 255) (from .z)) (from .d) (from .s)) (not-named p h 255 (from .d) (from .drv) (not-m (from .d) (from .drv)))
+        off-here =
+            unfold offsetOf o in cond-false (isIn (named 255) (from .d)) (from .s)
+            (offsetOn (segmentOf p v (named 255) (from .z)) (from .d) (from .s))
+            (not-named p h 255 (from .d) (from .drv) (not-m (from .d) (from .drv)))
 
         here : candOf p (named 255) (segmentOf p v (named 255) (from .z)) (from .s) (from .d) .place ≡ placeOf p (from .d) (from .z) (1 + o)
         here = unfold candOf zoneOn segmentOf in ap (λ (n : ℕ). placeOf p (from .d) (from .z) (1 + n)) off-here
@@ -162,7 +165,9 @@ module _ (p : Params) (h : Ranged p) (g : Ghost) (v : View) (k : OnDrives p h g 
 
     -- the block and record at its place
     abbrev pub valueAt : Val
-    valueAt = valueOf (chunkAt v (placeDrive p (x .place)) (placeZone p (x .place)) (placeBlock p (x .place)) .block) (recordAt p v 0 (placeDrive p (x .place)) (placeZone p (x .place)) (placeBlock p (x .place) - 1))
+    valueAt =
+        valueOf (chunkAt v (placeDrive p (x .place)) (placeZone p (x .place)) (placeBlock p (x .place)) .block)
+        (recordAt p v 0 (placeDrive p (x .place)) (placeZone p (x .place)) (placeBlock p (x .place) - 1))
 
     value-here : valueAt ≡ valueOf (blockIn (zoneAt v (from .d) (from .z)) (suc o) .block) (recordOf (blockIn (zoneAt v (from .d) (from .z)) (suc o) .spare))
     value-here =
@@ -176,7 +181,10 @@ module _ (p : Params) (h : Ranged p) (g : Ghost) (v : View) (k : OnDrives p h g 
     value-is = value-here
         ∙ sym (piece-value ∙ value-same (blockIn (zoneAt v (from .d) (from .z)) (suc o) .block) (recordOf (blockIn (zoneAt v (from .d) (from .z)) (suc o) .spare)))
       where
-        piece-value : pieceAt p h g v k 255 c (from .z) (from .s) (from .d) ≡ pieceValue (mkPiece (blockIn (zoneAt v (from .d) (from .z)) (suc o) .block) (recordOf (blockIn (zoneAt v (from .d) (from .z)) (suc o) .spare)))
+        piece-value :
+            pieceAt p h g v k 255 c (from .z) (from .s) (from .d)
+            ≡ pieceValue
+            (mkPiece (blockIn (zoneAt v (from .d) (from .z)) (suc o) .block) (recordOf (blockIn (zoneAt v (from .d) (from .z)) (suc o) .spare)))
         piece-value = unfold pieceAt o in ap pieceValue (piece-here p h g v k 255 c (from .z) (from .s) (from .d) (from .drv) (not-m (from .d) (from .drv))
             ∙ stored-piece p h g v k 255 c (from .z) (from .s) (from .d) zb (from .drv) (not-m (from .d) (from .drv)) has)
 
@@ -204,7 +212,11 @@ module _ (p : Params) (h : Ranged p) (g : Ghost) (v : View) (k : OnDrives p h g 
 
     -- its stamp takes 8 bytes
     pub stamp-low : x .stamp < 256 ^ 8
-    stamp-low = subst (λ (n : ℕ). n < 256 ^ 8) (sym (value-stamp (blockIn (zoneAt v (from .d) (from .z)) (suc o) .block) (recordOf (blockIn (zoneAt v (from .d) (from .z)) (suc o) .spare))) ∙ sym (ap (λ (y : Val). y .stamp) value-here) ∙ value-stamped)
+    stamp-low =
+        subst (λ (n : ℕ). n < 256 ^ 8) (sym
+        (value-stamp (blockIn (zoneAt v (from .d) (from .z)) (suc o) .block) (recordOf (blockIn (zoneAt v (from .d) (from .z)) (suc o) .spare)))
+        ∙ sym (ap (λ (y : Val). y .stamp) value-here)
+        ∙ value-stamped)
         (zone-bytes p h g v k (from .d) (from .z) (from .drv) (trust (from .d) (from .drv)) zb .wide o (o-low .0) (o-low .1) .stamp)
 
     -- the item there
@@ -212,7 +224,8 @@ module _ (p : Params) (h : Ranged p) (g : Ghost) (v : View) (k : OnDrives p h g 
     item-at = (
       n,
       subst (λ (y : ℕ). Off (itemsIn p v y (placeZone p (x .place))) (placeBlock p (x .place)) (chunk n valueAt)) (sym place-d)
-          (subst (λ (y : ℕ). Off (itemsIn p v (from .d) y) (placeBlock p (x .place)) (chunk n valueAt)) (sym place-z) (subst (λ (y : ℕ). Off (itemsIn p v (from .d) (from .z)) y (chunk n valueAt)) (sym place-b)
+          (subst (λ (y : ℕ). Off (itemsIn p v (from .d) y) (placeBlock p (x .place)) (chunk n valueAt)) (sym place-z) (subst
+          (λ (y : ℕ). Off (itemsIn p v (from .d) (from .z)) y (chunk n valueAt)) (sym place-b)
           (subst (λ (y : Val). Off (itemsIn p v (from .d) (from .z)) (suc o) (chunk n y)) (sym value-here) there))),
     )
       where
@@ -222,8 +235,14 @@ module _ (p : Params) (h : Ranged p) (g : Ghost) (v : View) (k : OnDrives p h g 
         n : ℕ
         n = recordOf (blockIn (zoneAt v (from .d) (from .z)) (suc o) .spare) .stripe
 
-        there : Off (itemsIn p v (from .d) (from .z)) (suc o) (chunk n (valueOf (blockIn (zoneAt v (from .d) (from .z)) (suc o) .block) (recordOf (blockIn (zoneAt v (from .d) (from .z)) (suc o) .spare))))
-        there = subst (λ (l : List Item). Off l (suc o) (chunk n (valueOf (blockIn (zoneAt v (from .d) (from .z)) (suc o) .block) (recordOf (blockIn (zoneAt v (from .d) (from .z)) (suc o) .spare))))) (sym (items-in p v (from .d) (from .z)))
+        there :
+            Off (itemsIn p v (from .d) (from .z)) (suc o)
+            (chunk n
+            (valueOf (blockIn (zoneAt v (from .d) (from .z)) (suc o) .block) (recordOf (blockIn (zoneAt v (from .d) (from .z)) (suc o) .spare))))
+        there =
+            subst (λ (l : List Item). Off l (suc o) (chunk n
+            (valueOf (blockIn (zoneAt v (from .d) (from .z)) (suc o) .block) (recordOf (blockIn (zoneAt v (from .d) (from .z)) (suc o) .spare)))))
+            (sym (items-in p v (from .d) (from .z)))
             (unfold chunkItem in chunk-of p (zoneAt v (from .d) (from .z)) (zone-low p h g v k (from .d) (from .z) (from .drv) (trust (from .d) (from .drv)) zb) o (o-low .0) (o-low .1))
 
     pub block-long : length (chunkAt v (placeDrive p (x .place)) (placeZone p (x .place)) (placeBlock p (x .place)) .block) ≡ p .B
@@ -244,9 +263,13 @@ module _ (p : Params) (h : Ranged p) (g : Ghost) (v : View) (k : OnDrives p h g 
       nothing = unfold best in refl
 
   -- a block that counts is beaten, or is the best
-  pub counted-beaten : (x : Val) → Counted (parOf p h) (g .hd) (itemsIn p v) (g .un) x → (w : Cand) × (best none (candsOf (x .addr) said) ≡ some w) × Has w said × (w .address ≡ x .addr) × (x .stamp ≤ w .stamp)
+  pub counted-beaten :
+      (x : Val)
+      → Counted (parOf p h) (g .hd) (itemsIn p v) (g .un) x
+      → (w : Cand) × (best none (candsOf (x .addr) said) ≡ some w) × Has w said × (w .address ≡ x .addr) × (x .stamp ≤ w .stamp)
   counted-beaten x q =
-      let y : (y : Cand) × Has y (candsSeen p h g v k 255 c) × (y .address ≡ x .addr) × (y .stamp ≡ x .stamp) = of-counted p h g v k 255 c x (counted-none (parOf p h) (g .hd) (itemsIn p v) (g .un) 255 none? (omega (arith, h .drives-high)) x q) in
+      let y : (y : Cand) × Has y (candsSeen p h g v k 255 c) × (y .address ≡ x .addr) × (y .stamp ≡ x .stamp) =
+      of-counted p h g v k 255 c x (counted-none (parOf p h) (g .hd) (itemsIn p v) (g .un) 255 none? (omega (arith, h .drives-high)) x q) in
       let i : Has (y .0) (candsOf (x .addr) said) = at (y .0) (subst (λ (l : List Cand). Has (y .0) l) said-is (y .1)) (y .2) in
       ⊎-elim (λ (e : candsOf (x .addr) said ≡ []). absurd (subst (λ (l : List Cand). Has (y .0) l) e i))
       (λ (r : (w : Cand) × (best none (candsOf (x .addr) said) ≡ some w) × Has w (candsOf (x .addr) said) × ((c : Cand) → Has c (candsOf (x .addr) said) → c .stamp ≤ w .stamp)).
@@ -279,7 +302,12 @@ module _ (p : Params) (h : Ranged p) (g : Ghost) (v : View) (k : OnDrives p h g 
 
     -- so its entries are as they should be, at the end of a restart
     pub table-said : (a : List Val) (b : Bool) (m : Mode) → Inv (parOf p h) (mst g (itemsIn p v) a b m) → TableOk p h g (itemsIn p v) tb
-    table-said acks b m I a al = ⊎-elim (λ (e : best none (candsOf a said) ≡ none). inl (never e, ⊎-elim (λ f. f) (λ (w : (y : Val) × Counted (parOf p h) (g .hd) (itemsIn p v) (g .un) y × (y .addr ≡ a) × (g .base a ≤ y .stamp)). absurd (unread e w)) (I .facts .content .floor a)))
+    table-said acks b m I a al =
+        ⊎-elim (λ (e : best none (candsOf a said) ≡ none). inl (
+          never e,
+          ⊎-elim (λ f. f) (λ (w : (y : Val) × Counted (parOf p h) (g .hd) (itemsIn p v) (g .un) y × (y .addr ≡ a) × (g .base a ≤ y .stamp)).
+              absurd (unread e w)) (I .facts .content .floor a),
+        ))
         (λ (q : (w : Cand) × (best none (candsOf a said) ≡ some w) × Has w said × (w .address ≡ a)).
         inr (subst (λ (y : ℕ). Entry p h g (itemsIn p v) y a) (sym (table-best a al (q .0) (q .1) (q .2))) (record {
           s = item-at (q .0) (q .2) .0;
@@ -290,7 +318,10 @@ module _ (p : Params) (h : Ranged p) (g : Ghost) (v : View) (k : OnDrives p h g 
           counts = counted-at (q .0) (q .2) .0;
           same = counted-at (q .0) (q .2) .1;
           addr = value-address (q .0) (q .2) ∙ q .3;
-          floor = ⊎-elim (λ (f : g .base a ≡ 0). omega arith) (λ (w : (y : Val) × Counted (parOf p h) (g .hd) (itemsIn p v) (g .un) y × (y .addr ≡ a) × (g .base a ≤ y .stamp)). high (q .0) (q .1) (q .2) w) (I .facts .content .floor a);
+          floor =
+              ⊎-elim (λ (f : g .base a ≡ 0). omega arith)
+              (λ (w : (y : Val) × Counted (parOf p h) (g .hd) (itemsIn p v) (g .un) y × (y .addr ≡ a) × (g .base a ≤ y .stamp)). high (q .0) (q .1)
+              (q .2) w) (I .facts .content .floor a);
         }))) (best-said a)
       where
         never : best none (candsOf a said) ≡ none → placeAt tb a ≡ neverPlace
@@ -304,7 +335,12 @@ module _ (p : Params) (h : Ranged p) (g : Ghost) (v : View) (k : OnDrives p h g 
             let f : none ≡ some (w .0) = sym e ∙ ap (λ (n : ℕ). best none (candsOf n said)) (sym ya) ∙ w .1 in
             let z : _≡_ {A = ℕ} 0 1 = cc in let r : ⊥ = omega arith in r
 
-        high : (w : Cand) → best none (candsOf a said) ≡ some w → (i : Has w said) → (y : Val) × Counted (parOf p h) (g .hd) (itemsIn p v) (g .un) y × (y .addr ≡ a) × (g .base a ≤ y .stamp) → g .base a ≤ valueAt w i .stamp
+        high :
+            (w : Cand)
+            → best none (candsOf a said) ≡ some w
+            → (i : Has w said)
+            → (y : Val) × Counted (parOf p h) (g .hd) (itemsIn p v) (g .un) y × (y .addr ≡ a) × (g .base a ≤ y .stamp)
+            → g .base a ≤ valueAt w i .stamp
         high w e i (y, q, ya, ys) =
             let u : (u : Cand) × (best none (candsOf (y .addr) said) ≡ some u) × Has u said × (u .address ≡ y .addr) × (y .stamp ≤ u .stamp) = counted-beaten y q in
             let f : u .0 ≡ w = one (sym (u .1) ∙ ap (λ (n : ℕ). best none (candsOf n said)) ya ∙ e) in

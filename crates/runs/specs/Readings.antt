@@ -43,7 +43,12 @@ same-block b c e f = ext-getD 0 b c e (λ i l. ap (λ (g : ℕ → ℕ). g i) f)
 
 module _ (p : Params) (h : Ranged p) (σ : m-State) (T : Track) (K : ℕ → ℕ) (ss : List Send) (I : Inv (parOf p h) σ) (tr : Tracked σ T) (cl : Claim σ K) (L : Logged p (σ .acked) T ss) (a : ℕ) where
   -- an acknowledged send at a is no later than what is read
-  acked-low : (j : ℕ) → j < length ss → sendAt ss j .address ≡ a → sendAt ss j .acked ≡ true → InV (T .log j) (σ .acked) × (T .pos (T .log j .stamp) ≡ j) × (T .log j .stamp ≤ K a) × (0 < T .log j .stamp)
+  acked-low :
+      (j : ℕ)
+      → j < length ss
+      → sendAt ss j .address ≡ a
+      → sendAt ss j .acked ≡ true
+      → InV (T .log j) (σ .acked) × (T .pos (T .log j .stamp) ≡ j) × (T .log j .stamp ≤ K a) × (0 < T .log j .stamp)
   acked-low j l e q =
       let k : InV (T .log j) (σ .acked) × (T .pos (T .log j .stamp) ≡ j) = L .acks j l q in
       let f : K (T .log j .addr) ≡ K a = ap K (L .same j l .addr ∙ e) in
@@ -51,7 +56,11 @@ module _ (p : Params) (h : Ranged p) (σ : m-State) (T : Track) (K : ℕ → ℕ
 
   -- never written: none was acknowledged
   none-acked : K a ≡ 0 → NoneAckedFrom ss a 0
-  none-acked e j b l f = false-of (sendAt ss j .acked) (λ q. let k : InV (T .log j) (σ .acked) × (T .pos (T .log j .stamp) ≡ j) × (T .log j .stamp ≤ K a) × (0 < T .log j .stamp) = acked-low j l f q in let z : ⊥ = omega (arith, e, k .2, k .3) in z)
+  none-acked e j b l f =
+      false-of (sendAt ss j .acked) (λ q. let k : InV (T .log j) (σ .acked)
+      × (T .pos (T .log j .stamp) ≡ j)
+      × (T .log j .stamp ≤ K a)
+      × (0 < T .log j .stamp) = acked-low j l f q in let z : ⊥ = omega (arith, e, k .2, k .3) in z)
 
   block-ok : (s : Seen) → (y : ShowsBlock p (σ .g .sent) (K a) a s) → ReadOk ss a (got (y .block))
   block-ok s y = (i, il, sym (L .same i il .addr) ∙ ap (λ (w : Val). w .addr) here ∙ y .addr, blocks, later)
@@ -104,7 +113,8 @@ MarkShows p g w = (a : ℕ) → a < p .L → Shows p (g .sent) (g .last) a (seen
 
 pub shows-more : (p : Params) (l l′ : List Val) (K J : ℕ → ℕ) (a : ℕ) (s : Seen) → ((x : Val) → InV x l → InV x l′) → K a ≡ J a → Shows p l K a s → Shows p l′ J a s
 shows-more p l l′ K J a s f e (inl (x, y)) = inl (sym e ∙ x, y)
-shows-more p l l′ K J a s f e (inr y) = inr (record { block = y .block; value = y .value; sent = f (y .value) (y .sent); addr = y .addr; stamp = y .stamp ∙ e; long = y .long; is = y .is; shows = y .shows })
+shows-more p l l′ K J a s f e (inr y) =
+    inr (record { block = y .block; value = y .value; sent = f (y .value) (y .sent); addr = y .addr; stamp = y .stamp ∙ e; long = y .long; is = y .is; shows = y .shows })
 
 -- it stays so through a healthy run, cut or not
 pub mark-later : (p : Params) (g g′ : Ghost) (w : World) → Later g g′ → MarkShows p g w → MarkShows p g′ w

@@ -85,7 +85,8 @@ emptied-rel p h g v u st fl M m R same = record {
   flying = R .flying;
   slot = λ i il q. let o : M .is-open ≡ true = m .flies (stripeIn st i) (R .flying i il q) .0 in
       slot-keep p h (λ e. v e (M .zone)) (λ e. u e (M .zone)) (slotBlock p fl i) (slotBlock p fl i) (entryIn st i) (entryIn st i) (offsetIn st i) (offsetIn st i)
-      (stripeIn st i) (stripeIn st i) (filledIn st i) (filledIn st i) (landedIn st i) (landedIn st i) (M .F (stripeIn st i)) (M .ready (stripeIn st i)) refl refl refl (λ e el. refl) (λ e el. refl) (λ e el. refl)
+      (stripeIn st i) (stripeIn st i) (filledIn st i) (filledIn st i) (landedIn st i) (landedIn st i) (M .F (stripeIn st i))
+      (M .ready (stripeIn st i)) refl refl refl (λ e el. refl) (λ e el. refl) (λ e el. refl)
       (λ e j t el w. subst (λ (y : List Item). Off y j t) (sym (same o e)) w) (λ e x el w. subst (λ (y : List Item). In (chunk (stripeIn st i) x) y) (same o e) w) (R .slot i il q);
   once = R .once;
   flies = R .flies;
@@ -95,7 +96,8 @@ emptied-rel p h g v u st fl M m R same = record {
 
 -- what reclaim does, where it isn't refused
 unfoldable pub reclaimPlan : Params → View → Memory → Plan
-reclaimPlan p v m = cond (isNil (victimLive (victim p v (m .addresses)))) (resetPlan p m (victimSegment (victim p v (m .addresses)))) (copyPlan p v m (firstOr 0 (idle p v (m .state) (victim p v (m .addresses)))))
+reclaimPlan p v m =
+    cond (isNil (victimLive (victim p v (m .addresses)))) (resetPlan p m (victimSegment (victim p v (m .addresses)))) (copyPlan p v m (firstOr 0 (idle p v (m .state) (victim p v (m .addresses)))))
 
 module _ (p : Params) (h : Ranged p) (v : View) (m : Memory) (ss : List Send) (n : ℕ) (l : Live p h v (m .state) (m .inflight) (m .addresses) ss n) where
   abbrev st : State
@@ -112,7 +114,13 @@ module _ (p : Params) (h : Ranged p) (v : View) (m : Memory) (ss : List Send) (n
 
   -- ---- reset
 
-  pub reset-ok : (z : ℕ) → z < p .Z → ((d : ℕ) → d < p .N → pointerAt v d z ≡ capacity p) → liveIn p (placesIn p (m .addresses)) z ≡ [] → stateOk p (m .state) ≡ true → CallOk p h (l .g) v (resetPlan p m z) ss ss n
+  pub reset-ok :
+      (z : ℕ)
+      → z < p .Z
+      → ((d : ℕ) → d < p .N → pointerAt v d z ≡ capacity p)
+      → liveIn p (placesIn p (m .addresses)) z ≡ []
+      → stateOk p (m .state) ≡ true
+      → CallOk p h (l .g) v (resetPlan p m z) ss ss n
   unfolding resetPlan
   reset-ok z zl full dead ok = record {
     sound = follow .sound;
@@ -121,7 +129,9 @@ module _ (p : Params) (h : Ranged p) (v : View) (m : Memory) (ss : List Send) (n
         (go-step (parOf p h) σ (mst (l .g) (applyAll (itemsIn p v) (resets z 0 (p .N))) (l .a) (l .c) (run (l .M))) (l .T) (reset-done σ (l .M) z refl silent apart)))
         (emptied-rel p h (l .g) (itemsIn p v) u st fl (l .M) (I .mode) (l .rel)
         (λ o e. ap (λ (x : m-View). x e (l .M .zone)) items ∙ resets-other (itemsIn p v) z 0 (p .N) e (l .M .zone) (apart o)))
-        (l .reached .logged) (l .waits) (l .reached .marked) (l .reached .still) (table-left p h v st fl (m .addresses) ss n l ok z dead u facts-u (λ e y b. ap (λ (x : m-View). x e y) items ∙ resets-other (itemsIn p v) z 0 (p .N) e y b));
+        (l .reached .logged) (l .waits) (l .reached .marked) (l .reached .still)
+        (table-left p h v st fl (m .addresses) ss n l ok z dead u facts-u
+        (λ e y b. ap (λ (x : m-View). x e y) items ∙ resets-other (itemsIn p v) z 0 (p .N) e y b));
     cut = λ k. live-cut p h v st fl (m .addresses) ss n l (resetStores p z) (follow .sound) k (l .g) (later-same (l .g))
         (go-view (parOf p h) σ (l .g) (applyAll (itemsIn p v) (take k (resets z 0 (p .N)))) (itemsIn p (storeAll storeView (take k (resetStores p z)) v)) (l .a) (l .c) off (l .T) (l .T)
         (sym (follows-cut p h v (resetStores p z) (resets z 0 (p .N)) k (l .reached .shape) follow))
@@ -201,20 +211,25 @@ module _ (p : Params) (h : Ranged p) (v : View) (m : Memory) (ss : List Send) (n
     unfolding copyPlan sending sendStores
     copy-ok = record {
       sound = aim .sound;
-      done = live-after p h v st fl (m .addresses) ss n l (sendStores p v st) (aim .sound) (aim .g′) (l .a) (l .c) Mt (l .T) (placed p st₂ fl i (r .address) (r .stamp) 0 b .state) (placed p st₂ fl i (r .address) (r .stamp) 0 b .inflight) (m .addresses) ss (aim .later)
+      done =
+          live-after p h v st fl (m .addresses) ss n l (sendStores p v st) (aim .sound) (aim .g′) (l .a) (l .c) Mt (l .T)
+          (placed p st₂ fl i (r .address) (r .stamp) 0 b .state) (placed p st₂ fl i (r .address) (r .stamp) 0 b .inflight) (m .addresses) ss
+          (aim .later)
           (go-then (parOf p h) σ (mst (aim .g′) (itemsIn p v₂) (l .a) (l .c) (run (aim .M₂))) (mst (aim .g′) (itemsIn p v₂) (l .a) (l .c) (run Mt)) (l .T) (l .T) (l .T) (aim .go (l .T))
           (copied-go p h (aim .g′) (itemsIn p v₂) (l .a) (l .c) st₂ fl (aim .M₂) (aim .U) (aim .rel) I₂ fits i (aim .low) (aim .used?) (aim .room) (r .address) (r .stamp) 0 b bl (l .T)
           (subst (λ (y : Val). Counted (parOf p h) (aim .g′ .hd) (itemsIn p v₂) (aim .g′ .un) y) same-value (aim .counts (valueOf b r) counts .0))))
           (taken-rel p h (aim .g′) (itemsIn p v₂) (l .a) (l .c) st₂ fl (aim .M₂) (aim .U) (aim .rel) I₂ fits i (aim .low) (aim .used?) (aim .room) (r .address) (r .stamp) 0 b bl (aim .cover))
           (l .reached .logged)
           (λ j x y. let w : Waiting p st (l .M) (l .T .log j) (sendAt ss j .stripe) × InV (l .T .log j) (l .g .sent) × (l .T .pos (l .T .log j .stamp) ≡ j) = l .waits j x y in (
-            taken-waits p h (aim .g′) (itemsIn p v₂) (l .a) (l .c) st₂ fl (aim .M₂) (aim .U) (aim .rel) I₂ fits i (aim .low) (aim .used?) (aim .room) (r .address) (r .stamp) 0 b bl (aim .cover) (inl refl)
+            taken-waits p h (aim .g′) (itemsIn p v₂) (l .a) (l .c) st₂ fl (aim .M₂) (aim .U) (aim .rel) I₂ fits i (aim .low) (aim .used?) (aim .room)
+                (r .address) (r .stamp) 0 b bl (aim .cover) (inl refl)
                 (l .T .log j) (sendAt ss j .stripe) (aim .waits (l .T .log j) (sendAt ss j .stripe) (w .0)),
             subst (λ (z : List Val). InV (l .T .log j) z) (sym (aim .sent)) (w .1),
             w .2,
           ))
           (l .reached .marked) (l .reached .still)
-          (table-to p h (l .g) (aim .g′) (itemsIn p v) (itemsIn p v₂) (m .addresses) (aim .base) (target-entries p h (l .g) v (l .a) (l .c) (m .state) (m .inflight) (l .M) (sendStores p v (m .state)) st₂ i aim) (l .table));
+          (table-to p h (l .g) (aim .g′) (itemsIn p v) (itemsIn p v₂) (m .addresses) (aim .base)
+          (target-entries p h (l .g) v (l .a) (l .c) (m .state) (m .inflight) (l .M) (sendStores p v (m .state)) st₂ i aim) (l .table));
       cut = λ k. live-cut p h v st fl (m .addresses) ss n l (sendStores p v st) (aim .sound) k (aim .cut k .0) (aim .cut k .1) (aim .cut k .2 (l .T));
     }
 
@@ -240,7 +255,12 @@ module _ (p : Params) (h : Ranged p) (v : View) (m : Memory) (ss : List Send) (n
       live w = not (isNil (victimLive w))
 
       Q : Opt Victim → Type 0
-      Q w = (not (inRange p) ≡ false) × ((not long ≡ false) × ((not (eqb (st .missing) 0) ≡ false) × (((isNone w || (not (isNil (victimLive w)) && isNil (idle p v st w))) ≡ false) × (((not (isNil (victimLive w)) && noSerial p st) ≡ false)
+      Q w =
+          (not (inRange p) ≡ false)
+          × ((not long ≡ false)
+          × ((not (eqb (st .missing) 0) ≡ false)
+          × (((isNone w || (not (isNil (victimLive w)) && isNil (idle p v st w))) ≡ false)
+          × (((not (isNil (victimLive w)) && noSerial p st) ≡ false)
           × (((not (isNil (victimLive w)) && mustWait p st) ≡ false) × (((not (isNil (victimLive w)) && opens p st && scarce p v 1) ≡ false)
           × ((stateFaults p st ++ tableFaults p (m .addresses) ++ map (λ q. victimSegment w) (keep (λ q. not (between 1 (p .S) (placeBlock p q))) (victimLive w)) ≡ []) × Unit {0})))))))
 
@@ -251,7 +271,11 @@ module _ (p : Params) (h : Ranged p) (v : View) (m : Memory) (ss : List Send) (n
       some-victim w vi q = pick? (test (isNil (victimLive (some w))))
         where
           ok : stateOk p st ≡ true
-          ok = faults-none p st (append-none (stateFaults p st) (tableFaults p (m .addresses)) (append-none (stateFaults p st ++ tableFaults p (m .addresses)) (map (λ q. victimSegment (some w)) (keep (λ q. not (between 1 (p .S) (placeBlock p q))) (victimLive (some w)))) (q .1 .1 .1 .1 .1 .1 .1 .0) .0) .0)
+          ok =
+              faults-none p st (append-none (stateFaults p st) (tableFaults p (m .addresses))
+              (append-none (stateFaults p st ++ tableFaults p (m .addresses))
+              (map (λ q. victimSegment (some w)) (keep (λ q. not (between 1 (p .S) (placeBlock p q))) (victimLive (some w))))
+              (q .1 .1 .1 .1 .1 .1 .1 .0) .0) .0)
 
           seg : victimSegment (some w) ≡ w .segment
           seg = unfold victimSegment in refl
@@ -260,10 +284,19 @@ module _ (p : Params) (h : Ranged p) (v : View) (m : Memory) (ss : List Send) (n
           alive = unfold victimLive in refl
 
           pick? : Test (isNil (victimLive (some w))) → CallOk p h (l .g) v (plan (some w)) ss ss n
-          pick? (yes! t) = subst (λ (y : Plan). CallOk p h (l .g) v y ss ss n) (sym (cond-true (isNil (victimLive (some w))) (resetPlan p m (victimSegment (some w))) (copyPlan p v m (firstOr 0 (idle p v st (some w)))) t))
-              (subst (λ (z : ℕ). CallOk p h (l .g) v (resetPlan p m z) ss ss n) (sym seg) (reset-ok (w .segment) (vi .low) (vi .sealed) (sym (vi .live) ∙ sym alive ∙ isNil-nil (victimLive (some w)) t) ok))
-          pick? (no! t) = subst (λ (y : Plan). CallOk p h (l .g) v y ss ss n) (sym (cond-false (isNil (victimLive (some w))) (resetPlan p m (victimSegment (some w))) (copyPlan p v m (firstOr 0 (idle p v st (some w)))) t))
-              (copy-ok fits (firstOr 0 (idle p v st (some w))) held? (copy-asked (and-fails (live (some w)) (mustWait p st) (q .1 .1 .1 .1 .1 .0) on) (and-fails (live (some w)) (noSerial p st) (q .1 .1 .1 .1 .0) on) room ok))
+          pick? (yes! t) =
+              subst (λ (y : Plan). CallOk p h (l .g) v y ss ss n)
+              (sym (cond-true (isNil (victimLive (some w))) (resetPlan p m (victimSegment (some w)))
+              (copyPlan p v m (firstOr 0 (idle p v st (some w)))) t))
+              (subst (λ (z : ℕ). CallOk p h (l .g) v (resetPlan p m z) ss ss n) (sym seg)
+              (reset-ok (w .segment) (vi .low) (vi .sealed) (sym (vi .live) ∙ sym alive ∙ isNil-nil (victimLive (some w)) t) ok))
+          pick? (no! t) =
+              subst (λ (y : Plan). CallOk p h (l .g) v y ss ss n)
+              (sym (cond-false (isNil (victimLive (some w))) (resetPlan p m (victimSegment (some w)))
+              (copyPlan p v m (firstOr 0 (idle p v st (some w)))) t))
+              (copy-ok fits (firstOr 0 (idle p v st (some w))) held?
+              (copy-asked (and-fails (live (some w)) (mustWait p st) (q .1 .1 .1 .1 .1 .0) on)
+              (and-fails (live (some w)) (noSerial p st) (q .1 .1 .1 .1 .0) on) room ok))
             where
               on : live (some w) ≡ true
               on = ap not t

@@ -54,7 +54,8 @@ decides p long v m (land d s n) = record { checks = landChecks p long v m d s; p
 decides p long v m (close n) = record { checks = closeChecks p long v m; plan = closePlan p m; is = refl }
 decides p long v m (reclaim n) = record {
   checks = reclaimChecks p long v m (victim p v (m .addresses));
-  plan = cond (isNil (victimLive (victim p v (m .addresses)))) (resetPlan p m (victimSegment (victim p v (m .addresses)))) (copyPlan p v m (firstOr 0 (idle p v (m .state) (victim p v (m .addresses)))));
+  plan =
+      cond (isNil (victimLive (victim p v (m .addresses)))) (resetPlan p m (victimSegment (victim p v (m .addresses)))) (copyPlan p v m (firstOr 0 (idle p v (m .state) (victim p v (m .addresses)))));
   is = refl;
 }
 decides p long v m (read a) = record {
@@ -64,7 +65,8 @@ decides p long v m (read a) = record {
 }
 decides p long v m (fill a b) = record {
   checks = readChecks p (long && eqb (length b) (p .B)) a
-      ++ (zones (stateFaults p (m .state) ++ foundFaults p v (m .state .missing) (lookup p (m .state .missing) (m .addresses) a)) ∷ zones (decodeFaults p v (m .state .missing) (m .compact) (lookup p (m .state .missing) (m .addresses) a)) ∷ []);
+      ++ (zones (stateFaults p (m .state) ++ foundFaults p v (m .state .missing) (lookup p (m .state .missing) (m .addresses) a)) ∷ zones
+      (decodeFaults p v (m .state .missing) (m .compact) (lookup p (m .state .missing) (m .addresses) a)) ∷ []);
   plan = mkPlan [] Filled m (readPiece p v (m .state .missing) (m .compact) (lookup p (m .state .missing) (m .addresses) a) .block);
   is = refl;
 }
@@ -72,10 +74,15 @@ decides p long v m (restart d n) = record { checks = restartChecks p long v d (s
 decides p long v m (rebuild d n) = record { checks = rebuildChecks p long v m d (segments p v (named d)); plan = mkPlan (rebuildStores p d (segments p v (named d))) Rebuilt m []; is = refl }
 
 -- what a call leaves where its checks refuse it
-pub refused-after : (p : Params) (k : Disk) (m : Memory) (c : Call) (a : Answer) → firstRefusal (decides p (lentOk p k m) (seen p k) m c .checks) ≡ some a → callDisk p k m c ≡ mkAfter a k m (lentBlock c)
+pub refused-after :
+    (p : Params) (k : Disk) (m : Memory) (c : Call) (a : Answer)
+    → firstRefusal (decides p (lentOk p k m) (seen p k) m c .checks) ≡ some a
+    → callDisk p k m c ≡ mkAfter a k m (lentBlock c)
 unfolding callDisk callOn
 refused-after p k m c a e =
-    ap (outcome p (storeDisk p) (storeCount c) k m (lentBlock c)) (decides p (lentOk p k m) (seen p k) m c .is ∙ ap (λ (o : Opt Answer). decided o (decides p (lentOk p k m) (seen p k) m c .plan)) e) ∙ done
+    ap (outcome p (storeDisk p) (storeCount c) k m (lentBlock c))
+    (decides p (lentOk p k m) (seen p k) m c .is ∙ ap (λ (o : Opt Answer). decided o (decides p (lentOk p k m) (seen p k) m c .plan)) e)
+    ∙ done
   where
     done : outcome p (storeDisk p) (storeCount c) k m (lentBlock c) (decided (some a) (decides p (lentOk p k m) (seen p k) m c .plan)) ≡ mkAfter a k m (lentBlock c)
     done = unfold decided outcome in refl
@@ -101,7 +108,10 @@ mark-refused a w j o e = go (finished a) (refused-unfinished a e)
     go false q = unfold marked in refl
 
 -- a call that is refused
-pub refused-step : (p : Params) (s : Hist) (c : Call) (a : Answer) → firstRefusal (decides p (lentOk p (s .world .disk) (s .world .memory)) (seen p (s .world .disk)) (s .world .memory) c .checks) ≡ some a → step p s (calls c) ≡ s
+pub refused-step :
+    (p : Params) (s : Hist) (c : Call) (a : Answer)
+    → firstRefusal (decides p (lentOk p (s .world .disk) (s .world .memory)) (seen p (s .world .disk)) (s .world .memory) c .checks) ≡ some a
+    → step p s (calls c) ≡ s
 unfolding step happens before callOf worldAfter
 refused-step p s c a e = λ j. record {
   world = mkWorld (r j .drives) (r j .memory);
@@ -124,7 +134,9 @@ unfolding inOrder decides restartChecks
 out-of-order p k m d n e = go (test (not (inRange p) || not (namesDrive p d))) (test (not (lentOk p k m)))
   where
     cs : List Check
-    cs = imageChecks p (seen p k) (named d) (segments p (seen p k) (named d)) ++ (rule 6 (rewrites p (named d) (segments p (seen p k) (named d)) && eqb (greatestSerial (segments p (seen p k) (named d))) lastCount)
+    cs =
+        imageChecks p (seen p k) (named d) (segments p (seen p k) (named d)) ++ (rule 6
+        (rewrites p (named d) (segments p (seen p k) (named d)) && eqb (greatestSerial (segments p (seen p k) (named d))) lastCount)
         ∷ rule 8 (rewrites p (named d) (segments p (seen p k) (named d)) && isNil (freeZones p (segments p (seen p k) (named d)))) ∷ [])
 
     first : (b : Bool) → b ≡ true → (rest : List Check) → firstRefusal (rule 1 b ∷ rest) ≡ some (Refused 1)
@@ -138,13 +150,16 @@ out-of-order p k m d n e = go (test (not (inRange p) || not (namesDrive p d))) (
     go (yes! x) y = (Refused 1, first (not (inRange p) || not (namesDrive p d)) x (rule 2 (not (lentOk p k m)) ∷ cs))
     go (no! x) (yes! y) = (Refused 2, second (not (inRange p) || not (namesDrive p d)) (not (lentOk p k m)) x y cs)
     go (no! x) (no! y) = true-false (inRange p && namesDrive p d && lentOk p k m)
-        (and-both (inRange p && namesDrive p d) (lentOk p k m) (and-both (inRange p) (namesDrive p d) (not-false (inRange p) (or-l (not (inRange p)) (not (namesDrive p d)) x)) (not-false (namesDrive p d) (or-r (not (inRange p)) (not (namesDrive p d)) x))) (not-false (lentOk p k m) y)) e
+        (and-both (inRange p && namesDrive p d) (lentOk p k m)
+        (and-both (inRange p) (namesDrive p d) (not-false (inRange p) (or-l (not (inRange p)) (not (namesDrive p d)) x))
+        (not-false (namesDrive p d) (or-r (not (inRange p)) (not (namesDrive p d)) x))) (not-false (lentOk p k m) y)) e
 
 -- it begins no run: the history is as it was
 pub boot-step : (p : Params) (s : Hist) (d n : ℕ) (m : Memory) (im ps : List ℕ) → inOrder p (mkWorld (s .world .disk) m) d ≡ false → step p s (boots d n m im ps) ≡ s
 unfolding step happens before callOf worldAfter
 boot-step p s d n m im ps e = λ j. record {
-  world = cond-false (inOrder p (mkWorld (s .world .disk) m) d) (mkWorld (callDisk p (u .disk) (u .memory) (restart d n) .drives) (callDisk p (u .disk) (u .memory) (restart d n) .memory)) (s .world) e j;
+  world =
+      cond-false (inOrder p (mkWorld (s .world .disk) m) d) (mkWorld (callDisk p (u .disk) (u .memory) (restart d n) .drives) (callDisk p (u .disk) (u .memory) (restart d n) .memory)) (s .world) e j;
   sends = (ap (λ (x : After Disk). sentAfter (restart d n) (x .answer) (s .sends)) r ∙ sent-refused (restart d n) (o .0) (s .sends) no) j;
   untrusted = (ap (λ (x : After Disk). untrustedAfter (restart d n) (x .answer) (s .untrusted)) r ∙ untrusted-refused (restart d n) (o .0) (s .untrusted) no) j;
   mark = (ap (λ (x : After Disk). marked (finished (x .answer)) w (length (sentAfter (restart d n) (x .answer) (s .sends))) (s .mark)) r

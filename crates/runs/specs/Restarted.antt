@@ -100,19 +100,26 @@ module _ (p : Params) (h : Ranged p) (v : View) (ss : List Send) (j : ℕ) (g : 
 
   open-is : b ≡ not (eqb (openOf (unsealed (segments p v 0))) 0)
   open-is = ⊎-elim
-      (λ (q : (b ≡ true) × (openOf (unsealed (segments p v 0)) ≡ suc z) × (nextOf p (unsealed (segments p v 0)) ≡ n)). q .0 ∙ sym (ap not (ne-eqb (openOf (unsealed (segments p v 0))) 0 (omega (arith, q .1)))))
+      (λ (q : (b ≡ true) × (openOf (unsealed (segments p v 0)) ≡ suc z) × (nextOf p (unsealed (segments p v 0)) ≡ n)). q .0
+      ∙ sym (ap not (ne-eqb (openOf (unsealed (segments p v 0))) 0 (omega (arith, q .1)))))
       (λ (q : (b ≡ false) × (openOf (unsealed (segments p v 0)) ≡ 0)). q .0 ∙ sym (ap not (eq-eqb (openOf (unsealed (segments p v 0))) 0 (q .1)))) (f .is)
 
   open-as : b ≡ true → (openOf (unsealed (segments p v 0)) ≡ suc z) × (n ≡ nextOf p (unsealed (segments p v 0)))
   open-as e = ⊎-elim (λ (q : (b ≡ true) × (openOf (unsealed (segments p v 0)) ≡ suc z) × (nextOf p (unsealed (segments p v 0)) ≡ n)). (q .1, sym (q .2)))
       (λ (q : (b ≡ false) × (openOf (unsealed (segments p v 0)) ≡ 0)). true-false b e (q .0)) (f .is)
 
-  idle-live : Live p h v (idleState 1 0 (greatestStamp (candidates p 0 (segments p v 0))) (greatestSerial (segments p v 0)) (openOf (unsealed (segments p v 0))) (nextOf p (unsealed (segments p v 0)))) fl
+  idle-live :
+      Live p h v (idleState 1 0 (greatestStamp (candidates p 0 (segments p v 0))) (greatestSerial (segments p v 0))
+      (openOf (unsealed (segments p v 0))) (nextOf p (unsealed (segments p v 0)))) fl
       (addressTable p (candidates p 0 (segments p v 0))) ss j
-  idle-live = rest-live p h v fl (addressTable p (candidates p 0 (segments p v 0))) ss j g a c T 1 (greatestStamp (candidates p 0 (segments p v 0))) (greatestSerial (segments p v 0)) (openOf us) (nextOf p us) b z n r
-      (rest-rel p (itemsIn p v) fl 1 (greatestStamp (candidates p 0 (segments p v 0))) (greatestSerial (segments p v 0)) (openOf us) (nextOf p us) b z n (stamps-fit p h g v on none?) (serials-fit p h g v on none?)
+  idle-live =
+      rest-live p h v fl (addressTable p (candidates p 0 (segments p v 0))) ss j g a c T 1 (greatestStamp (candidates p 0 (segments p v 0)))
+      (greatestSerial (segments p v 0)) (openOf us) (nextOf p us) b z n r
+      (rest-rel p (itemsIn p v) fl 1 (greatestStamp (candidates p 0 (segments p v 0))) (greatestSerial (segments p v 0)) (openOf us) (nextOf p us) b z
+      n (stamps-fit p h g v on none?) (serials-fit p h g v on none?)
       open-is (λ e. open-as e .0) (λ e. open-as e .1) (λ e q. let w : ⊥ = omega (arith, f .less e, q) in w) (f .full)) idle?
-      (table-said p h g v on none? (addressTable p (candidates p 0 (segments p v 0))) refl a c (run (restMem b z n (greatestStamp (candidates p 0 (segments p v 0))) (greatestSerial (segments p v 0)))) (r .inv))
+      (table-said p h g v on none? (addressTable p (candidates p 0 (segments p v 0))) refl a c
+      (run (restMem b z n (greatestStamp (candidates p 0 (segments p v 0))) (greatestSerial (segments p v 0)))) (r .inv))
 
   -- a run begins
   pub restart-live : Live p h v (restartMemory p v 0 fl .state) (restartMemory p v 0 fl .inflight) (restartMemory p v 0 fl .addresses) ss j

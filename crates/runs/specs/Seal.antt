@@ -113,7 +113,9 @@ module _ (p : Params) (h : Ranged p) (z : ℕ) (zl : z < p .Z) (u₀ : View) (at
     done = λ x l. done x (ℕ-discrete x e) l;
     to = λ l. next-ptr l ∙ (let k : suc (p .S) ≡ suc (p .S + 0) = omega arith in k);
     spares = λ l. ap (sparesIn p) (f .later (suc e) (omega arith) l);
-    has = λ l s b. subst (λ (x : List Item). (y : Val) × In (chunk s y) x) (sym (items-in p u (suc e) z ∙ ap (itemsOf p) (f .later (suc e) (omega arith) l) ∙ sym (items-in p u₀ (suc e) z))) (on₀ (suc e) l s b);
+    has =
+        λ l s b. subst (λ (x : List Item). (y : Val) × In (chunk s y) x)
+        (sym (items-in p u (suc e) z ∙ ap (itemsOf p) (f .later (suc e) (omega arith) l) ∙ sym (items-in p u₀ (suc e) z))) (on₀ (suc e) l s b);
     later = λ x a l. f .later x (omega arith) l;
     grew = f .grew;
   }

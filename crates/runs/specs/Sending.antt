@@ -14,7 +14,8 @@ use Rattle.defs.specs.declared.Params.{Params}
 use Rattle.defs.specs.declared.State.{State}
 use Rattle.defs.specs.Drives.{View, Store, storeView, storeAll, emptyZones, headerStores}
 use Rattle.defs.specs.Lists.{all, any, consIf, keep, isNil, indexOf, firstOr}
-use Rattle.defs.specs.Memory.{slotCount, slots, stripeIn, filledIn, landedIn, isFree, isFull, isFilling, inFlight, freeSlot, fillingSlot, hasFilling, slotOk, stateOk, stateFaults, setOpen, beginStripe}
+use Rattle.defs.specs.Memory.{slotCount, slots, stripeIn, filledIn, landedIn, isFree, isFull, isFilling, inFlight, freeSlot, fillingSlot, hasFilling, slotOk}
+use Rattle.defs.specs.Memory.{stateOk, stateFaults, setOpen, beginStripe}
 use Rattle.defs.specs.Params.{dataCount, placeBlock, placeZone, placeDrive}
 use Rattle.defs.specs.Write.{mustOpen, opens, noSerial, otherGroup, mustWait, openedBy, slotFor, begunBy}
 use Rattle.laws.specs.Geometry.{Ranged, data-count-low}
@@ -64,7 +65,8 @@ and-seven a b c d e f g q =
 state-parts : (p : Params) (st : State) → stateOk p st ≡ true → (leb (st .opened) (p .Z) ≡ true) × (leb (st .next) (p .S) ≡ true) × (all (slotOk p st) slots ≡ true)
 unfolding stateOk
 state-parts p st e =
-    and-seven (eqb (st .live) 1) (ltb (st .missing) (2 ^ p .N)) (leb (ones (st .missing)) 1) (leb (st .opened) (p .Z)) (leb (st .next) (p .S)) (all (slotOk p st) slots) (all (λ o. ltb o (p .S)) (st .offsets)) e
+    and-seven (eqb (st .live) 1) (ltb (st .missing) (2 ^ p .N)) (leb (ones (st .missing)) 1) (leb (st .opened) (p .Z)) (leb (st .next) (p .S))
+    (all (slotOk p st) slots) (all (λ o. ltb o (p .S)) (st .offsets)) e
 
 pub next-low : (p : Params) (st : State) → stateOk p st ≡ true → st .next ≤ p .S
 next-low p st e = leb-true (st .next) (p .S) (state-parts p st e .1)
@@ -82,7 +84,9 @@ slots-ok p st e i il = split (all-has (slotOk p st) slots (state-parts p st e .2
         let y : (ltb (stripeIn st i) (p .S) && leb (filledIn st i) (dataCount p)) ≡ true =
         and-left (ltb (stripeIn st i) (p .S) && leb (filledIn st i) (dataCount p)) (ltb (getD (st .writes) i 0) (2 ^ dataCount p)) x in (
           ltb-true (stripeIn st i) (p .S) (and-left (ltb (stripeIn st i) (p .S)) (leb (filledIn st i) (dataCount p)) y),
-          ltb-true (landedIn st i) (2 ^ p .N) (and-right (ltb (stripeIn st i) (p .S) && leb (filledIn st i) (dataCount p) && ltb (getD (st .writes) i 0) (2 ^ dataCount p)) (ltb (landedIn st i) (2 ^ p .N)) q),
+          ltb-true (landedIn st i) (2 ^ p .N) (and-right
+              (ltb (stripeIn st i) (p .S) && leb (filledIn st i) (dataCount p) && ltb (getD (st .writes) i 0) (2 ^ dataCount p))
+              (ltb (landedIn st i) (2 ^ p .N)) q),
         )
 
 -- no zone is bad: the state's numbers are in range
@@ -122,7 +126,8 @@ free-slot st b = go (test (any (isFree st) slots))
 
 pub none-flying : (st : State) → isNil (inFlight st) ≡ true → (i : ℕ) → i < 8 → inUse st i ≡ false
 unfolding inFlight inUse
-none-flying st e i il = false-of (not (isFree st i)) (λ q. absurd (subst (λ (l : List ℕ). Has i l) (isNil-nil (keep (λ i. not (isFree st i)) slots) e) (has-keep (λ i. not (isFree st i)) i slots (has-slot i il) q)))
+none-flying st e i il =
+    false-of (not (isFree st i)) (λ q. absurd (subst (λ (l : List ℕ). Has i l) (isNil-nil (keep (λ i. not (isFree st i)) slots) e) (has-keep (λ i. not (isFree st i)) i slots (has-slot i il) q)))
 
 -- ---- the stripe that takes the block
 
@@ -343,8 +348,13 @@ module _ (p : Params) (h : Ranged p) (g : Ghost) (v : View) (a : List Val) (c : 
         o = R .is-open ∙ ap not (or-l (eqb (st .opened) 0) (eqb (st .next) (p .S)) (unfold mustOpen in e))
 
     -- a segment must be opened: none is open, since nothing is in flight
-    opens-now : mustOpen p st ≡ true → Target p h g v a c st fl M (headerStores p (firstOr 0 (emptyZones p v)) (suc (st .serial .0)) 0) (beginStripe (setOpen st (firstOr 0 (emptyZones p v)) (suc (st .serial .0))) (freeSlot st)) (freeSlot st)
-    opens-now e = subst (λ (n : ℕ). Target p h g v a c st fl M (headerStores p (firstOr 0 (emptyZones p v)) (suc n) 0) (beginStripe (setOpen st (firstOr 0 (emptyZones p v)) (suc n)) (freeSlot st)) (freeSlot st)) (R .serial)
+    opens-now :
+        mustOpen p st ≡ true
+        → Target p h g v a c st fl M (headerStores p (firstOr 0 (emptyZones p v)) (suc (st .serial .0)) 0)
+        (beginStripe (setOpen st (firstOr 0 (emptyZones p v)) (suc (st .serial .0))) (freeSlot st)) (freeSlot st)
+    opens-now e =
+        subst (λ (n : ℕ). Target p h g v a c st fl M (headerStores p (firstOr 0 (emptyZones p v)) (suc n) 0)
+        (beginStripe (setOpen st (firstOr 0 (emptyZones p v)) (suc n)) (freeSlot st)) (freeSlot st)) (R .serial)
         (target-open p h g v a c st fl M R I sh shut? (A .room op) (omega (arith, R .serial, R .serial-fits, last)) idle (freeSlot st) (free .0))
       where
         op : opens p st ≡ true
@@ -354,7 +364,10 @@ module _ (p : Params) (h : Ranged p) (g : Ghost) (v : View) (a : List Val) (c : 
         last = eqb-false (st .serial .0) 18446744073709551615 (and-fails (opens p st) (eqb (st .serial .0) 18446744073709551615) (unfold noSerial in A .serial) op)
 
         idle : (i : ℕ) → i < 8 → inUse st i ≡ false
-        idle = none-flying st (not-false (isNil (inFlight st)) (and-fails (mustOpen p st) (not (isNil (inFlight st))) (or-r (leb slotCount (length (inFlight st))) (mustOpen p st && not (isNil (inFlight st))) few) e))
+        idle =
+            none-flying st (not-false (isNil (inFlight st))
+            (and-fails (mustOpen p st) (not (isNil (inFlight st)))
+            (or-r (leb slotCount (length (inFlight st))) (mustOpen p st && not (isNil (inFlight st))) few) e))
 
         shut? : M .is-open ≡ false
         shut? = go (M .is-open) refl
@@ -389,7 +402,9 @@ module _ (p : Params) (h : Ranged p) (g : Ghost) (v : View) (a : List Val) (c : 
           (stores-none p v st o) (begun-new p st (openedBy p v st) e ∙ ap (λ (x : State). beginStripe x (freeSlot st)) (opened-old p v st o)) (slot-free p st e) (begins e m)
 
 -- the table's entries, once the stores are made
-pub target-entries : (p : Params) (h : Ranged p) (g : Ghost) (v : View) (a : List Val) (c : Bool) (st : State) (fl : List ℕ) (M : Mem) (ss : List Store) (st₂ : State) (i : ℕ) (t : Target p h g v a c st fl M ss st₂ i)
+pub target-entries :
+    (p : Params) (h : Ranged p) (g : Ghost) (v : View) (a : List Val) (c : Bool) (st : State) (fl : List ℕ) (M : Mem) (ss : List Store) (st₂ : State)
+    (i : ℕ) (t : Target p h g v a c st fl M ss st₂ i)
     → (q b : ℕ) → Entry p h g (itemsIn p v) q b → Entry p h (t .g′) (itemsIn p (storeAll storeView ss v)) q b
 target-entries p h g v a c st fl M ss st₂ i t q b e = entry-to p h g (t .g′) (itemsIn p v) (itemsIn p (storeAll storeView ss v)) q b e
     (t .kept (placeDrive p q) (placeZone p q) (placeBlock p q) (chunk (e .s) (e .x)) (e .drive) (e .at)) (t .counts (e .x) (e .counts) .0) (t .counts (e .x) (e .counts) .1 ∙ e .same)

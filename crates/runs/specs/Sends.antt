@@ -156,7 +156,9 @@ module _ (T : Track) (ss : List Send) (s : ℕ) (a : List Val) where
       more q = ⊎-elim (λ w. inl w) (λ (w : (j : ℕ) × (j < n) × (sendAt ss j .waits ≡ true) × (sendAt ss j .stripe ≡ s) × (x ≡ T .log j)). inr (w .0, omega (arith, w .1), w .2, w .3, w .4)) q
 
       go : (InV x (ackedTo T ss s a n) → InV x a ⊎ ((j : ℕ) × (j < suc n) × (sendAt ss j .waits ≡ true) × (sendAt ss j .stripe ≡ s) × (x ≡ T .log j)))
-          → Test (hit n) → InV x (cond (hit n) (T .log n ∷ ackedTo T ss s a n) (ackedTo T ss s a n)) → InV x a ⊎ ((j : ℕ) × (j < suc n) × (sendAt ss j .waits ≡ true) × (sendAt ss j .stripe ≡ s) × (x ≡ T .log j))
+          → Test (hit n)
+          → InV x (cond (hit n) (T .log n ∷ ackedTo T ss s a n) (ackedTo T ss s a n))
+          → InV x a ⊎ ((j : ℕ) × (j < suc n) × (sendAt ss j .waits ≡ true) × (sendAt ss j .stripe ≡ s) × (x ≡ T .log j))
       go back (yes! e) m = ⊎-elim (λ (w : x ≡ T .log n). inr (
         n,
         omega arith,
@@ -181,9 +183,13 @@ module _ (T : Track) (ss : List Send) (s : ℕ) (a : List Val) where
   acked-new zero j l w e = absurd (let z : ⊥ = omega arith in z)
   acked-new (suc n) j l w e = go (ℕ-discrete j n) (acked-new n j)
     where
-      go : Dec (j ≡ n) → (j < n → sendAt ss j .waits ≡ true → sendAt ss j .stripe ≡ s → InV (T .log j) (ackedTo T ss s a n)) → InV (T .log j) (cond (hit n) (T .log n ∷ ackedTo T ss s a n) (ackedTo T ss s a n))
+      go :
+          Dec (j ≡ n)
+          → (j < n → sendAt ss j .waits ≡ true → sendAt ss j .stripe ≡ s → InV (T .log j) (ackedTo T ss s a n))
+          → InV (T .log j) (cond (hit n) (T .log n ∷ ackedTo T ss s a n) (ackedTo T ss s a n))
       go (yes q) ih = subst (λ (l : List Val). InV (T .log j) l)
-          (sym (cond-true (hit n) (T .log n ∷ ackedTo T ss s a n) (ackedTo T ss s a n) (subst (λ (i : ℕ). hit i ≡ true) q (and-both (sendAt ss j .waits) (eqb (sendAt ss j .stripe) s) w (eq-eqb (sendAt ss j .stripe) s e)))))
+          (sym (cond-true (hit n) (T .log n ∷ ackedTo T ss s a n) (ackedTo T ss s a n)
+          (subst (λ (i : ℕ). hit i ≡ true) q (and-both (sendAt ss j .waits) (eqb (sendAt ss j .stripe) s) w (eq-eqb (sendAt ss j .stripe) s e)))))
           (inl (ap (T .log) q))
       go (no q) ih = more (hit n) (ih (omega arith) w e)
         where

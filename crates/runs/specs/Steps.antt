@@ -43,7 +43,13 @@ pub data Stepped (p : Params) (h : Ranged p) (g : Ghost) (n : ℕ) (s s′ : His
   goes-on : s′ .mark ≡ s .mark → (x : Running p h s′ n) → Later g (x .healthy .live .g) → Stepped p h g n s s′
   is-over : s′ .mark ≡ s .mark → (x : Halted p h s′ n) → Later g (x .ended .stopped .g) → Stepped p h g n s s′
 
-untrusted-same : (p : Params) (h : Ranged p) (k : Disk) (m : Memory) (ss : List Send) (n : ℕ) → Healthy p h k m ss n → (c : Call) → restartOf c ≡ none → (us : ℕ) → untrustedAfter c (callDisk p k m c .answer) us ≡ us
+untrusted-same :
+    (p : Params) (h : Ranged p) (k : Disk) (m : Memory) (ss : List Send) (n : ℕ)
+    → Healthy p h k m ss n
+    → (c : Call)
+    → restartOf c ≡ none
+    → (us : ℕ)
+    → untrustedAfter c (callDisk p k m c .answer) us ≡ us
 unfolding untrustedAfter
 untrusted-same p h k m ss n x (write a b c) e us = refl
 untrusted-same p h k m ss n x (land d s c) e us = refl
@@ -78,6 +84,10 @@ run-step p h s n x c e = go (call-next p h k m (s .sends) n (x .healthy) c e)
     kept? true q w j o = true≢false (sym q)
     kept? false q w j o = unfold marked in refl
 
-    go : Next p h (x .healthy .live .g) n (callDisk p (s .world .disk) (s .world .memory) c) (sentAfter c (callDisk p (s .world .disk) (s .world .memory) c .answer) (s .sends)) → Stepped p h (x .healthy .live .g) n s (step p s (calls c))
+    go :
+        Next p h (x .healthy .live .g) n (callDisk p (s .world .disk) (s .world .memory) c)
+        (sentAfter c (callDisk p (s .world .disk) (s .world .memory) c .answer) (s .sends))
+        → Stepped p h (x .healthy .live .g) n s (step p s (calls c))
     go (goes a b y l) = goes-on (kept? (finished (r .answer)) b (mkWorld (r .drives) (r .memory)) (length (sentAfter c (r .answer) (s .sends))) (s .mark)) (record { healthy = y; trusted = trust }) l
-    go (stops a b z y l) = is-over (kept? (finished (r .answer)) b (mkWorld (r .drives) (r .memory)) (length (sentAfter c (r .answer) (s .sends))) (s .mark)) (record { ended = y; trusted = trust; dark = z }) l
+    go (stops a b z y l) =
+        is-over (kept? (finished (r .answer)) b (mkWorld (r .drives) (r .memory)) (length (sentAfter c (r .answer) (s .sends))) (s .mark)) (record { ended = y; trusted = trust; dark = z }) l

@@ -63,7 +63,8 @@ fewer-in (some a) b x e = go (ltb (length (b .live)) (length (a .live))) e
 fewest-in : (o : Opt Victim) (l : List Victim) (x : Victim) → fewest o l ≡ some x → (o ≡ some x) ⊎ Has x l
 unfolding fewest
 fewest-in o [] x e = inl e
-fewest-in o (b ∷ l) x e = ⊎-elim (λ (q : fewer o b ≡ some x). ⊎-elim (λ (w : o ≡ some x). inl w) (λ (w : x ≡ b). inr (inl w)) (fewer-in o b x q)) (λ (q : Has x l). inr (inr q)) (fewest-in (fewer o b) l x e)
+fewest-in o (b ∷ l) x e =
+    ⊎-elim (λ (q : fewer o b ≡ some x). ⊎-elim (λ (w : o ≡ some x). inl w) (λ (w : x ≡ b). inr (inl w)) (fewer-in o b x q)) (λ (q : Has x l). inr (inr q)) (fewest-in (fewer o b) l x e)
 
 pub record VictimIs (p : Params) (v : View) (tb : List ℕ) (w : Victim) : Type 0 where
   pub low : w .segment < p .Z
@@ -108,7 +109,8 @@ place-has p tb q i =
 
 pub has-place : (p : Params) (tb : List ℕ) (a : ℕ) → a < p .L → placeAt tb a ≢ neverPlace → Has (placeAt tb a) (placesIn p tb)
 unfolding placesIn
-has-place p tb a l n = has-keep (λ q. not (eqb q neverPlace)) (placeAt tb a) (map (placeAt tb) (below (p .L))) (has-map (placeAt tb) (below (p .L)) a (has-below a (p .L) l)) (ap not (ne-eqb (placeAt tb a) neverPlace n))
+has-place p tb a l n =
+    has-keep (λ q. not (eqb q neverPlace)) (placeAt tb a) (map (placeAt tb) (below (p .L))) (has-map (placeAt tb) (below (p .L)) a (has-below a (p .L) l)) (ap not (ne-eqb (placeAt tb a) neverPlace n))
 
 member-has : (q : ℕ) (l : List ℕ) → isMember q l ≡ true → Has q l
 unfolding isMember
@@ -147,13 +149,17 @@ module _ (p : Params) (h : Ranged p) (v : View) (st : State) (fl tb : List ℕ) 
   I = live-inv p h v st fl tb ss n l
 
   pub open-unsealed : (z : ℕ) → z < p .Z → ((d : ℕ) → d < p .N → pointerAt v d z ≡ capacity p) → l .M .is-open ≡ true → l .M .zone ≢ z
-  open-unsealed z zl full o e = absurd (slot .out (lost .0) (lost .1) (lost .2) (there (lost .0) (lost .1) s₀ (omega (arith, low)) .0) (subst (λ (x : ℕ). In (chunk x (there (lost .0) (lost .1) s₀ (omega (arith, low)) .0)) (itemsIn p v (lost .0) (M .zone))) (sym (w .3))
+  open-unsealed z zl full o e =
+      absurd (slot .out (lost .0) (lost .1) (lost .2) (there (lost .0) (lost .1) s₀ (omega (arith, low)) .0) (subst
+      (λ (x : ℕ). In (chunk x (there (lost .0) (lost .1) s₀ (omega (arith, low)) .0)) (itemsIn p v (lost .0) (M .zone))) (sym (w .3))
       (there (lost .0) (lost .1) s₀ (omega (arith, low)) .1)))
     where
       -- every stripe is on every drive
       there : (d : ℕ) → d < p .N → (s : ℕ) → s < p .S → (x : Val) × In (chunk s x) (itemsIn p v d (M .zone))
       there d dl s sl = I .facts .zones d (M .zone) (dl, live-trust p h v st fl tb ss n l d dl) .sealed
-          (let f : length (itemsIn p v d (M .zone)) ≡ capacity p = ap (λ (y : ℕ). length (itemsIn p v d y)) e ∙ live-len p h v st fl tb ss n l d z dl zl ∙ full d dl in omega (arith, f, capacity-few p h)) s sl
+          (let f : length (itemsIn p v d (M .zone)) ≡ capacity p = ap (λ (y : ℕ). length (itemsIn p v d y)) e
+          ∙ live-len p h v st fl tb ss n l d z dl zl
+          ∙ full d dl in omega (arith, f, capacity-few p h)) s sl
 
       ends : M .next ≡ p .S
       ends =
@@ -190,9 +196,11 @@ module _ (p : Params) (h : Ranged p) (v : View) (st : State) (fl tb : List ℕ) 
   elsewhere : (z : ℕ) → liveIn p (placesIn p tb) z ≡ [] → (a : ℕ) → a < p .L → Entry p h (l .g) (itemsIn p v) (placeAt tb a) a → placeZone p (placeAt tb a) ≢ z
   elsewhere z dead a al e y =
       let m : Has (placeAt tb a) (placesIn p tb) = has-place p tb a al (let f : placeAt tb a ≢ neverPlace = omega (arith, entry-low p h (l .g) v k none? (placeAt tb a) a e) in f) in
-      let f : placeAt tb a ≡ placeOf p (placeDrive p (placeAt tb a)) z (placeBlock p (placeAt tb a)) = sym (place-again p (placeAt tb a)) ∙ ap (λ (x : ℕ). placeOf p (placeDrive p (placeAt tb a)) x (placeBlock p (placeAt tb a))) y in
+      let f : placeAt tb a ≡ placeOf p (placeDrive p (placeAt tb a)) z (placeBlock p (placeAt tb a)) =
+      sym (place-again p (placeAt tb a)) ∙ ap (λ (x : ℕ). placeOf p (placeDrive p (placeAt tb a)) x (placeBlock p (placeAt tb a))) y in
       let u : Has (placeOf p (placeDrive p (placeAt tb a)) z (placeBlock p (placeAt tb a))) (liveIn p (placesIn p tb) z) =
-      has-live p (placesIn p tb) z (placeDrive p (placeAt tb a)) (placeBlock p (placeAt tb a)) (e .drive) (entry-within p h (l .g) v k none? (placeAt tb a) a e) (subst (λ (x : ℕ). Has x (placesIn p tb)) f m) in
+      has-live p (placesIn p tb) z (placeDrive p (placeAt tb a)) (placeBlock p (placeAt tb a)) (e .drive)
+      (entry-within p h (l .g) v k none? (placeAt tb a) a e) (subst (λ (x : ℕ). Has x (placesIn p tb)) f m) in
       subst (λ (x : List ℕ). Has (placeOf p (placeDrive p (placeAt tb a)) z (placeBlock p (placeAt tb a))) x) dead u
 
   pub quiet : (z : ℕ) → liveIn p (placesIn p tb) z ≡ [] → Quiet (parOf p h) (l .g) (itemsIn p v) z
@@ -217,4 +225,5 @@ module _ (p : Params) (h : Ranged p) (v : View) (st : State) (fl tb : List ℕ) 
       let n : placeZone p (placeAt tb a) ≢ z = elsewhere z dead a al w in
       inr (entry-to p h (l .g) (l .g) (itemsIn p v) u (placeAt tb a) a w
       (subst (λ (x : List Item). Off x (placeBlock p (placeAt tb a)) (chunk (w .s) (w .x))) (sym (same (placeDrive p (placeAt tb a)) (placeZone p (placeAt tb a)) n)) (w .at))
-      (counted-kept (parOf p h) (l .g) (l .g) (itemsIn p v) u f (I .mode .no-pair) refl (w .x) (w .counts) (λ d b. same d (w .counts .z) (λ q. n (sym (w .same) ∙ q)))) (w .same) (w .floor))) (l .table a al)
+      (counted-kept (parOf p h) (l .g) (l .g) (itemsIn p v) u f (I .mode .no-pair) refl (w .x) (w .counts)
+      (λ d b. same d (w .counts .z) (λ q. n (sym (w .same) ∙ q)))) (w .same) (w .floor))) (l .table a al)

@@ -71,7 +71,9 @@ module _ (p : Params) (h : Ranged p) (v : View) (m : Memory) (ss : List Send) (n
       let q : (not (inRange p) ≡ false) × ((not long ≡ false) × ((not (eqb (m .state .missing) 0) ≡ false)
       × (((not (hasFilling p (m .state)) || (scarce p v 1 && not (isNil (idle p v (m .state) (victim p v (m .addresses)))))) ≡ false)
       × ((stateFaults p (m .state) ++ cond (scarce p v 1) (tableFaults p (m .addresses)) [] ≡ []) × Unit {0})))) = passes (closeChecks p long v m) e in
-      let f : hasFilling p (m .state) ≡ true = not-false (hasFilling p (m .state)) (or-l (not (hasFilling p (m .state))) (scarce p v 1 && not (isNil (idle p v (m .state) (victim p v (m .addresses))))) (q .1 .1 .1 .0)) in
+      let f : hasFilling p (m .state) ≡ true =
+      not-false (hasFilling p (m .state))
+      (or-l (not (hasFilling p (m .state))) (scarce p v 1 && not (isNil (idle p v (m .state) (victim p v (m .addresses))))) (q .1 .1 .1 .0)) in
       let s : (fillingSlot p (m .state) < 8) × (inUse (m .state) (fillingSlot p (m .state)) ≡ true) × (filledIn (m .state) (fillingSlot p (m .state)) < dataCount p) = filling-slot p (m .state) f in
       record {
         sound = tt;
@@ -96,7 +98,11 @@ pub write-asked : (p : Params) (long : Bool) (v : View) (m : Memory) (ad : ℕ) 
 unfolding writeChecks
 write-asked p long v m ad b e =
     let st : State = m .state in
-    let q : (not (inRange p) ≡ false) × (((not long || not (eqb (length b) (p .B))) ≡ false) × ((not (eqb (st .missing) 0) ≡ false) × ((leb (p .L) ad ≡ false) × (((noStamp st || noSerial p st) ≡ false)
+    let q : (not (inRange p) ≡ false)
+    × (((not long || not (eqb (length b) (p .B))) ≡ false)
+    × ((not (eqb (st .missing) 0) ≡ false)
+    × ((leb (p .L) ad ≡ false)
+    × (((noStamp st || noSerial p st) ≡ false)
     × ((mustWait p st ≡ false) × ((scarce p v (cond (opens p st) 2 1) ≡ false) × ((stateFaults p st ≡ []) × Unit {0}))))))) = passes (writeChecks p long v m ad b) e in
     record {
       block = eqb-true (length b) (p .B) (not-false (eqb (length b) (p .B)) (or-r (not long) (not (eqb (length b) (p .B))) (q .1 .0)));
@@ -114,7 +120,8 @@ write-asked p long v m ad b e =
     last x = eqb-false (m .state .stamp .0) 18446744073709551615 (unfold noStamp in x)
 
     room : opens p (m .state) ≡ true → scarce p v (cond (opens p (m .state)) 2 1) ≡ false → 2 ≤ length (emptyZones p v)
-    room o x = let y : 2 < length (emptyZones p v) = leb-false (length (emptyZones p v)) 2 (subst (λ (t : Bool). leb (length (emptyZones p v)) (cond t 2 1) ≡ false) o (unfold scarce in x)) in omega arith
+    room o x =
+        let y : 2 < length (emptyZones p v) = leb-false (length (emptyZones p v)) 2 (subst (λ (t : Bool). leb (length (emptyZones p v)) (cond t 2 1) ≡ false) o (unfold scarce in x)) in omega arith
 
 -- the answer's stripe
 unfoldable pub sentStripe : Params → View → State → ℕ
@@ -170,10 +177,13 @@ module _ (p : Params) (h : Ranged p) (v : View) (m : Memory) (ss : List Send) (n
   abbrev st₃ : State
   st₃ = placed p (begunBy p (m .state) (openedBy p v (m .state))) (m .inflight) (slotFor p (m .state)) ad (suc (m .state .stamp .0)) 1 b .state
 
-  go-all : Go (parOf p h) (mst (l .g) (itemsIn p v) (l .a) (l .c) (run (l .M))) (mst (withSent (aim .g′) (x ∷ aim .g′ .sent)) (itemsIn p v₂) (l .a) true (run (stampedMem Mt t))) (l .T) (sentTo (l .T) x)
+  go-all :
+      Go (parOf p h) (mst (l .g) (itemsIn p v) (l .a) (l .c) (run (l .M)))
+      (mst (withSent (aim .g′) (x ∷ aim .g′ .sent)) (itemsIn p v₂) (l .a) true (run (stampedMem Mt t))) (l .T) (sentTo (l .T) x)
   go-all = go-then (parOf p h) (mst (l .g) (itemsIn p v) (l .a) (l .c) (run (l .M))) (mst (aim .g′) (itemsIn p v₂) (l .a) (l .c) (run (aim .M₂)))
       (mst (withSent (aim .g′) (x ∷ aim .g′ .sent)) (itemsIn p v₂) (l .a) true (run (stampedMem Mt t))) (l .T) (l .T) (sentTo (l .T) x) (aim .go (l .T))
-      (subst (λ (k : ℕ). Go (parOf p h) (mst (aim .g′) (itemsIn p v₂) (l .a) (l .c) (run (aim .M₂))) (mst (withSent (aim .g′) (x ∷ aim .g′ .sent)) (itemsIn p v₂) (l .a) true (run (stampedMem Mt k))) (l .T) (sentTo (l .T) x))
+      (subst (λ (k : ℕ). Go (parOf p h) (mst (aim .g′) (itemsIn p v₂) (l .a) (l .c) (run (aim .M₂)))
+      (mst (withSent (aim .g′) (x ∷ aim .g′ .sent)) (itemsIn p v₂) (l .a) true (run (stampedMem Mt k))) (l .T) (sentTo (l .T) x))
       (value-stamp b (mkRec ad t s))
       (sent-go p h (aim .g′) (itemsIn p v₂) (l .a) (l .c) st₂ fl (aim .M₂) (aim .U) (aim .rel) I₂ fits i (aim .low) (aim .used?) (aim .room) ad t 1 b (A .block) (l .T)
       (value-stamp b (mkRec ad t s) ∙ ap suc (sym (aim .stamp ∙ stamp-now))) (subst (λ (k : ℕ). k < p .L) (sym (value-addr b (mkRec ad t s))) (A .address))))
@@ -218,7 +228,9 @@ module _ (p : Params) (h : Ranged p) (v : View) (m : Memory) (ss : List Send) (n
                 (subst (λ (z : Send). Waiting p (setStamp st₃ t) (stampedMem Mt t) (l .T .log j) (z .stripe)) (sym e) f),
             subst (λ (z : Val). InV z (x ∷ aim .g′ .sent)) (sym (old-log′ j k)) (inr (subst (λ (z : List Val). InV (l .T .log j) z) (sym (aim .sent)) (w .1))),
             ap (λ (z : Val). sentTo (l .T) x .pos (z .stamp)) (old-log′ j k)
-                ∙ old-pos p (l .a) (l .T) ss (l .reached .logged) x y same refl (l .M .stamp) up low (l .T .log j .stamp) (live-stamps p h v (m .state) (m .inflight) (m .addresses) ss n l (l .T .log j) (w .1)) ∙ w .2,
+                ∙ old-pos p (l .a) (l .T) ss (l .reached .logged) x y same refl (l .M .stamp) up low (l .T .log j .stamp)
+                (live-stamps p h v (m .state) (m .inflight) (m .addresses) ss n l (l .T .log j) (w .1))
+                ∙ w .2,
           )
       go (no k) =
           let e : j ≡ length ss = omega (arith, b′, k, length-sent p (l .a) (l .T) ss (l .reached .logged) x y same refl (l .M .stamp) up low) in
@@ -242,7 +254,9 @@ module _ (p : Params) (h : Ranged p) (v : View) (m : Memory) (ss : List Send) (n
   unfolding writePlan sending sendStores sentStripe
   write-ok = record {
     sound = aim .sound;
-    done = live-after p h v (m .state) (m .inflight) (m .addresses) ss n l (sendStores p v (m .state)) (aim .sound) (withSent (aim .g′) (x ∷ aim .g′ .sent)) (l .a) true (stampedMem Mt t) (sentTo (l .T) x)
+    done =
+        live-after p h v (m .state) (m .inflight) (m .addresses) ss n l (sendStores p v (m .state)) (aim .sound)
+        (withSent (aim .g′) (x ∷ aim .g′ .sent)) (l .a) true (stampedMem Mt t) (sentTo (l .T) x)
         (setStamp st₃ t) (placed p st₂ fl i ad t 1 b .inflight) (m .addresses) (ss ++ (y ∷ [])) later go-all rel-all logged waits
         (omega (arith, l .reached .marked, length-sent p (l .a) (l .T) ss (l .reached .logged) x y same refl (l .M .stamp) up low))
         (λ e. absurd (let z : ⊥ = omega (arith, e, l .reached .marked, length-sent p (l .a) (l .T) ss (l .reached .logged) x y same refl (l .M .stamp) up low) in z)) table;

@@ -7,7 +7,8 @@ use native.Mathlib.Omega.{arith}
 use lib.ListN.{length, getD, take, drop, set, length-map}
 use lib.Seq.{getD-set-other}
 use Rattle.defs.specs.declared.Params.{Params}
-use Rattle.defs.specs.Drives.{Chunk, noChunk, Zone, noZone, View, zoneAt, pointerAt, chunkAt, Store, putZone, setZone, storeView, Disk, pointerOf, storeDisk, storeAll, zoneOn, sparesOf, footersOf, zeroSpare, footerStores}
+use Rattle.defs.specs.Drives.{Chunk, noChunk, Zone, noZone, View, zoneAt, pointerAt, chunkAt, Store, putZone, setZone, storeView, Disk, pointerOf, storeDisk}
+use Rattle.defs.specs.Drives.{storeAll, zoneOn, sparesOf, footersOf, zeroSpare, footerStores}
 use Rattle.defs.specs.Drives.Store.{put}
 use Rattle.defs.specs.Landing.{sealStores}
 use Rattle.defs.specs.Layout.{footerBlock}

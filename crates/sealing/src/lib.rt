@@ -21,7 +21,9 @@ pub fn seal_stores(
     requires { ⌜ inRange p ≡ true ⌝ }
     requires { ⌜ Whole p (mkDisk (now image) (now pointers)) ⌝ }
     requires { ⌜ (segment < p .Z) × ((d : ℕ) → d < p .N → pointerOf p (now pointers) d (zoneOn segment d) + footers p ≤ capacity p) ⌝ }
-    ensures { λ r. ⌜ Storing p count (sealStores p (viewOf p (now (image .entry)) (now (pointers .entry))) segment) (mkDisk (now (image .entry)) (now (pointers .entry))) r (mkDisk (now (image .exit)) (now (pointers .exit))) ⌝ }
+    ensures { λ r. ⌜
+        Storing p count (sealStores p (viewOf p (now (image .entry)) (now (pointers .entry))) segment)
+        (mkDisk (now (image .entry)) (now (pointers .entry))) r (mkDisk (now (image .exit)) (now (pointers .exit))) ⌝ }
 {
     let n = shape::footers(p);
     let mut left = count;

@@ -57,7 +57,9 @@ module _ (p : Params) (r : Ranged p) (q : Zone) (k : ZoneOk p q) (e : q .pointer
       made = as! fine
         where
           as! : footerFaultIn p q ≡ false → blocksOf (take have (drop (1 + p .S) (q .blocks))) ≡ map (footerBlock p (sparesIn p q)) (upFrom 0 have)
-          as! f = unfold footerFaultIn footersOf sparesIn in same-blocks (blocksOf (take have (drop (1 + p .S) (q .blocks)))) (footersOf p q 0 have) (not-false (sameBlocks (blocksOf (take have (drop (1 + p .S) (q .blocks)))) (footersOf p q 0 have)) f)
+          as! f =
+              unfold footerFaultIn footersOf sparesIn in same-blocks (blocksOf (take have (drop (1 + p .S) (q .blocks)))) (footersOf p q 0 have)
+              (not-false (sameBlocks (blocksOf (take have (drop (1 + p .S) (q .blocks)))) (footersOf p q 0 have)) f)
 
   module _ (d z : ℕ) where
     abbrev lack : List Chunk
@@ -78,7 +80,9 @@ module _ (p : Params) (r : Ranged p) (q : Zone) (k : ZoneOk p q) (e : q .pointer
             let i : 1 + p .S + j ≡ q .pointer + (j - have) = omega arith in
             let n : j - have < footers p - have = omega arith in
             ap (λ (x : ℕ). getD (q2 .blocks) x noChunk .block) i
-            ∙ ap (λ (x : Chunk). x .block) (puts-new d z lack q (j - have) (omega arith) (let y = capacity-is p r in let w = k .blocks-long in omega arith) ∙ footer-chunk p r q k have (footers p - have) (j - have) n)
+            ∙ ap (λ (x : Chunk). x .block) (puts-new d z lack q (j - have) (omega arith)
+            (let y = capacity-is p r in let w = k .blocks-long in omega arith)
+            ∙ footer-chunk p r q k have (footers p - have) (j - have) n)
             ∙ ap (footerBlock p (sparesIn p q)) (let w : have + (j - have) ≡ j = omega arith in w)
 
     -- so the records by footer are those by spare
@@ -100,4 +104,6 @@ module _ (p : Params) (r : Ranged p) (q : Zone) (k : ZoneOk p q) (e : q .pointer
     footer-records = unfold recordsIn in
         let n1 : dataStored p q2 ≡ p .S = (unfold dataStored in (let a = puts-pointer d z lack q in let z : min (q2 .pointer - 1) (p .S) ≡ p .S = omega arith in z)) in
         let n2 : dataStored p q ≡ p .S = (unfold dataStored in (let z : min (q .pointer - 1) (p .S) ≡ p .S = omega arith in z)) in
-        ap (λ (n : ℕ). map (recordIn p true q2) (below n)) n1 ∙ map-cong (recordIn p true q2) (recordIn p false q) (below (p .S)) (λ x m. footer-record x (below-in (p .S) x m)) ∙ ap (λ (n : ℕ). map (recordIn p false q) (below n)) (sym n2)
+        ap (λ (n : ℕ). map (recordIn p true q2) (below n)) n1
+        ∙ map-cong (recordIn p true q2) (recordIn p false q) (below (p .S)) (λ x m. footer-record x (below-in (p .S) x m))
+        ∙ ap (λ (n : ℕ). map (recordIn p false q) (below n)) (sym n2)

@@ -103,7 +103,8 @@ module _ (p : Params) (r : Ranged p) (v : View) (sh : Shaped p v) (acc : Accepte
           as! q = unfold footerFault in (sym (ap (λ (b : Bool). not b && any (λ e. footerFaultIn p (getD (x .zonesBy) e noZone)) (present p 0)) (full-is p v 0 g ∙ ng)) ∙ q)
 
       sealed-b : sealedIn p vb 0 g ≡ true
-      sealed-b = as! (in-all (λ e. eqb (pointerAt vb e g) (capacity p)) (present p 0) (λ e m. eq-eqb (pointerAt vb e g) (capacity p) (b-pointer p r v sh acc g hg kg ng oth wh e (present-in p 0 e m .0))))
+      sealed-b =
+          as! (in-all (λ e. eqb (pointerAt vb e g) (capacity p)) (present p 0) (λ e m. eq-eqb (pointerAt vb e g) (capacity p) (b-pointer p r v sh acc g hg kg ng oth wh e (present-in p 0 e m .0))))
         where
           as! : all (λ e. eqb (pointerAt vb e g) (capacity p)) (present p 0) ≡ true → sealedIn p vb 0 g ≡ true
           as! q = unfold sealedIn zoneOn in q
@@ -138,12 +139,19 @@ module _ (p : Params) (r : Ranged p) (v : View) (sh : Shaped p v) (acc : Accepte
       open! = open-now p r v sh acc g hg kg ng oth z0 hz0 fz fit nw
 
       -- the address and the stamp of a stored chunk have 8 bytes
-      old-low : (d o : ℕ) → d < p .N → o < dataStored p (zoneAt v d g) → (recordIn p (sealedIn p v 0 g) (zoneAt v d g) o .address < 256 ^ 8) × (recordIn p (sealedIn p v 0 g) (zoneAt v d g) o .stamp < 256 ^ 8)
+      old-low :
+          (d o : ℕ)
+          → d < p .N
+          → o < dataStored p (zoneAt v d g)
+          → (recordIn p (sealedIn p v 0 g) (zoneAt v d g) o .address < 256 ^ 8) × (recordIn p (sealedIn p v 0 g) (zoneAt v d g) o .stamp < 256 ^ 8)
       old-low d o hd h =
           let l : 1 + o < capacity p = (let a = data-low p (zoneAt v d g) o h .0 in let b = capacity-over p r in omega arith) in
           as! (sh .zone-ok d g hd hg .sound (1 + o) l .spare-bytes)
         where
-          as! : Bytes (getD (zoneAt v d g .blocks) (1 + o) noChunk .spare) → (recordIn p (sealedIn p v 0 g) (zoneAt v d g) o .address < 256 ^ 8) × (recordIn p (sealedIn p v 0 g) (zoneAt v d g) o .stamp < 256 ^ 8)
+          as! :
+              Bytes (getD (zoneAt v d g .blocks) (1 + o) noChunk .spare)
+              → (recordIn p (sealedIn p v 0 g) (zoneAt v d g) o .address < 256 ^ 8) ×
+              (recordIn p (sealedIn p v 0 g) (zoneAt v d g) o .stamp < 256 ^ 8)
           as! b = subst (λ (w : Bool). (recordIn p w (zoneAt v d g) o .address < 256 ^ 8) × (recordIn p w (zoneAt v d g) o .stamp < 256 ^ 8)) (sym ng)
               (unfold recordIn in (address-low (getD (zoneAt v d g .blocks) (1 + o) noChunk .spare) b, stamp-low (getD (zoneAt v d g .blocks) (1 + o) noChunk .spare) b))
 
@@ -202,7 +210,10 @@ module _ (p : Params) (r : Ranged p) (v : View) (sh : Shaped p v) (acc : Accepte
 
   fine-one : (g : ℕ) → g < p .Z → keeps! g ≡ true → sealedIn p v 0 g ≡ false → ((y : ℕ) → y < p .Z → keeps! y ≡ true → (y ≡ g → ⊥) → sealedIn p v 0 y ≡ true)
       → unsealed gs ≡ segmentOf p v 0 g ∷ []
-      → rewrites p 0 gs && eqb (greatestSerial gs) lastCount ≡ false → rewrites p 0 gs && isNil (freeZones p gs) ≡ false → greatestSerial gs < 256 ^ 8 → Fine p (storeAll storeView (mendStores p gs (segmentOf p v 0 g)) va)
+      → rewrites p 0 gs && eqb (greatestSerial gs) lastCount ≡ false
+      → rewrites p 0 gs && isNil (freeZones p gs) ≡ false
+      → greatestSerial gs < 256 ^ 8
+      → Fine p (storeAll storeView (mendStores p gs (segmentOf p v 0 g)) va)
   fine-one g hg kg ng oth us c6 c8 bd = go (test (isWhole p (segmentOf p v 0 g))) (test (isRagged p (segmentOf p v 0 g)))
     where
       whole! : isWhole p (segmentOf p v 0 g) ≡ true → mendStores p gs (segmentOf p v 0 g) ≡ missingFooters p (segmentOf p v 0 g)
@@ -211,7 +222,10 @@ module _ (p : Params) (r : Ranged p) (v : View) (sh : Shaped p v) (acc : Accepte
       plain! : isWhole p (segmentOf p v 0 g) ≡ false → isRagged p (segmentOf p v 0 g) ≡ false → mendStores p gs (segmentOf p v 0 g) ≡ []
       plain! q w = unfold mendStores in rw (q, w)
 
-      ragged! : isWhole p (segmentOf p v 0 g) ≡ false → isRagged p (segmentOf p v 0 g) ≡ true → mendStores p gs (segmentOf p v 0 g) ≡ rewriteStores p (segmentOf p v 0 g) (firstOr 0 (freeZones p gs)) (suc (greatestSerial gs))
+      ragged! :
+          isWhole p (segmentOf p v 0 g) ≡ false
+          → isRagged p (segmentOf p v 0 g) ≡ true
+          → mendStores p gs (segmentOf p v 0 g) ≡ rewriteStores p (segmentOf p v 0 g) (firstOr 0 (freeZones p gs)) (suc (greatestSerial gs))
       ragged! q w = unfold mendStores in rw (q, w)
 
       rewrites! : isRagged p (segmentOf p v 0 g) ≡ true → rewrites p 0 gs ≡ true
@@ -240,7 +254,10 @@ module _ (p : Params) (r : Ranged p) (v : View) (sh : Shaped p v) (acc : Accepte
           (subst (λ (u : View). Fine p u) (sym (stores-none va)) fine-none)
       go (loose-one g hg kg ng us oth) =
           subst (λ (l : List Store). Fine p (storeAll storeView l va))
-          (sym (ap (flat (mendStores p gs)) us ∙ flat-cons (mendStores p gs) (segmentOf p v 0 g) [] ∙ ap (λ (l : List Store). mendStores p gs (segmentOf p v 0 g) ++ l) (flat-none (mendStores p gs)) ∙ append-nil (mendStores p gs (segmentOf p v 0 g))))
+          (sym (ap (flat (mendStores p gs)) us
+          ∙ flat-cons (mendStores p gs) (segmentOf p v 0 g) []
+          ∙ ap (λ (l : List Store). mendStores p gs (segmentOf p v 0 g) ++ l) (flat-none (mendStores p gs))
+          ∙ append-nil (mendStores p gs (segmentOf p v 0 g))))
           (fine-one g hg kg ng oth us c6 c8 bd)
 
 -- 01, Restart, 4: the stores fit, and what they leave can be loaded
@@ -264,5 +281,7 @@ settled p r v sh acc c6 c8 =
     record {
       fits = subst (λ (l : List Store). AllFit p v l) (sym es)
           (all-fit p v (ds ++ ts) (sh .sized) (within-append p ds ts (drop-within p r v sh acc) (md .mend-within)) (roomy-append p v ds ts (sh .sized) (drop-roomy p r v sh acc) (md .mend-roomy)));
-      fine = subst (λ (u : View). AllGood p u 0) (sym (ap (λ (l : List Store). storeAll storeView l v) es ∙ ev)) (λ g m. let (hg, u) = remains-is-used p r v2 (md .mend-bound) (md .mend-tidy) g m in fm g hg u);
+      fine =
+          subst (λ (u : View). AllGood p u 0) (sym (ap (λ (l : List Store). storeAll storeView l v) es ∙ ev))
+          (λ g m. let (hg, u) = remains-is-used p r v2 (md .mend-bound) (md .mend-tidy) g m in fm g hg u);
     }

@@ -87,16 +87,25 @@ unfolding addressFault badData
 data-none p gone g q = or-left (any (λ d. any (storedBad p d) (recsOn g d)) (present p gone)) (any (λ d. any (decodedBad p gone g d) (counted p gone g)) (absent p gone)) q
 
 -- what it takes, zone by zone
-pub bad-none : (p : Params) (v : View) (gone g : ℕ) → ((d : ℕ) → d < p .N → isIn gone d ≡ false → any (storedBad p d) (recordsIn p (sealedIn p v gone g) (zoneAt v d g)) ≡ false) → badData p gone (segmentOf p v gone g) ≡ false
+pub bad-none :
+    (p : Params) (v : View) (gone g : ℕ)
+    → ((d : ℕ) → d < p .N → isIn gone d ≡ false → any (storedBad p d) (recordsIn p (sealedIn p v gone g) (zoneAt v d g)) ≡ false)
+    → badData p gone (segmentOf p v gone g) ≡ false
 unfolding badData
 bad-none p v gone g f = in-none (λ d. any (storedBad p d) (recsOn (segmentOf p v gone g) d)) (present p gone) (λ d m.
     let (hd, q) = present-in p gone d m in
     ap (any (storedBad p d)) (recs-here p v gone g d hd q) ∙ f d hd q)
 
 -- and of a zone
-pub none-bad : (p : Params) (v : View) (gone g d : ℕ) → d < p .N → isIn gone d ≡ false → badData p gone (segmentOf p v gone g) ≡ false → any (storedBad p d) (recordsIn p (sealedIn p v gone g) (zoneAt v d g)) ≡ false
+pub none-bad :
+    (p : Params) (v : View) (gone g d : ℕ)
+    → d < p .N
+    → isIn gone d ≡ false
+    → badData p gone (segmentOf p v gone g) ≡ false
+    → any (storedBad p d) (recordsIn p (sealedIn p v gone g) (zoneAt v d g)) ≡ false
 unfolding badData
-none-bad p v gone g d hd q e = ap (any (storedBad p d)) (sym (recs-here p v gone g d hd q)) ∙ none-in (λ d. any (storedBad p d) (recsOn (segmentOf p v gone g) d)) (present p gone) e d (in-present p gone d hd q)
+none-bad p v gone g d hd q e =
+    ap (any (storedBad p d)) (sym (recs-here p v gone g d hd q)) ∙ none-in (λ d. any (storedBad p d) (recsOn (segmentOf p v gone g) d)) (present p gone) e d (in-present p gone d hd q)
 
 -- record by record
 pub zone-good : (p : Params) (w : Bool) (q : Zone) (d : ℕ) → ((o : ℕ) → o < dataStored p q → storedBad p d (recordIn p w q o) ≡ false) → any (storedBad p d) (recordsIn p w q) ≡ false

@@ -15,5 +15,12 @@ ghost use Rattle.tablesay.specs.Zones.{Shaped};
 
 // Where no check of a restart holds and no drive is missing, its stores fit, and behind them no remaining segment has a bad stripe number or a bad data address.
 pub fn settles()
-    ensures { λ _. ⌜ ((p : Params) (v : View) → inRange p ≡ true → Shaped p v → Accepted p v 0 → rewrites p 0 (segments p v 0) && eqb (greatestSerial (segments p v 0)) lastCount ≡ false → rewrites p 0 (segments p v 0) && isNil (freeZones p (segments p v 0)) ≡ false → Settled p v) ⌝ }
+    ensures { λ _. ⌜
+        ((p : Params) (v : View)
+        → inRange p ≡ true
+        → Shaped p v
+        → Accepted p v 0
+        → rewrites p 0 (segments p v 0) && eqb (greatestSerial (segments p v 0)) lastCount ≡ false
+        → rewrites p 0 (segments p v 0) && isNil (freeZones p (segments p v 0)) ≡ false
+        → Settled p v) ⌝ }
 {}

@@ -13,7 +13,8 @@ use Rattle.defs.specs.Faults.{footersStored}
 use Rattle.defs.specs.Layout.{recordOf, footerRecord}
 use Rattle.defs.specs.Params.{spareLen, perFooter, footers, capacity, unitLen, imageLen, pointersLen, placeOf, placeByte}
 use Rattle.defs.specs.declared.Params.{Params}
-use Rattle.laws.specs.Geometry.{Ranged, prod-le, spare-len, per-footer-low, per-footer-high, per-footer-fits, footers-low, footers-high, capacity-high, image-high, zones-all, data-below, item, block-within, zone-index-lt}
+use Rattle.laws.specs.Geometry.{Ranged, prod-le, spare-len, per-footer-low, per-footer-high, per-footer-fits, footers-low, footers-high, capacity-high}
+use Rattle.laws.specs.Geometry.{image-high, zones-all, data-below, item, block-within, zone-index-lt}
 use Rattle.laws.specs.Ranges.{getD-map}
 use Rattle.laws.specs.Splice.{part-part}
 use Rattle.views.specs.Views.{Whole, pointer-view, blocks-long, block-view, spare-view}

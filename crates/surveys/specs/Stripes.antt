@@ -168,7 +168,10 @@ module _ (p : Params) (gone : ℕ) (g : Segment) (n : ℕ) (t : Tally) (T : Tall
     bad-is = λ e. T .bad-is e ∙ sym (any-more (lostFault p gone g) n ∙ or-none (any (lostFault p gone g) (below n)) (lostFault p gone g n) (λ i. h e .0 i && h e .1 i));
     counted-is = λ e b. ap (λ (x : ℕ). x + 1) (T .counted-is e b) ∙ sym (tally-below-hit (counts p gone g) n (h e .0));
     top-is = λ e b. sym (last-hit (counts p gone g) n (h e .0));
-    loose-is = λ e b. T .loose-is e b ∙ sym (tally-below-miss (isLoose p gone g) n (ap (λ (x : Bool). any (hasChunk g n) (present p gone) && not x) (h e .0) ∙ and-none (any (hasChunk g n) (present p gone))));
+    loose-is =
+        λ e b. T .loose-is e b
+        ∙ sym (tally-below-miss (isLoose p gone g) n
+        (ap (λ (x : Bool). any (hasChunk g n) (present p gone) && not x) (h e .0) ∙ and-none (any (hasChunk g n) (present p gone))));
   }
     where
       and-none : (b : Bool) → (b && false) ≡ false

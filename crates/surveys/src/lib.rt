@@ -94,7 +94,12 @@ fn is_all_entered(p: Params, w: Group, at: &[u16], k: usize) -> bool
 fn lost_bad(p: Params, image: &[u8], w: Group, at: &[u16], k: usize) -> bool
     requires { ⌜ inRange p ≡ true ⌝ }
     requires { ⌜ (length (now image) ≡ imageLen p) × (length (now at) ≡ 2048) × (w .seg < p .Z) × (w .base < p .S) × (k < groupLen p (w .base)) ⌝ }
-    ensures { λ r. ⌜ ((ps : List ℕ) → Shown p (now (image .entry)) ps w (now (at .entry)) → recsFault p (w .gone) (segmentIn p (now (image .entry)) ps w) ≡ false → counts p (w .gone) (segmentIn p (now (image .entry)) ps w) (w .base + k) ≡ true → r ≡ lostBad p (w .gone) (segmentIn p (now (image .entry)) ps w) (w .base + k)) ⌝ }
+    ensures { λ r. ⌜
+        ((ps : List ℕ)
+        → Shown p (now (image .entry)) ps w (now (at .entry))
+        → recsFault p (w .gone) (segmentIn p (now (image .entry)) ps w) ≡ false
+        → counts p (w .gone) (segmentIn p (now (image .entry)) ps w) (w .base + k) ≡ true
+        → r ≡ lostBad p (w .gone) (segmentIn p (now (image .entry)) ps w) (w .base + k)) ⌝ }
 {
     if !any_lost_data(p, w.gone, w.base + k) {
         return false;
@@ -125,7 +130,11 @@ fn survey_stripe(p: Params, image: &[u8], w: Group, at: &[u16], k: usize, t: Tal
     requires { ⌜ (length (now image) ≡ imageLen p) × (length (now at) ≡ 2048) × (w .seg < p .Z) × (w .base < p .S) × (k < groupLen p (w .base)) ⌝ }
     requires { ⌜ (t .counted ≤ w .base + k) × (t .loose ≤ w .base + k) ⌝ }
     ensures { λ r. ⌜ (r .counted ≤ w .base + k + 1) × (r .loose ≤ w .base + k + 1) × (r .bad ≡ false → t .bad ≡ false) ⌝ }
-    ensures { λ r. ⌜ ((ps : List ℕ) → Shown p (now (image .entry)) ps w (now (at .entry)) → Tallied p (w .gone) (segmentIn p (now (image .entry)) ps w) (w .base + k) t → Tallied p (w .gone) (segmentIn p (now (image .entry)) ps w) (w .base + k + 1) r) ⌝ }
+    ensures { λ r. ⌜
+        ((ps : List ℕ)
+        → Shown p (now (image .entry)) ps w (now (at .entry))
+        → Tallied p (w .gone) (segmentIn p (now (image .entry)) ps w) (w .base + k) t
+        → Tallied p (w .gone) (segmentIn p (now (image .entry)) ps w) (w .base + k + 1) r) ⌝ }
 {
     if groups::counts(p, w.gone, at, k) {
         if lost_bad(p, image, w, at, k) {
@@ -155,7 +164,11 @@ fn survey_stripes(p: Params, image: &[u8], w: Group, at: &[u16], t: Tally) -> Ta
     requires { ⌜ (length (now image) ≡ imageLen p) × (length (now at) ≡ 2048) × (w .seg < p .Z) × (w .base < p .S) ⌝ }
     requires { ⌜ (t .counted ≤ w .base) × (t .loose ≤ w .base) ⌝ }
     ensures { λ r. ⌜ (r .counted ≤ w .base + groupLen p (w .base)) × (r .loose ≤ w .base + groupLen p (w .base)) × (r .bad ≡ false → t .bad ≡ false) ⌝ }
-    ensures { λ r. ⌜ ((ps : List ℕ) → Shown p (now (image .entry)) ps w (now (at .entry)) → Tallied p (w .gone) (segmentIn p (now (image .entry)) ps w) (w .base) t → Tallied p (w .gone) (segmentIn p (now (image .entry)) ps w) (w .base + groupLen p (w .base)) r) ⌝ }
+    ensures { λ r. ⌜
+        ((ps : List ℕ)
+        → Shown p (now (image .entry)) ps w (now (at .entry))
+        → Tallied p (w .gone) (segmentIn p (now (image .entry)) ps w) (w .base) t
+        → Tallied p (w .gone) (segmentIn p (now (image .entry)) ps w) (w .base + groupLen p (w .base)) r) ⌝ }
 {
     let len = groups::group_len(p, w.base);
     let mut next = t;
@@ -183,7 +196,9 @@ fn survey_group(
     requires { ⌜ (t .counted ≤ w .base) × (t .loose ≤ w .base) ⌝ }
     ensures { λ r. ⌜ (r .counted ≤ w .base + groupLen p (w .base)) × (r .loose ≤ w .base + groupLen p (w .base)) ⌝ }
     ensures { λ r. ⌜ (r .bad ≡ false → (t .bad ≡ false) × (groupFault p (w .gone) (segmentIn p (now (image .entry)) (now (pointers .entry)) w) (w .base) ≡ false)) ⌝ }
-    ensures { λ r. ⌜ (Tallied p (w .gone) (segmentIn p (now (image .entry)) (now (pointers .entry)) w) (w .base) t → Tallied p (w .gone) (segmentIn p (now (image .entry)) (now (pointers .entry)) w) (w .base + groupLen p (w .base)) r) ⌝ }
+    ensures { λ r. ⌜
+        (Tallied p (w .gone) (segmentIn p (now (image .entry)) (now (pointers .entry)) w) (w .base) t
+        → Tallied p (w .gone) (segmentIn p (now (image .entry)) (now (pointers .entry)) w) (w .base + groupLen p (w .base)) r) ⌝ }
 {
     if !groups::index_group(p, image, pointers, w, at) {
         return bad_tally(t);

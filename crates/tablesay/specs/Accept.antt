@@ -120,7 +120,8 @@ module _ (p : Params) (v : View) (gone : ℕ) (acc : Accepted p v gone) where
   unfolding serialFault
   copied-low g m =
       let x = segmentOf p v gone g in
-      leb-false (x .serial) (x .copied) (or-left (leb (x .serial) (x .copied)) (any (λ (h : Segment). not (eqb (h .seg) (x .seg)) && eqb (h .serial) (x .serial)) (segments p v gone)) (faults-apart g m .no-serial-fault))
+      leb-false (x .serial) (x .copied) (or-left (leb (x .serial) (x .copied))
+      (any (λ (h : Segment). not (eqb (h .seg) (x .seg)) && eqb (h .serial) (x .serial)) (segments p v gone)) (faults-apart g m .no-serial-fault))
 
   pub serials-differ : (g h : ℕ) → In g (remaining p v gone) → In h (remaining p v gone) → (h ≡ g → ⊥) → segmentOf p v gone h .serial ≡ segmentOf p v gone g .serial → ⊥
   unfolding serialFault segments

@@ -140,7 +140,8 @@ module _ (p : Params) (r : Ranged p) (v : View) (gone : ℕ) where
         let x = segmentOf p v gone g in
         let o = offsetOn x d (k .stripe) in
         let eo : c .offset ≡ o = offset-here b in
-        let es : recordIn p (sealedIn p v gone g) (zoneAt v d g) (c .offset) .stripe ≡ k .stripe = ap (λ (y : ℕ). recordIn p (sealedIn p v gone g) (zoneAt v d g) y .stripe) eo ∙ its-chunk b .its-stripe in
+        let es : recordIn p (sealedIn p v gone g) (zoneAt v d g) (c .offset) .stripe ≡ k .stripe =
+        ap (λ (y : ℕ). recordIn p (sealedIn p v gone g) (zoneAt v d g) y .stripe) eo ∙ its-chunk b .its-stripe in
         let eb : placeBlock p (c .place) - 1 ≡ o = ap (λ (y : ℕ). y - 1) (spot-block p r v gone c t) ∙ (let z : 1 + c .offset - 1 ≡ c .offset = omega arith in z) ∙ eo in
         rw (b, cand-zone, es, spot-drive p r v gone c t, eb, zone-by p v gone g d (t .drive-low))
 

@@ -64,7 +64,11 @@ module _ (p : Params) (v : View) (st su : State) (z : ℕ) where
   open-same s busy o = record {
     opened-zone = o .opened-zone;
     has-header = o .has-header;
-    count = λ d h. ap (λ (x : ℕ). pointerAt v d z + x) (sym (tally-cong (awaits st busy d) (awaits su busy d) slots (λ i m. ap (λ (n : ℕ). busy i && not (isIn n d)) (s i .same-landed)))) ∙ o .count d h ∙ ap suc (s 0 .same-next);
+    count =
+        λ d h. ap (λ (x : ℕ). pointerAt v d z + x)
+        (sym (tally-cong (awaits st busy d) (awaits su busy d) slots (λ i m. ap (λ (n : ℕ). busy i && not (isIn n d)) (s i .same-landed))))
+        ∙ o .count d h
+        ∙ ap suc (s 0 .same-next);
     below-next = λ d e h q. subst (λ (x : ℕ). spareAt p v d z e .stripe < x) (s 0 .same-next) (o .below-next d e h q);
     flight = λ i h q. flight-same i (s i) (o .flight i h q);
     once = λ i j hi hj a b e. o .once i j hi hj a b (s i .same-stripe ∙ e ∙ sym (s j .same-stripe));
@@ -170,7 +174,10 @@ begin-healthy p r v st z i a t w h so op hi fi nx gr ha ht = record {
         go (yes e) = or-true-right (flies st j) (eqb j i) (eq-eqb j i e)
             ∙ sym (some-flies sw j (λ q. let x : filledIn sw j ≡ suc (filledIn su i) = ap (filledIn sw) e ∙ add-filled su (begin-lists st (h .lists) i hi) i hi a t w in let y : ⊥ = omega arith in y))
         go (no n) = ap (λ (b : Bool). flies st j || b) (ne-eqb j i n) ∙ orf (flies st j)
-            ∙ ap not (free-is st j ∙ ap (λ (x : ℕ). eqb x 0) (sym (add-filled-other su (begin-lists st (h .lists) i hi) i hi a t w j n ∙ begin-filled-other st (h .lists) i hi j n)) ∙ sym (free-is sw j))
+            ∙ ap not (free-is st j
+            ∙ ap (λ (x : ℕ). eqb x 0)
+            (sym (add-filled-other su (begin-lists st (h .lists) i hi) i hi a t w j n ∙ begin-filled-other st (h .lists) i hi j n))
+            ∙ sym (free-is sw j))
 
     opened-at : (y : ℕ) → st .opened ≡ suc y → Open p v sw (flies sw) y
     opened-at y q =

@@ -28,7 +28,8 @@ use Rattle.defs.specs.Params.{dataCount, capacity, placeOf, placeBlock, placeZo
 use Rattle.defs.specs.Parity.{parityRec}
 use Rattle.defs.specs.Rank.{Cand, best, candsOf}
 use Rattle.defs.specs.Read.Found.{away}
-use Rattle.defs.specs.Segments.{headerAt, remaining, Segment, recordsIn, segmentOf, segments, recsOn, offsetOn, hasChunk, counts, storedRec, recOf, offsetOf, candOf, candidates, addressTable, compactRow, compactTable}
+use Rattle.defs.specs.Segments.{headerAt, remaining, Segment, recordsIn, segmentOf, segments, recsOn, offsetOn, hasChunk, counts, storedRec, recOf, offsetOf}
+use Rattle.defs.specs.Segments.{candOf, candidates, addressTable, compactRow, compactTable}
 use Rattle.laws.specs.Be.{room}
 use Rattle.laws.specs.Geometry.{Ranged, compact-within, position-drive, drive-is-data, data-drive-lt}
 use Rattle.laws.specs.Mask.{isIn-empty, isIn-with}
@@ -93,7 +94,8 @@ module _ (p : Params) (r : Ranged p) (v : View) (sh : Shaped p v) (st : State) (
     where
       go : ready p st i d ≡ true → dataPosition p s d < filledIn st i
       go x = unfold ready in ltb-true (dataPosition p s d) (filledIn st i)
-          (sym (cond-true (isData p s d) (ltb (dataPosition p s d) (filledIn st i)) (isFull p st i) q) ∙ and-right (not (isIn (landedIn st i) d)) (cond (isData p s d) (ltb (dataPosition p s d) (filledIn st i)) (isFull p st i)) x)
+          (sym (cond-true (isData p s d) (ltb (dataPosition p s d) (filledIn st i)) (isFull p st i) q)
+          ∙ and-right (not (isIn (landedIn st i) d)) (cond (isData p s d) (ltb (dataPosition p s d) (filledIn st i)) (isFull p st i)) x)
 
   awaits-it : awaits st (flies st) d i ≡ true
   awaits-it = and-both (flies st i) (not (isIn (landedIn st i) d)) fi (ap not not-landed)
@@ -278,7 +280,8 @@ module _ (p : Params) (r : Ranged p) (v : View) (sh : Shaped p v) (st : State) (
           as! e = unfold headerAt chunkAt zoneOn in e
 
           go : Dec (d ≡ 0) → headerAt v 0 z ≡ headerAt v1 0 z
-          go (yes e) = as! (subst (λ (x : ℕ). getD (zoneAt v x z .blocks) 0 noChunk .block ≡ getD (zoneAt v1 x z .blocks) 0 noChunk .block) e (ap (λ (c : Chunk). c .block) (sym (block-old 0 pointer-some))))
+          go (yes e) =
+              as! (subst (λ (x : ℕ). getD (zoneAt v x z .blocks) 0 noChunk .block ≡ getD (zoneAt v1 x z .blocks) 0 noChunk .block) e (ap (λ (c : Chunk). c .block) (sym (block-old 0 pointer-some))))
           go (no n) = as! (ap (λ (q : Zone). getD (q .blocks) 0 noChunk .block) (sym (chunk-other 0 z (omega (arith, r .drives-low)) hz (inl n))))
 
   -- ---- the open segment
@@ -449,7 +452,9 @@ module _ (p : Params) (r : Ranged p) (v : View) (sh : Shaped p v) (st : State) (
 
       counts! : (e : ℕ) → e < p .N → Dec (d ≡ e) → pointerAt v1 e z + tally (awaits st1 (flies st) e) slots ≡ suc (st1 .next)
       counts! e he (no n) =
-          ap₂ (λ (x y : ℕ). x + y) (pointer-else e he n) (tally-cong (awaits st1 (flies st) e) (awaits st (flies st) e) slots (λ j m. ap (λ (x : Bool). flies st j && not x) (landed-else j e he (inr n))))
+          ap₂ (λ (x y : ℕ). x + y) (pointer-else e he n)
+          (tally-cong (awaits st1 (flies st) e) (awaits st (flies st) e) slots
+          (λ j m. ap (λ (x : Bool). flies st j && not x) (landed-else j e he (inr n))))
           ∙ op .count e he ∙ ap suc (sym next1)
       counts! e he (yes a) = subst (λ (x : ℕ). pointerAt v1 x z + tally (awaits st1 (flies st) x) slots ≡ suc (st1 .next)) a
           (let t : tally (awaits st (flies st) d) slots ≡ suc (tally (awaits st1 (flies st) d) slots) =
@@ -614,7 +619,10 @@ module _ (p : Params) (r : Ranged p) (v : View) (sh : Shaped p v) (st : State) (
             stripe-low = k .stripe-low;
             it-counts = counts-up (k .stripe) q;
             position-low = k .position-low;
-            it-is = k .it-is ∙ ap (λ (x : ℕ). candOf p 0 (segmentOf p v 0 x) (k .stripe) dd) (sym e) ∙ cand-eq (k .stripe) dd (keeps (k .stripe) dd hdd (counts-in p 0 seg0 (k .stripe) dd q hdd (isIn-empty dd)));
+            it-is =
+                k .it-is
+                ∙ ap (λ (x : ℕ). candOf p 0 (segmentOf p v 0 x) (k .stripe) dd) (sym e)
+                ∙ cand-eq (k .stripe) dd (keeps (k .stripe) dd hdd (counts-in p 0 seg0 (k .stripe) dd q hdd (isIn-empty dd)));
           }
 
   pub cand-down : (c : Cand) (k : CandAt p v1 0 c) → ((k .of ≡ z) × (k .stripe ≡ s)) ⊎ CandAt p v 0 c
@@ -644,7 +652,10 @@ module _ (p : Params) (r : Ranged p) (v : View) (sh : Shaped p v) (st : State) (
                 stripe-low = k .stripe-low;
                 it-counts = q;
                 position-low = k .position-low;
-                it-is = k .it-is ∙ ap (λ (y : ℕ). candOf p 0 (segmentOf p v1 0 y) (k .stripe) dd) (sym e) ∙ sym (cand-eq (k .stripe) dd (keeps (k .stripe) dd hdd (counts-in p 0 seg0 (k .stripe) dd q hdd (isIn-empty dd))));
+                it-is =
+                    k .it-is
+                    ∙ ap (λ (y : ℕ). candOf p 0 (segmentOf p v1 0 y) (k .stripe) dd) (sym e)
+                    ∙ sym (cand-eq (k .stripe) dd (keeps (k .stripe) dd hdd (counts-in p 0 seg0 (k .stripe) dd q hdd (isIn-empty dd))));
               })
 
   -- ---- complete or not
@@ -688,7 +699,9 @@ module _ (p : Params) (r : Ranged p) (v : View) (sh : Shaped p v) (st : State) (
       let l1 : x < dataStored p (zoneAt v1 e z) = stored! v1 e x (short-after e he) (l .lies) in
       let w : recordIn p (sealedIn p v1 0 z) (zoneAt v1 e z) x .stripe ≡ s = ap (λ (m : Rec). m .stripe) (by-spare v1 e x open-after) ∙ l .of-stripe ∙ stripe1 i in
       let c = has-chunk p v1 0 z e s x he (isIn-empty e) l1 w in
-      let eo : offsetOn seg1 e s ≡ x = offset-is p v1 0 z e s x he (isIn-empty e) l1 w (λ y m a. l .not-before y m (ap (λ (n : Rec). n .stripe) (sym (by-spare v1 e y open-after)) ∙ a ∙ sym (stripe1 i))) in
+      let eo : offsetOn seg1 e s ≡ x =
+      offset-is p v1 0 z e s x he (isIn-empty e) l1 w
+      (λ y m a. l .not-before y m (ap (λ (n : Rec). n .stripe) (sym (by-spare v1 e y open-after)) ∙ a ∙ sym (stripe1 i))) in
       (c, (eo, chunk-at p v1 0 z e s he (isIn-empty e) c .its-record ∙ ap (recordIn p (sealedIn p v1 0 z) (zoneAt v1 e z)) eo ∙ by-spare v1 e x open-after))
 
   pub counts-now : completes p st i d ≡ true → counts p 0 seg1 s ≡ true
@@ -761,14 +774,19 @@ module _ (p : Params) (r : Ranged p) (v : View) (sh : Shaped p v) (st : State) (
     where
       down : (c : Cand) → CandAt p v1 0 c → In c before!
       down c k = ⊎-elim
-          (λ (x : (k .of ≡ z) × (k .stripe ≡ s)). absurd (uncounted-yet q (subst (λ (y : ℕ). counts p 0 seg1 y ≡ true) (x .1) (subst (λ (y : ℕ). counts p 0 (segmentOf p v1 0 y) (k .stripe) ≡ true) (x .0) (k .it-counts)))))
+          (λ (x : (k .of ≡ z) × (k .stripe ≡ s)). absurd
+          (uncounted-yet q (subst (λ (y : ℕ). counts p 0 seg1 y ≡ true) (x .1)
+          (subst (λ (y : ℕ). counts p 0 (segmentOf p v1 0 y) (k .stripe) ≡ true) (x .0) (k .it-counts)))))
           (λ x. at-cand p v 0 c x) (cand-down c k)
 
   abbrev mine : List Cand
   mine = landedCands p v1 z st1 i
 
   in-mine : (n : ℕ) → completes p st i d ≡ true → n < dataCount p → In (candOf p 0 seg1 s (dataDrive p s n)) mine
-  in-mine n q l = subst (λ (c : Cand). In c mine) (landed-cand q n l) (as! (in-map (landedCand p v1 z st1 i) (below (filledIn st1 i)) n (in-below (filledIn st1 i) n (subst (λ (x : ℕ). n < x) (sym (all-filled q)) l))))
+  in-mine n q l =
+      subst (λ (c : Cand). In c mine) (landed-cand q n l)
+      (as! (in-map (landedCand p v1 z st1 i) (below (filledIn st1 i)) n
+      (in-below (filledIn st1 i) n (subst (λ (x : ℕ). n < x) (sym (all-filled q)) l))))
     where
       as! : In (landedCand p v1 z st1 i n) (map (landedCand p v1 z st1 i) (below (filledIn st1 i))) → In (landedCand p v1 z st1 i n) mine
       as! m = unfold landedCands in m
@@ -781,7 +799,10 @@ module _ (p : Params) (r : Ranged p) (v : View) (sh : Shaped p v) (st : State) (
         of = z;
         stripe = s;
         position = n;
-        remains = used-remains p r v1 s0 chunk-tidy z hz (sym (grows-used p r v v1 z chunk-grows z hz) ∙ ap not (ne-eqb (pointerAt v 0 z) 0 (λ x. let y = op .has-header 0 (omega (arith, r .drives-low)) in let bad : ⊥ = omega arith in bad)));
+        remains =
+            used-remains p r v1 s0 chunk-tidy z hz (sym (grows-used p r v v1 z chunk-grows z hz)
+            ∙ ap not
+            (ne-eqb (pointerAt v 0 z) 0 (λ x. let y = op .has-header 0 (omega (arith, r .drives-low)) in let bad : ⊥ = omega arith in bad)));
         stripe-low = so .slots-ok i hi .stripe-ok;
         it-counts = counts-now q;
         position-low = l;
@@ -803,7 +824,10 @@ module _ (p : Params) (r : Ranged p) (v : View) (sh : Shaped p v) (st : State) (
       go (holds-some c b k t ea q) = some! q (spot-low p r v 0 c t) ∙ ap some (cand!) ∙ sym b
         where
           some! : placeAt tb a ≡ c .place → c .place < neverPlace → held p v1 tb a ≡ some (heldCand p v1 a (c .place))
-          some! q l = unfold held in (cond-false (eqb (placeAt tb a) neverPlace) none (some (heldCand p v1 a (placeAt tb a))) (ne-eqb (placeAt tb a) neverPlace (λ x. let bad : ⊥ = omega arith in bad)) ∙ ap (λ (x : ℕ). some (heldCand p v1 a x)) q)
+          some! q l =
+              unfold held in (cond-false (eqb (placeAt tb a) neverPlace) none (some (heldCand p v1 a (placeAt tb a)))
+              (ne-eqb (placeAt tb a) neverPlace (λ x. let bad : ⊥ = omega arith in bad))
+              ∙ ap (λ (x : ℕ). some (heldCand p v1 a x)) q)
 
           ed : placeDrive p (c .place) ≡ c .drive
           ed = spot-drive p r v 0 c t
@@ -820,11 +844,19 @@ module _ (p : Params) (r : Ranged p) (v : View) (sh : Shaped p v) (st : State) (
           stamp! : recordIn p (sealedIn p v1 0 (k .of)) (zoneAt v1 (c .drive) (k .of)) (c .offset) .stamp ≡ c .stamp
           stamp! = two (ℕ-discrete z (k .of)) ∙ sym (cand-record p r v s0 t0 c k .1)
             where
-              two : Dec (z ≡ k .of) → recordIn p (sealedIn p v1 0 (k .of)) (zoneAt v1 (c .drive) (k .of)) (c .offset) .stamp ≡ recordIn p (sealedIn p v 0 (k .of)) (zoneAt v (c .drive) (k .of)) (c .offset) .stamp
-              two (no n) = ap₂ (λ (x : Bool) (y : Zone). recordIn p x y (c .offset) .stamp) (sym (zones-sealed p r v v1 (k .of) (chunk-grows .others (k .of) hk n))) (sym (chunk-grows .others (k .of) hk n (c .drive) (t .drive-low)))
+              two :
+                  Dec (z ≡ k .of)
+                  → recordIn p (sealedIn p v1 0 (k .of)) (zoneAt v1 (c .drive) (k .of)) (c .offset) .stamp ≡ recordIn p (sealedIn p v 0 (k .of))
+                  (zoneAt v (c .drive) (k .of)) (c .offset) .stamp
+              two (no n) =
+                  ap₂ (λ (x : Bool) (y : Zone). recordIn p x y (c .offset) .stamp)
+                  (sym (zones-sealed p r v v1 (k .of) (chunk-grows .others (k .of) hk n)))
+                  (sym (chunk-grows .others (k .of) hk n (c .drive) (t .drive-low)))
               two (yes x) = subst (λ (y : ℕ). recordIn p (sealedIn p v1 0 y) (zoneAt v1 (c .drive) y) (c .offset) .stamp ≡ recordIn p (sealedIn p v 0 y) (zoneAt v (c .drive) y) (c .offset) .stamp) x
                   (ap (λ (m : Rec). m .stamp) (by-spare v1 (c .drive) (c .offset) open-after ∙ kept-spare (c .drive) (c .offset) (t .drive-low)
-                  (subst (λ (y : ℕ). 1 + c .offset < pointerAt v (c .drive) y) (sym (spot-zone p r v 0 c t) ∙ ez ∙ sym x) (t .visible (isIn-empty (c .drive)))) ∙ sym (by-spare v (c .drive) (c .offset) open-before)))
+                  (subst (λ (y : ℕ). 1 + c .offset < pointerAt v (c .drive) y) (sym (spot-zone p r v 0 c t) ∙ ez ∙ sym x)
+                  (t .visible (isIn-empty (c .drive))))
+                  ∙ sym (by-spare v (c .drive) (c .offset) open-before)))
 
           serial! : headerSerial (headerAt v1 0 (k .of)) ≡ c .serial
           serial! = ap headerSerial (sym (grows-header p r v v1 z chunk-grows (k .of) hk)) ∙ sym (its-serial p r v s0 t0 c k)
@@ -861,7 +893,10 @@ module _ (p : Params) (r : Ranged p) (v : View) (sh : Shaped p v) (st : State) (
   -- ---- the compact table
 
   used! : (u : View) → usedAt u z ≡ true → (s1 : ℕ) → Tidy p u s1 → (e : ℕ) → e < p .N → sealedIn p u 0 z ≡ false → rowAt p u 0 e z ≡ recordsIn p false (zoneAt u e z)
-  used! u q s1 ty e he ns = as! (cond-true (remains p u 0 z) (recsOn (segmentOf p u 0 z) e) [] (remains-used p r u s1 ty z hz ∙ q) ∙ recs-here p u 0 z e he (isIn-empty e) ∙ ap (λ (w : Bool). recordsIn p w (zoneAt u e z)) ns)
+  used! u q s1 ty e he ns =
+      as! (cond-true (remains p u 0 z) (recsOn (segmentOf p u 0 z) e) [] (remains-used p r u s1 ty z hz ∙ q)
+      ∙ recs-here p u 0 z e he (isIn-empty e)
+      ∙ ap (λ (w : Bool). recordsIn p w (zoneAt u e z)) ns)
     where
       as! : cond (remains p u 0 z) (recsOn (segmentOf p u 0 z) e) [] ≡ recordsIn p false (zoneAt u e z) → rowAt p u 0 e z ≡ recordsIn p false (zoneAt u e z)
       as! x = unfold rowAt in x
@@ -888,7 +923,8 @@ module _ (p : Params) (r : Ranged p) (v : View) (sh : Shaped p v) (st : State) (
 
   pub compact-lands : set (compactTable p (segments p v 0)) (compactAt p d z o) (compactEntry p s) ≡ compactTable p (segments p v1 0)
   compact-lands =
-      grid-ext p (λ e y. compactRow p (rowAt p v1 0 e y)) (compact-row-long p v1 0) (set cs (compactAt p d z o) (compactEntry p s)) (length-set cs (compactAt p d z o) (compactEntry p s) ∙ length-compact p v 0)
+      grid-ext p (λ e y. compactRow p (rowAt p v1 0 e y)) (compact-row-long p v1 0) (set cs (compactAt p d z o) (compactEntry p s))
+      (length-set cs (compactAt p d z o) (compactEntry p s) ∙ length-compact p v 0)
       (r .stripes-low) (let a = r .zones-low in omega arith) entry
       ∙ sym (compact-is p v1 0)
     where
@@ -915,7 +951,8 @@ module _ (p : Params) (r : Ranged p) (v : View) (sh : Shaped p v) (st : State) (
           else! n = getD-set-other cs (compactAt p d z o) (compactAt p e y x) (compactEntry p s) 0 n ∙ compact-at p v 0 e y x he hy hx
 
           go : Dec (z ≡ y) → Dec (d ≡ e) → Dec (x ≡ o) → getD (set cs (compactAt p d z o) (compactEntry p s)) (compactAt p e y x) 0 ≡ getD (compactRow p (rowAt p v1 0 e y)) x 0
-          go (no n) b c = else! (λ q. n (sym (cells e y x hy hx q .1 .0))) ∙ ap (λ (l : List Rec). getD (compactRow p l) x 0) (row-goes p r v v1 s0 s0 t0 chunk-tidy e y hy (chunk-grows .others y hy n))
+          go (no n) b c =
+              else! (λ q. n (sym (cells e y x hy hx q .1 .0))) ∙ ap (λ (l : List Rec). getD (compactRow p l) x 0) (row-goes p r v v1 s0 s0 t0 chunk-tidy e y hy (chunk-grows .others y hy n))
           go (yes a) (no n) c =
               else! (λ q. n (sym (cells e y x hy hx q .0)))
               ∙ subst (λ (m : ℕ). getD (compactRow p (rowAt p v 0 e m)) x 0 ≡ getD (compactRow p (rowAt p v1 0 e m)) x 0) a
@@ -924,7 +961,9 @@ module _ (p : Params) (r : Ranged p) (v : View) (sh : Shaped p v) (st : State) (
               ap (λ (m : ℕ). getD (set cs (compactAt p d z o) (compactEntry p s)) m 0) ((λ j. compactAt p (sym b j) (sym a j) (c j)))
               ∙ getD-set-same cs (compactAt p d z o) (compactEntry p s) 0 (subst (λ (m : ℕ). compactAt p d z o < m) (sym (length-compact p v 0)) (compact-within p d z o hd hz os))
               ∙ sym ((λ j. getD (compactRow p (rowAt p v1 0 (sym b j) (sym a j))) (c j) 0) ∙ ap (λ (l : List Rec). getD (compactRow p l) o 0) (row-after d hd)
-              ∙ entry-at v1 o (short-after d hd) (let q = chunk-pointer in let k = one-more in omega arith) ∙ ap (λ (m : Rec). compactEntry p (m .stripe)) (spare-new o one-more) ∙ ap (compactEntry p) read-stripe)
+              ∙ entry-at v1 o (short-after d hd) (let q = chunk-pointer in let k = one-more in omega arith)
+              ∙ ap (λ (m : Rec). compactEntry p (m .stripe)) (spare-new o one-more)
+              ∙ ap (compactEntry p) read-stripe)
           go (yes a) (yes b) (no n) =
               else! (λ q. n (cells e y x hy hx q .1 .1))
               ∙ (λ j. getD (compactRow p (rowAt p v 0 (sym b j) (sym a j))) x 0)
@@ -938,7 +977,9 @@ module _ (p : Params) (r : Ranged p) (v : View) (sh : Shaped p v) (st : State) (
                   ∙ sym (ap (λ (m : List Rec). getD (compactRow p m) x 0) (row-after d hd) ∙ entry-at v1 x (short-after d hd) (let q = chunk-pointer in omega arith))
               two (no l) =
                   ap (λ (m : List Rec). getD (compactRow p m) x 0) (row-before d hd) ∙ row-past p (recordsIn p false (zoneAt v d z)) x (let q = long! v (short-before d hd) in omega arith)
-                  ∙ sym (ap (λ (m : List Rec). getD (compactRow p m) x 0) (row-after d hd) ∙ row-past p (recordsIn p false (zoneAt v1 d z)) x (let q = long! v1 (short-after d hd) in let w = chunk-pointer in let k = one-more in omega arith))
+                  ∙ sym (ap (λ (m : List Rec). getD (compactRow p m) x 0) (row-after d hd)
+                  ∙ row-past p (recordsIn p false (zoneAt v1 d z)) x
+                  (let q = long! v1 (short-after d hd) in let w = chunk-pointer in let k = one-more in omega arith))
 
   -- ---- the state
 
@@ -982,7 +1023,9 @@ module _ (p : Params) (r : Ranged p) (v : View) (sh : Shaped p v) (st : State) (
 
           go : Dec (j ≡ cell i d) → getD (set (st .offsets) (cell i d) o) j 0 < p .S
           go (yes e) = subst (λ (x : ℕ). getD (set (st .offsets) (cell i d) o) x 0 < p .S) (sym e)
-              (subst (λ (x : ℕ). x < p .S) (sym (getD-set-same (st .offsets) (cell i d) o 0 (let c = cell-low i d hi d8 in let l = ls .offsets-long in omega arith))) (let a = pointer-data in let c = pointer-some in omega arith))
+              (subst (λ (x : ℕ). x < p .S)
+              (sym (getD-set-same (st .offsets) (cell i d) o 0 (let c = cell-low i d hi d8 in let l = ls .offsets-long in omega arith)))
+              (let a = pointer-data in let c = pointer-some in omega arith))
           go (no n) = subst (λ (x : ℕ). x < p .S) (sym (getD-set-other (st .offsets) (cell i d) j o 0 n)) (so .offsets-low j)
 
   opened-mark : st1 .opened ≡ suc z
@@ -1147,7 +1190,10 @@ module _ (p : Params) (r : Ranged p) (v : View) (sh : Shaped p v) (st : State) (
     has-header = chunk-open .has-header;
     count = λ e he. ap (λ (x : ℕ). pointerAt v1 e z + x) (awaits-freed q e he) ∙ chunk-open .count e he ∙ ap suc (next1 ∙ sym next2);
     below-next = λ e x he y. subst (λ (m : ℕ). spareAt p v1 e z x .stripe < m) (next1 ∙ sym next2) (chunk-open .below-next e x he y);
-    flight = λ j hj x. let n : j ≡ i → ⊥ = λ a. clash x (subst (λ (m : ℕ). flies st2 m ≡ false) (sym a) flies2-here) in flight-same p v1 st1 st2 z j (slot2 j n) (chunk-open .flight j hj (sym (flies2 j n) ∙ x));
+    flight =
+        λ j hj x. let n : j ≡ i
+        → ⊥ = λ a. clash x (subst (λ (m : ℕ). flies st2 m ≡ false) (sym a) flies2-here) in flight-same p v1 st1 st2 z j (slot2 j n)
+        (chunk-open .flight j hj (sym (flies2 j n) ∙ x));
     once = λ j k hj hk x y e.
         let n : j ≡ i → ⊥ = λ a. clash x (subst (λ (m : ℕ). flies st2 m ≡ false) (sym a) flies2-here) in
         let n2 : k ≡ i → ⊥ = λ a. clash y (subst (λ (m : ℕ). flies st2 m ≡ false) (sym a) flies2-here) in
@@ -1187,7 +1233,9 @@ module _ (p : Params) (r : Ranged p) (v : View) (sh : Shaped p v) (st : State) (
   all-behind q nx l e he =
       let f = flights-fewer in
       let t : tally (flies st2) slots ≡ 0 = omega arith in
-      let a : tally (awaits st2 (flies st2) e) slots ≡ 0 = tally-none (awaits st2 (flies st2) e) slots (λ j m. and-false-left (flies st2 j) (not (isIn (landedIn st2 j) e)) (none-tally (flies st2) slots t j m)) in
+      let a : tally (awaits st2 (flies st2) e) slots ≡ 0 =
+      tally-none (awaits st2 (flies st2) e) slots
+      (λ j m. and-false-left (flies st2 j) (not (isIn (landedIn st2 j) e)) (none-tally (flies st2) slots t j m)) in
       let b = awaits-freed q e he in
       let c = chunk-open .count e he in
       let n = next1 in

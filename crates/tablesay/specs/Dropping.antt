@@ -48,7 +48,8 @@ module _ (p : Params) (r : Ranged p) (v : View) (sh : Shaped p v) (acc : Accepte
       let (g, i, f) = map-in (segmentOf p v 0) (remaining p v 0) x m in
       let eg : g ≡ z = sym (seg-is p v 0 g) ∙ ap (λ (y : Segment). y .seg) (sym f) ∙ eqb-true (x .seg) z e in
       subst (λ (y : ℕ). keeps! y ≡ true) eg (remaining-in p v 0 g i .1))
-      (λ q. in-any (λ (g : Segment). eqb (g .seg) z) (map (segmentOf p v 0) (remaining p v 0)) (segmentOf p v 0 z) (in-map (segmentOf p v 0) (remaining p v 0) z (in-remaining p v 0 z hz q)) (eq-eqb (segmentOf p v 0 z .seg) z (seg-is p v 0 z))))
+      (λ q. in-any (λ (g : Segment). eqb (g .seg) z) (map (segmentOf p v 0) (remaining p v 0)) (segmentOf p v 0 z)
+      (in-map (segmentOf p v 0) (remaining p v 0) z (in-remaining p v 0 z hz q)) (eq-eqb (segmentOf p v 0 z .seg) z (seg-is p v 0 z))))
     where
       as! : any (λ (g : Segment). eqb (g .seg) z) (map (segmentOf p v 0) (remaining p v 0)) ≡ keeps! z → any (λ (g : Segment). eqb (g .seg) z) gs ≡ keeps! z
       as! e = unfold segments in e
@@ -76,14 +77,21 @@ module _ (p : Params) (r : Ranged p) (v : View) (sh : Shaped p v) (acc : Accepte
 
   pub drop-same : (y : ℕ) → y < p .Z → keeps! y ≡ true → SameZones p v va y
   drop-same y hy q d hd =
-      sym (zone-after p v d y ds (sh .sized) hd hy ∙ ap (λ (l : List Store). storeAll zoneStore l (zoneAt v d y)) (drop-hits d y hd hy ∙ cond-false (not (keeps! y)) (reset d y ∷ []) [] (ap not q)) ∙ nothing)
+      sym (zone-after p v d y ds (sh .sized) hd hy
+      ∙ ap (λ (l : List Store). storeAll zoneStore l (zoneAt v d y))
+      (drop-hits d y hd hy ∙ cond-false (not (keeps! y)) (reset d y ∷ []) [] (ap not q))
+      ∙ nothing)
     where
       nothing : storeAll zoneStore [] (zoneAt v d y) ≡ zoneAt v d y
       nothing = unfold storeAll in refl
 
   pub drop-empty : (y : ℕ) → y < p .Z → keeps! y ≡ false → (d : ℕ) → d < p .N → pointerAt va d y ≡ 0
   drop-empty y hy q d hd = as! (ap (λ (x : Zone). x .pointer)
-      (zone-after p v d y ds (sh .sized) hd hy ∙ ap (λ (l : List Store). storeAll zoneStore l (zoneAt v d y)) (drop-hits d y hd hy ∙ cond-true (not (keeps! y)) (reset d y ∷ []) [] (ap not q)) ∙ once) ∙ reset-pointer (zoneAt v d y))
+      (zone-after p v d y ds (sh .sized) hd hy
+      ∙ ap (λ (l : List Store). storeAll zoneStore l (zoneAt v d y))
+      (drop-hits d y hd hy ∙ cond-true (not (keeps! y)) (reset d y ∷ []) [] (ap not q))
+      ∙ once)
+      ∙ reset-pointer (zoneAt v d y))
     where
       once : storeAll zoneStore (reset d y ∷ []) (zoneAt v d y) ≡ resetZone (zoneAt v d y)
       once = unfold storeAll zoneStore in refl
@@ -151,7 +159,10 @@ module _ (p : Params) (r : Ranged p) (v : View) (sh : Shaped p v) (acc : Accepte
       go (no n) = absurd (serials-differ p v 0 acc z y (in-rem z hz b) (in-rem y hy a) n (ser-is y ∙ e ∙ sym (ser-is z)))
 
   pub kept-known : (y : ℕ) → y < p .Z → keeps! y ≡ true → ser y ≤ greatestSerial gs
-  kept-known y hy q = as! (in-greatest (ser y) (map (λ (g : Segment). g .serial) gs) (subst (λ (n : ℕ). In n (map (λ (g : Segment). g .serial) gs)) (ser-is y) (in-map (λ (g : Segment). g .serial) gs (segmentOf p v 0 y) (seg! (in-map (segmentOf p v 0) (remaining p v 0) y (in-rem y hy q))))))
+  kept-known y hy q =
+      as! (in-greatest (ser y) (map (λ (g : Segment). g .serial) gs)
+      (subst (λ (n : ℕ). In n (map (λ (g : Segment). g .serial) gs)) (ser-is y)
+      (in-map (λ (g : Segment). g .serial) gs (segmentOf p v 0 y) (seg! (in-map (segmentOf p v 0) (remaining p v 0) y (in-rem y hy q))))))
     where
       seg! : In (segmentOf p v 0 y) (map (segmentOf p v 0) (remaining p v 0)) → In (segmentOf p v 0 y) gs
       seg! m = unfold segments in m
@@ -163,7 +174,10 @@ module _ (p : Params) (r : Ranged p) (v : View) (sh : Shaped p v) (acc : Accepte
   kept-no-copy y z hy hz a b e = go (ℕ-discrete z y)
     where
       left-in : In z (leftBy1 p v 0)
-      left-in = as! (in-keep (λ g. all (λ d. not (eqb (pointerAt v d g) 0)) (present p 0)) (below (p .Z)) z (in-below (p .Z) z hz) (in-all (λ d. not (eqb (pointerAt v d z) 0)) (present p 0) (λ d m. ap not (ne-eqb (pointerAt v d z) 0 (kept-pointer z d b (present-in p 0 d m .0))))))
+      left-in =
+          as! (in-keep (λ g. all (λ d. not (eqb (pointerAt v d g) 0)) (present p 0)) (below (p .Z)) z (in-below (p .Z) z hz)
+          (in-all (λ d. not (eqb (pointerAt v d z) 0)) (present p 0)
+          (λ d m. ap not (ne-eqb (pointerAt v d z) 0 (kept-pointer z d b (present-in p 0 d m .0))))))
         where
           as! : In z (keep (λ g. all (λ d. not (eqb (pointerAt v d g) 0)) (present p 0)) (below (p .Z))) → In z (leftBy1 p v 0)
           as! m = unfold leftBy1 segmentNumbers zoneOn in m

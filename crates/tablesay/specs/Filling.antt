@@ -30,7 +30,9 @@ use Rattle.tablesay.specs.Opened.{busy-same, add-open}
 use Rattle.tablesay.specs.Range.{data-count}
 use Rattle.tablesay.specs.Rebuilding.{parity-length}
 use Rattle.tablesay.specs.Run.{flies, Lists, Tidy, Healthy}
-use Rattle.tablesay.specs.Slots.{begin-number, begin-number-other, begin-filled, begin-filled-other, begin-landed, begin-landed-other, begin-writes, begin-writes-other, begin-next, add-filled, add-filled-other, add-number, add-landed, add-writes, add-writes-other, add-lists, free-is, some-flies}
+use Rattle.tablesay.specs.Slots.{begin-number, begin-number-other, begin-filled, begin-filled-other, begin-landed, begin-landed-other, begin-writes}
+use Rattle.tablesay.specs.Slots.{begin-writes-other, begin-next, add-filled, add-filled-other, add-number, add-landed, add-writes, add-writes-other}
+use Rattle.tablesay.specs.Slots.{add-lists, free-is, some-flies}
 use Rattle.tablesay.specs.Tests.{clash}
 
 -- ---- the in-flight buffer
@@ -110,7 +112,9 @@ module _ (p : Params) (r : Ranged p) (st : State) (ls : Lists st) (so : StateOk 
       go j s (yes e) = subst (λ (x : ℕ). SlotOk p (addEntry st i a t w) x) (sym e) (record {
         stripe-ok = subst (λ (x : ℕ). x < p .S) (sym (add-number st ls i hi a t w i)) (so .slots-ok i hi .stripe-ok);
         filled-ok = subst (λ (x : ℕ). x ≤ dataCount p) (sym (add-filled st ls i hi a t w)) f;
-        writes-ok = subst (λ (x : ℕ). x < 2 ^ dataCount p) (sym (add-writes st ls i hi a t w)) (or-lt (dataCount p) (getD (st .writes) i 0) (w * only (filledIn st i)) (so .slots-ok i hi .writes-ok) (mask-low (filledIn st i) w hw f));
+        writes-ok =
+            subst (λ (x : ℕ). x < 2 ^ dataCount p) (sym (add-writes st ls i hi a t w))
+            (or-lt (dataCount p) (getD (st .writes) i 0) (w * only (filledIn st i)) (so .slots-ok i hi .writes-ok) (mask-low (filledIn st i) w hw f));
         landed-ok = subst (λ (x : ℕ). x < 2 ^ p .N) (sym (add-landed st ls i hi a t w i)) (so .slots-ok i hi .landed-ok);
       })
 
@@ -154,7 +158,15 @@ module _ (p : Params) (r : Ranged p) (st : State) (ls : Lists st) (so : StateOk 
 -- ---- what holds is kept
 
 -- a position of a stripe in flight is filled
-pub fill-healthy : (p : Params) (r : Ranged p) (v : View) (st : State) (i a t w : ℕ) → Healthy p v st → StateOk p st → i < 8 → flies st i ≡ true → filledIn st i < dataCount p → a < 256 ^ 8 → t < 256 ^ 8
+pub fill-healthy :
+    (p : Params) (r : Ranged p) (v : View) (st : State) (i a t w : ℕ)
+    → Healthy p v st
+    → StateOk p st
+    → i < 8
+    → flies st i ≡ true
+    → filledIn st i < dataCount p
+    → a < 256 ^ 8
+    → t < 256 ^ 8
     → Healthy p v (addEntry st i a t w)
 fill-healthy p r v st i a t w h so hi fi f ha ht = record {
   tidy = subst (λ (x : ℕ). Tidy p v x) (sym serial-same) (h .tidy);

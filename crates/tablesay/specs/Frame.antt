@@ -11,7 +11,8 @@ use Rattle.defs.specs.Faults.{pointerFaults, sameChunk, headerFault, serialFaul
 use Rattle.defs.specs.Layout.{headerBlock, headerSerial, headerCopied}
 use Rattle.defs.specs.Lists.{below, all, any, keep, flat, isIn}
 use Rattle.defs.specs.Params.{capacity, drivesOf, present}
-use Rattle.defs.specs.Segments.{lowDrive, headerAt, leftBy1, isCopy, remaining, Segment, recordsIn, segmentOf, segments, recsOn, offsetOn, hasChunk, counts, counted, storedRec, recOf, offsetOf, candOf, segmentCands, candidates, compactRow, rowOf, compactTable, unsealed}
+use Rattle.defs.specs.Segments.{lowDrive, headerAt, leftBy1, isCopy, remaining, Segment, recordsIn, segmentOf, segments, recsOn, offsetOn, hasChunk, counts}
+use Rattle.defs.specs.Segments.{counted, storedRec, recOf, offsetOf, candOf, segmentCands, candidates, compactRow, rowOf, compactTable, unsealed}
 use Rattle.laws.specs.Ranges.{Test, test, map-map, getD-map-below}
 use Rattle.laws.specs.Ranges.Test.{yes!, no! }
 use Rattle.tablesay.specs.Accept.{Accepted, segment-ok}
@@ -97,7 +98,8 @@ module _ (p : Params) (gone : ℕ) (v u : View) (low : In (lowDrive p gone) (pre
   pub same-remaining : remaining p v gone ≡ remaining p u gone
   unfolding remaining
   same-remaining =
-      keep-cong (λ g. not (isCopy v (lowDrive p gone) (leftBy1 p v gone) g)) (λ g. not (isCopy u (lowDrive p gone) (leftBy1 p v gone) g)) (leftBy1 p v gone) (λ g m. ap not (same-copy g (left-low g m)))
+      keep-cong (λ g. not (isCopy v (lowDrive p gone) (leftBy1 p v gone) g)) (λ g. not (isCopy u (lowDrive p gone) (leftBy1 p v gone) g))
+      (leftBy1 p v gone) (λ g m. ap not (same-copy g (left-low g m)))
       ∙ ap (λ (x : List ℕ). keep (λ g. not (isCopy u (lowDrive p gone) x g)) x) same-left
 
   pub same-sealed : (g : ℕ) → g < p .Z → sealedIn p v gone g ≡ sealedIn p u gone g
@@ -151,9 +153,14 @@ module _ (p : Params) (gone : ℕ) (v u : View) (low : In (lowDrive p gone) (pre
   same-header-fault : (g : ℕ) → g < p .Z → headerFault p gone (segmentOf p v gone g) ≡ headerFault p gone (segmentOf p u gone g)
   unfolding headerFault core
   same-header-fault g h =
-      any-cong (λ d. not (sameChunk (getD (getD (segmentOf p v gone g .zonesBy) d noZone .blocks) 0 noChunk) (headerBlock p d (zoneOn (segmentOf p v gone g .seg) d) (segmentOf p v gone g .serial) (segmentOf p v gone g .copied)) zeroSpare))
-      (λ d. not (sameChunk (getD (getD (segmentOf p u gone g .zonesBy) d noZone .blocks) 0 noChunk) (headerBlock p d (zoneOn (segmentOf p u gone g .seg) d) (segmentOf p u gone g .serial) (segmentOf p u gone g .copied)) zeroSpare)) (present p gone)
-      (λ d m. ap₂ (λ (x : Zone) (y : Segment). not (sameChunk (getD (x .blocks) 0 noChunk) (headerBlock p d (zoneOn (y .seg) d) (y .serial) (y .copied)) zeroSpare)) (same-zone-by g d h m) (same-core g h))
+      any-cong (λ d. not (sameChunk (getD (getD (segmentOf p v gone g .zonesBy) d noZone .blocks) 0 noChunk)
+      (headerBlock p d (zoneOn (segmentOf p v gone g .seg) d) (segmentOf p v gone g .serial) (segmentOf p v gone g .copied)) zeroSpare))
+      (λ d. not (sameChunk (getD (getD (segmentOf p u gone g .zonesBy) d noZone .blocks) 0 noChunk)
+      (headerBlock p d (zoneOn (segmentOf p u gone g .seg) d) (segmentOf p u gone g .serial) (segmentOf p u gone g .copied)) zeroSpare))
+      (present p gone)
+      (λ d m. ap₂ (λ (x : Zone) (y : Segment). not
+      (sameChunk (getD (x .blocks) 0 noChunk) (headerBlock p d (zoneOn (y .seg) d) (y .serial) (y .copied)) zeroSpare)) (same-zone-by g d h m)
+      (same-core g h))
 
   same-footer-fault : (g : ℕ) → g < p .Z → footerFault p gone (segmentOf p v gone g) ≡ footerFault p gone (segmentOf p u gone g)
   unfolding footerFault
@@ -175,7 +182,10 @@ module _ (p : Params) (gone : ℕ) (v u : View) (low : In (lowDrive p gone) (pre
       core-clash (segments p v gone) x ∙ ap₂ clashes same-cores e ∙ sym (core-clash (segments p u gone) y) in
       λ i. same-header-fault g h i || e2 i || e3 i || e4 i || same-footer-fault g h i || e6 i
 
-  faults-are : (w : View) → segmentFaults p gone (segments p w gone) ≡ map (λ g. segmentOf p w gone g .seg) (keep (λ g. segmentFault p gone (segments p w gone) (segmentOf p w gone g)) (remaining p w gone))
+  faults-are :
+      (w : View)
+      → segmentFaults p gone (segments p w gone) ≡ map (λ g. segmentOf p w gone g .seg)
+      (keep (λ g. segmentFault p gone (segments p w gone) (segmentOf p w gone g)) (remaining p w gone))
   unfolding segmentFaults segments
   faults-are w =
       ap (map (λ (x : Segment). x .seg)) (keep-map (segmentFault p gone (map (segmentOf p w gone) (remaining p w gone))) (segmentOf p w gone) (remaining p w gone))
@@ -186,7 +196,8 @@ module _ (p : Params) (gone : ℕ) (v u : View) (low : In (lowDrive p gone) (pre
   same-accepted a = record {
     pointers-ok =
         sym (keep-cong (λ z. any (λ d. ltb (capacity p) (pointerAt v d z)) (present p gone)) (λ z. any (λ d. ltb (capacity p) (pointerAt u d z)) (present p gone)) (below (p .Z))
-        (λ z m. any-cong (λ d. ltb (capacity p) (pointerAt v d z)) (λ d. ltb (capacity p) (pointerAt u d z)) (present p gone) (λ d n. ap (λ (x : ℕ). ltb (capacity p) x) (same-pointer d z n (below-in (p .Z) z m)))))
+        (λ z m. any-cong (λ d. ltb (capacity p) (pointerAt v d z)) (λ d. ltb (capacity p) (pointerAt u d z)) (present p gone)
+        (λ d n. ap (λ (x : ℕ). ltb (capacity p) x) (same-pointer d z n (below-in (p .Z) z m)))))
         ∙ a .pointers-ok;
     segments-ok =
         faults-are u

@@ -130,7 +130,8 @@ module _ (p : Params) (k : Disk) (m : Memory) (u : Run p k m) (we : Well p k m) 
         let q = sending p v st (m .inflight) a t 1 b in
         subst (λ (y : Disk). Run p y (writePlan p v m a b .memory)) (sym (ex ∙ ap (λ (l : List Store). storeAll (storeDisk p) l k) stores-is))
         (subst (λ (y : Memory). Run p (storeAll (storeDisk p) (q .stores) k) y) (sym memory-is)
-        (sent-run (q .state) (setStamp (q .state) t) (q .stores) (q .inflight) s (missing-same (q .state) t) (stamp-ok p (q .state) t (s .state-after)) (stamp-healthy p (storeAll storeView (q .stores) v) (q .state) t ht (s .healthy-after))))
+        (sent-run (q .state) (setStamp (q .state) t) (q .stores) (q .inflight) s (missing-same (q .state) t)
+        (stamp-ok p (q .state) t (s .state-after)) (stamp-healthy p (storeAll storeView (q .stores) v) (q .state) t ht (s .healthy-after))))
       where
         stamp-left : noStamp st ≡ false → eqb (st .stamp .0) lastCount ≡ false
         stamp-left q = unfold noStamp in q
@@ -148,7 +149,10 @@ module _ (p : Params) (k : Disk) (m : Memory) (u : Run p k m) (we : Well p k m) 
         stores-is : writePlan p v m a b .stores ≡ sending p v st (m .inflight) a (suc (st .stamp .0)) 1 b .stores
         stores-is = unfold writePlan in refl
 
-        memory-is : writePlan p v m a b .memory ≡ mkMemory (setStamp (sending p v st (m .inflight) a (suc (st .stamp .0)) 1 b .state) (suc (st .stamp .0))) (m .addresses) (m .compact) (sending p v st (m .inflight) a (suc (st .stamp .0)) 1 b .inflight)
+        memory-is :
+            writePlan p v m a b .memory
+            ≡ mkMemory (setStamp (sending p v st (m .inflight) a (suc (st .stamp .0)) 1 b .state) (suc (st .stamp .0))) (m .addresses) (m .compact)
+            (sending p v st (m .inflight) a (suc (st .stamp .0)) 1 b .inflight)
         memory-is = unfold writePlan in refl
 
         missing-same : (s : State) (t : ℕ) → setStamp s t .missing ≡ s .missing
@@ -161,7 +165,9 @@ module _ (p : Params) (k : Disk) (m : Memory) (u : Run p k m) (we : Well p k m) 
         mild-sent : isRefusedAs 9 (writePlan p v m a b .answer) ≡ false
         mild-sent = unfold writePlan isRefusedAs isRefused kind in refl
 
-        go : Ended p k m checks (writePlan p v m a b) (outcome p (storeDisk p) n k m b (decided (firstRefusal checks) (writePlan p v m a b))) → Kept p (outcome p (storeDisk p) n k m b (decided (firstRefusal checks) (writePlan p v m a b)))
+        go :
+            Ended p k m checks (writePlan p v m a b) (outcome p (storeDisk p) n k m b (decided (firstRefusal checks) (writePlan p v m a b)))
+            → Kept p (outcome p (storeDisk p) n k m b (decided (firstRefusal checks) (writePlan p v m a b)))
         go (ended-refused x e f g h) = refused-kept p k m _ x u
             (clear checks (refl, λ c1. (refl, λ c2. (refl, λ c3. (refl, λ c4. (refl, λ c6. (refl, λ c7. (refl, λ c8. (state-clear p st (u .base .state-ok), tt)))))))) x e) f g h
         go (ended-done c f g h) = record {
@@ -220,12 +226,16 @@ module _ (p : Params) (k : Disk) (m : Memory) (u : Run p k m) (we : Well p k m) 
         (subst (λ (y : Memory). Run p (storeAll (storeDisk p) [] k) y) (sym memory-is)
         (well-run p k [] (mkMemory (q .state) (m .addresses) (m .compact) (q .inflight)) (u .base .ranged) wh (u .base .shaped) (λ d z hd hz. none-room d z) (λ s m. absurd m)
         (o .pad-missing ∙ we .none-missing) (o .pad-state) (subst (λ (y : View). Healthy p y (q .state)) (sym nothing) (o .pad-healthy))
-        (address-table ∙ ap (λ (y : View). addressTable p (candidates p 0 (segments p y 0))) (sym nothing)) (compact-table ∙ ap (λ (y : View). compactTable p (segments p y 0)) (sym nothing)) (o .pad-long)))
+        (address-table ∙ ap (λ (y : View). addressTable p (candidates p 0 (segments p y 0))) (sym nothing))
+        (compact-table ∙ ap (λ (y : View). compactTable p (segments p y 0)) (sym nothing)) (o .pad-long)))
       where
         stores-is : closePlan p m .stores ≡ []
         stores-is = unfold closePlan in refl
 
-        memory-is : closePlan p m .memory ≡ mkMemory (padded p (fillingSlot p st) (dataCount p - filledIn st (fillingSlot p st)) st (m .inflight) .state) (m .addresses) (m .compact) (padded p (fillingSlot p st) (dataCount p - filledIn st (fillingSlot p st)) st (m .inflight) .inflight)
+        memory-is :
+            closePlan p m .memory
+            ≡ mkMemory (padded p (fillingSlot p st) (dataCount p - filledIn st (fillingSlot p st)) st (m .inflight) .state) (m .addresses)
+            (m .compact) (padded p (fillingSlot p st) (dataCount p - filledIn st (fillingSlot p st)) st (m .inflight) .inflight)
         memory-is = unfold closePlan in refl
 
         nothing : storeAll storeView [] v ≡ v
@@ -241,7 +251,9 @@ module _ (p : Params) (k : Disk) (m : Memory) (u : Run p k m) (we : Well p k m) 
         mild-closed : isRefusedAs 9 (closePlan p m .answer) ≡ false
         mild-closed = unfold closePlan isRefusedAs isRefused kind in refl
 
-        go : Ended p k m closeList (closePlan p m) (outcome p (storeDisk p) n k m [] (decided (firstRefusal closeList) (closePlan p m))) → Kept p (outcome p (storeDisk p) n k m [] (decided (firstRefusal closeList) (closePlan p m)))
+        go :
+            Ended p k m closeList (closePlan p m) (outcome p (storeDisk p) n k m [] (decided (firstRefusal closeList) (closePlan p m)))
+            → Kept p (outcome p (storeDisk p) n k m [] (decided (firstRefusal closeList) (closePlan p m)))
         go (ended-refused x e f g h) = refused-kept p k m _ x u (clear closeList (refl, λ c1. (refl, λ c2. (refl, λ c3. (refl, λ c5. (close-faults, tt))))) x e) f g h
         go (ended-done c f g h) = record {
           never-ninth = ap (isRefusedAs 9) f ∙ mild-closed;

@@ -13,7 +13,8 @@ use Rattle.defs.specs.Drives.{noZone, View, zoneAt, pointerAt, zoneOn, sealedIn
 use Rattle.defs.specs.Layout.{headerSerial, headerCopied, Rec}
 use Rattle.defs.specs.Lists.{below, flat, isIn}
 use Rattle.defs.specs.Params.{capacity, drivesOf}
-use Rattle.defs.specs.Segments.{lowDrive, headerAt, remaining, Segment, recordsIn, segmentOf, segments, recsOn, offsetOn, hasChunk, counts, counted, storedRec, recOf, offsetOf, candOf, segmentCands, candidates, compactRow, rowOf, compactTable}
+use Rattle.defs.specs.Segments.{lowDrive, headerAt, remaining, Segment, recordsIn, segmentOf, segments, recsOn, offsetOn, hasChunk, counts, counted, storedRec}
+use Rattle.defs.specs.Segments.{recOf, offsetOf, candOf, segmentCands, candidates, compactRow, rowOf, compactTable}
 use Rattle.laws.specs.Geometry.{Ranged}
 use Rattle.laws.specs.Ranges.{map-map, getD-map-below}
 use Rattle.tablesay.specs.Members.{keep-cong, map-cong, flat-cong, flat-map, below-in}
@@ -61,7 +62,8 @@ module _ (p : Params) (r : Ranged p) (v u : View) (z : ℕ) (w : Grows p v u z) 
     where
       go : Dec (z ≡ y) → usedAt v y ≡ usedAt u y
       go (yes e) = subst (λ (x : ℕ). usedAt v x ≡ usedAt u x) e
-          (ap not (ne-eqb (pointerAt v 0 z) 0 (λ q. let x = w .used-before 0 h0 in let bad : ⊥ = omega arith in bad)) ∙ sym (ap not (ne-eqb (pointerAt u 0 z) 0 (λ q. let x = w .used-now 0 h0 in let bad : ⊥ = omega arith in bad))))
+          (ap not (ne-eqb (pointerAt v 0 z) 0 (λ q. let x = w .used-before 0 h0 in let bad : ⊥ = omega arith in bad))
+          ∙ sym (ap not (ne-eqb (pointerAt u 0 z) 0 (λ q. let x = w .used-now 0 h0 in let bad : ⊥ = omega arith in bad))))
       go (no n) = zones-used p r v u y (w .others y hy n)
 
   pub grows-header : (y : ℕ) → y < p .Z → headerAt v 0 y ≡ headerAt u 0 y
@@ -89,13 +91,16 @@ module _ (p : Params) (r : Ranged p) (v u : View) (z : ℕ) (w : Grows p v u z) 
       some-pointer n h = ne-eqb n 0 (λ e. let bad : ⊥ = omega arith in bad)
 
       tog : (d y : ℕ) → d < p .N → y < p .Z → Dec (z ≡ y) → eqb (pointerAt u d y) 0 ≡ eqb (pointerAt u 0 y) 0
-      tog d y hd hy (yes e) = subst (λ (x : ℕ). eqb (pointerAt u d x) 0 ≡ eqb (pointerAt u 0 x) 0) e (some-pointer (pointerAt u d z) (w .used-now d hd) ∙ sym (some-pointer (pointerAt u 0 z) (w .used-now 0 h0)))
-      tog d y hd hy (no n) = ap (λ (x : ℕ). eqb x 0) (sym (zones-pointer p r v u y (w .others y hy n) d hd)) ∙ t .together d y hd hy ∙ ap (λ (x : ℕ). eqb x 0) (zones-pointer p r v u y (w .others y hy n) 0 h0)
+      tog d y hd hy (yes e) =
+          subst (λ (x : ℕ). eqb (pointerAt u d x) 0 ≡ eqb (pointerAt u 0 x) 0) e (some-pointer (pointerAt u d z) (w .used-now d hd) ∙ sym (some-pointer (pointerAt u 0 z) (w .used-now 0 h0)))
+      tog d y hd hy (no n) =
+          ap (λ (x : ℕ). eqb x 0) (sym (zones-pointer p r v u y (w .others y hy n) d hd)) ∙ t .together d y hd hy ∙ ap (λ (x : ℕ). eqb x 0) (zones-pointer p r v u y (w .others y hy n) 0 h0)
 
   pub grows-remaining : (s : ℕ) → Tidy p v s → remaining p v 0 ≡ remaining p u 0
   grows-remaining s t =
       remaining-is p v 0
-      ∙ keep-cong (remains p v 0) (remains p u 0) (below (p .Z)) (λ g m. let hg = below-in (p .Z) g m in remains-used p r v s t g hg ∙ grows-used g hg ∙ sym (remains-used p r u s (grows-tidy s t) g hg))
+      ∙ keep-cong (remains p v 0) (remains p u 0) (below (p .Z))
+      (λ g m. let hg = below-in (p .Z) g m in remains-used p r v s t g hg ∙ grows-used g hg ∙ sym (remains-used p r u s (grows-tidy s t) g hg))
       ∙ sym (remaining-is p u 0)
 
   -- where its records are the same too, the tables are
@@ -105,7 +110,9 @@ module _ (p : Params) (r : Ranged p) (v u : View) (z : ℕ) (w : Grows p v u z) 
         (λ d. cond (isIn 0 d) [] (recordsIn p (sealedIn p u 0 z) (getD (map (λ d. zoneAt u d z) (below (p .N))) d noZone))) (below (p .N))
         (λ d m. let hd = below-in (p .N) d m in
         ap (λ (l : List Rec). cond (isIn 0 d) [] l)
-        (ap (recordsIn p (sealedIn p v 0 z)) (getD-map-below (λ d. zoneAt v d z) (p .N) d noZone hd) ∙ same d hd ∙ ap (recordsIn p (sealedIn p u 0 z)) (sym (getD-map-below (λ d. zoneAt u d z) (p .N) d noZone hd)))))
+        (ap (recordsIn p (sealedIn p v 0 z)) (getD-map-below (λ d. zoneAt v d z) (p .N) d noZone hd)
+        ∙ same d hd
+        ∙ ap (recordsIn p (sealedIn p u 0 z)) (sym (getD-map-below (λ d. zoneAt u d z) (p .N) d noZone hd)))))
       where
         as! : map (λ d. cond (isIn 0 d) [] (recordsIn p (sealedIn p v 0 z) (getD (map (λ d. zoneAt v d z) (below (p .N))) d noZone))) (below (p .N))
             ≡ map (λ d. cond (isIn 0 d) [] (recordsIn p (sealedIn p u 0 z) (getD (map (λ d. zoneAt u d z) (below (p .N))) d noZone))) (below (p .N)) → segmentOf p v 0 z .recs ≡ segmentOf p u 0 z .recs

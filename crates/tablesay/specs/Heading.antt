@@ -12,7 +12,8 @@ use lib.ListN.{length, getD, set}
 use lib.Seq.{getD-set-same}
 use Rattle.defs.specs.declared.Params.{Params}
 use Rattle.defs.specs.declared.State.{State}
-use Rattle.defs.specs.Drives.{Chunk, mkChunk, noChunk, Zone, View, zoneAt, pointerAt, chunkAt, Store, putZone, storeView, storeAll, zoneOn, emptyOnAll, sealedIn, dataStored, recordIn, zeroSpare, headerStores}
+use Rattle.defs.specs.Drives.{Chunk, mkChunk, noChunk, Zone, View, zoneAt, pointerAt, chunkAt, Store, putZone, storeView, storeAll, zoneOn, emptyOnAll}
+use Rattle.defs.specs.Drives.{sealedIn, dataStored, recordIn, zeroSpare, headerStores}
 use Rattle.defs.specs.Drives.Store.{put}
 use Rattle.defs.specs.Layout.{headerBlock, headerSerial, headerCopied, Rec}
 use Rattle.defs.specs.Lists.Opt.{none}
@@ -163,7 +164,8 @@ module _ (p : Params) (r : Ranged p) (v : View) (sh : Shaped p v) (s g : ℕ) (t
       tog : (d z : ℕ) → d < p .N → z < p .Z → Dec (g ≡ z) → eqb (pointerAt after d z) 0 ≡ eqb (pointerAt after 0 z) 0
       tog d z hd hz (yes e) = subst (λ (x : ℕ). eqb (pointerAt after d x) 0 ≡ eqb (pointerAt after 0 x) 0) e
           (ap (λ (x : ℕ). eqb x 0) (header-pointer p r v sh g (suc s) 0 hg em d hd ∙ sym (header-pointer p r v sh g (suc s) 0 hg em 0 h0)))
-      tog d z hd hz (no n) = ap (λ (x : ℕ). eqb x 0) (sym (zones-pointer p r v after z (same-off z hz n) d hd)) ∙ t .together d z hd hz ∙ ap (λ (x : ℕ). eqb x 0) (zones-pointer p r v after z (same-off z hz n) 0 h0)
+      tog d z hd hz (no n) =
+          ap (λ (x : ℕ). eqb x 0) (sym (zones-pointer p r v after z (same-off z hz n) d hd)) ∙ t .together d z hd hz ∙ ap (λ (x : ℕ). eqb x 0) (zones-pointer p r v after z (same-off z hz n) 0 h0)
 
       less : (z : ℕ) → z < p .Z → (z ≡ g) ⊎ ((g ≡ z → ⊥) × (usedAt v z ≡ true)) → headerCopied (headerAt after 0 z) < headerSerial (headerAt after 0 z)
       less z hz (inl e) = subst (λ (x : ℕ). headerCopied (headerAt after 0 x) < headerSerial (headerAt after 0 x)) (sym e) (let a = head-serial in let b = head-copied in omega arith)
@@ -235,7 +237,8 @@ module _ (p : Params) (r : Ranged p) (v : View) (sh : Shaped p v) (s g : ℕ) (t
               two : (k .of ≡ g) ⊎ ((g ≡ k .of → ⊥) × (usedAt v (k .of) ≡ true)) → In c (candidates p 0 (segments p v 0))
               two (inl e) = absurd (
                   let l = chunk-of-it p r after (suc s) head-tidy c k .stored-there in
-                  let z : dataStored p (zoneAt after (c .drive) (k .of)) ≡ 0 = ap (λ (x : ℕ). dataStored p (zoneAt after (c .drive) x)) e ∙ no-data (c .drive) (its-drive-low p r after (suc s) head-tidy c k) in
+                  let z : dataStored p (zoneAt after (c .drive) (k .of)) ≡ 0 =
+                  ap (λ (x : ℕ). dataStored p (zoneAt after (c .drive) x)) e ∙ no-data (c .drive) (its-drive-low p r after (suc s) head-tidy c k) in
                   let bad : ⊥ = omega arith in bad)
               two (inr (n, w)) = at-cand p v 0 c (cand-goes p r after v s t c k (λ d hd. sym (same-off (k .of) hk n d hd)) w)
 
@@ -262,7 +265,11 @@ module _ (p : Params) (r : Ranged p) (v : View) (sh : Shaped p v) (s g : ℕ) (t
   head-addresses = addresses-cong p (candidates p 0 (segments p v 0)) (candidates p 0 (segments p after 0)) (λ a h. head-cands a)
 
   pub head-compact : compactTable p (segments p v 0) ≡ compactTable p (segments p after 0)
-  head-compact = compact-is p v 0 ∙ grid-cong p (λ d z. compactRow p (rowAt p v 0 d z)) (λ d z. compactRow p (rowAt p after 0 d z)) (λ d z hd hz. ap (compactRow p) (head-rows d z hd hz)) ∙ sym (compact-is p after 0)
+  head-compact =
+      compact-is p v 0
+      ∙ grid-cong p (λ d z. compactRow p (rowAt p v 0 d z)) (λ d z. compactRow p (rowAt p after 0 d z))
+      (λ d z hd hz. ap (compactRow p) (head-rows d z hd hz))
+      ∙ sym (compact-is p after 0)
 
   -- ---- what holds
 

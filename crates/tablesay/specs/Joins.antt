@@ -14,7 +14,8 @@ use Rattle.tablesay.specs.Zones.{Sized, zoneStore, hits, zone-after, Roo
 room-join : (p : Params) (xs ys : List Store) (q : Zone) → Room p (q .pointer) xs → Room p (storeAll zoneStore xs q .pointer) ys → Room p (q .pointer) (xs ++ ys)
 unfolding storeAll zoneStore
 room-join p [] ys q a b = b
-room-join p (put d z x s ∷ xs) ys q a b = (a .0, subst (λ (n : ℕ). Room p n (xs ++ ys)) (put-pointer x s q) (room-join p xs ys (putZone x s q) (subst (λ (n : ℕ). Room p n xs) (sym (put-pointer x s q)) (a .1)) b))
+room-join p (put d z x s ∷ xs) ys q a b =
+    (a .0, subst (λ (n : ℕ). Room p n (xs ++ ys)) (put-pointer x s q) (room-join p xs ys (putZone x s q) (subst (λ (n : ℕ). Room p n xs) (sym (put-pointer x s q)) (a .1)) b))
 room-join p (reset d z ∷ xs) ys q a b = subst (λ (n : ℕ). Room p n (xs ++ ys)) (reset-pointer q) (room-join p xs ys (resetZone q) (subst (λ (n : ℕ). Room p n xs) (sym (reset-pointer q)) a) b)
 
 pub roomy-append : (p : Params) (v : View) (ss ts : List Store) → Sized p v → Roomy p v ss → Roomy p (storeAll storeView ss v) ts → Roomy p v (ss ++ ts)

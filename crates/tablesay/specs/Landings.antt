@@ -19,10 +19,12 @@ use Rattle.defs.specs.Drives.{View, pointerAt, Store, storeView, Disk, storeDis
 use Rattle.defs.specs.Drives.Store.{put}
 use Rattle.defs.specs.Engine.Call.{land}
 use Rattle.defs.specs.Engine.{storeCount, lentBlock, verdict, lentOk, callOn, callDisk}
-use Rattle.defs.specs.Landing.{slotOf, ready, waiting, completes, seals, flightRec, misplaced, overfull, entryFaults, landFaults, landedCands, pointed, landChecks, sealStores, landStore, landPlan, landVerdict}
+use Rattle.defs.specs.Landing.{slotOf, ready, waiting, completes, seals, flightRec, misplaced, overfull, entryFaults, landFaults, landedCands, pointed}
+use Rattle.defs.specs.Landing.{landChecks, sealStores, landStore, landPlan, landVerdict}
 use Rattle.defs.specs.Layout.{group, compactEntry, Rec, recordBytes}
 use Rattle.defs.specs.Lists.{below, any, consIf, indexOf, flat}
-use Rattle.defs.specs.Memory.{Memory, mkMemory, slotCount, slots, stripeIn, filledIn, landedIn, entriesIn, openSegment, isFree, inFlight, stateFaults, setClosed, markLanded, freeStripe, placeAt, compactAt, slotBlock}
+use Rattle.defs.specs.Memory.{Memory, mkMemory, slotCount, slots, stripeIn, filledIn, landedIn, entriesIn, openSegment, isFree, inFlight, stateFaults}
+use Rattle.defs.specs.Memory.{setClosed, markLanded, freeStripe, placeAt, compactAt, slotBlock}
 use Rattle.defs.specs.Params.{between, inRange, footers, capacity, drivesOf}
 use Rattle.defs.specs.Read.{placeFaults}
 use Rattle.defs.specs.Segments.{segments, candidates, addressTable, compactTable}
@@ -32,7 +34,8 @@ use Rattle.laws.specs.Ranges.Test.{yes!, no! }
 use Rattle.laws.specs.Stores.{storeAll-append}
 use Rattle.views.specs.Views.{seen}
 use Rattle.tablesay.specs.Checks.{clear}
-use Rattle.tablesay.specs.Chunks.{pointer-some, pointer-data, offset-group, chunk-roomy, chunk-tidy, addresses-stay, addresses-land, compact-lands, sealed1, chunk-healthy, chunk-state, chunk-missing, freed-state, freed-healthy, all-behind, none-left}
+use Rattle.tablesay.specs.Chunks.{pointer-some, pointer-data, offset-group, chunk-roomy, chunk-tidy, addresses-stay, addresses-land, compact-lands}
+use Rattle.tablesay.specs.Chunks.{sealed1, chunk-healthy, chunk-state, chunk-missing, freed-state, freed-healthy, all-behind, none-left}
 use Rattle.tablesay.specs.Filling.{block-long! }
 use Rattle.tablesay.specs.Going.{well-run, address-table, compact-table, buffer-long}
 use Rattle.tablesay.specs.Growing.{Grows, grows-used, grows-tidy, grows-candidates, grows-compact}
@@ -186,7 +189,9 @@ module _ (p : Params) (k : Disk) (m : Memory) (u : Run p k m) (we : Well p k m) 
         as! q = unfold misplaced in ap not q
 
     never-overfull : overfull p v d z ≡ false
-    never-overfull = as! (in-none (λ e. ltb (capacity p) (pointerAt v e z + cond (eqb e d) 1 0 + footers p)) (below (p .N)) (λ e mm. le-ltb (capacity p) (pointerAt v e z + cond (eqb e d) 1 0 + footers p) (fits e (below-in (p .N) e mm) (ℕ-discrete e d))))
+    never-overfull =
+        as! (in-none (λ e. ltb (capacity p) (pointerAt v e z + cond (eqb e d) 1 0 + footers p)) (below (p .N))
+        (λ e mm. le-ltb (capacity p) (pointerAt v e z + cond (eqb e d) 1 0 + footers p) (fits e (below-in (p .N) e mm) (ℕ-discrete e d))))
       where
         as! : any (λ e. ltb (capacity p) (pointerAt v e z + cond (eqb e d) 1 0 + footers p)) (below (p .N)) ≡ false → overfull p v d z ≡ false
         as! q = unfold overfull drivesOf zoneOn in q
@@ -215,13 +220,21 @@ module _ (p : Params) (k : Disk) (m : Memory) (u : Run p k m) (we : Well p k m) 
         inner l = go (table-holds p rg v (m .addresses) at! (e .address) l)
           where
             go : Holds p v (m .addresses) (e .address) → cond (eqb (placeAt (m .addresses) (e .address)) neverPlace) [] (placeFaults p v 0 (placeAt (m .addresses) (e .address))) ≡ []
-            go (holds-none x y) = cond-true (eqb (placeAt (m .addresses) (e .address)) neverPlace) [] (placeFaults p v 0 (placeAt (m .addresses) (e .address))) (eq-eqb (placeAt (m .addresses) (e .address)) neverPlace y)
+            go (holds-none x y) =
+                cond-true (eqb (placeAt (m .addresses) (e .address)) neverPlace) [] (placeFaults p v 0 (placeAt (m .addresses) (e .address)))
+                (eq-eqb (placeAt (m .addresses) (e .address)) neverPlace y)
             go (holds-some c x kc t ea y) =
-                ap (λ (l : List ℕ). cond (eqb (placeAt (m .addresses) (e .address)) neverPlace) [] l) (ap (placeFaults p v 0) y ∙ spot-faults p rg v 0 c t) ∙ cond-same (eqb (placeAt (m .addresses) (e .address)) neverPlace) []
+                ap (λ (l : List ℕ). cond (eqb (placeAt (m .addresses) (e .address)) neverPlace) [] l)
+                (ap (placeFaults p v 0) y ∙ spot-faults p rg v 0 c t)
+                ∙ cond-same (eqb (placeAt (m .addresses) (e .address)) neverPlace) []
 
         as! : Test (ltb (e .address) (p .L)) → entryFaults p v (m .addresses) e ≡ []
-        as! (yes! x) = unfold entryFaults in (cond-true (ltb (e .address) (p .L)) (cond (eqb (placeAt (m .addresses) (e .address)) neverPlace) [] (placeFaults p v 0 (placeAt (m .addresses) (e .address)))) [] x ∙ inner (ltb-true (e .address) (p .L) x))
-        as! (no! x) = unfold entryFaults in cond-false (ltb (e .address) (p .L)) (cond (eqb (placeAt (m .addresses) (e .address)) neverPlace) [] (placeFaults p v 0 (placeAt (m .addresses) (e .address)))) [] x
+        as! (yes! x) =
+            unfold entryFaults in (cond-true (ltb (e .address) (p .L))
+            (cond (eqb (placeAt (m .addresses) (e .address)) neverPlace) [] (placeFaults p v 0 (placeAt (m .addresses) (e .address)))) [] x
+            ∙ inner (ltb-true (e .address) (p .L) x))
+        as! (no! x) =
+            unfold entryFaults in cond-false (ltb (e .address) (p .L)) (cond (eqb (placeAt (m .addresses) (e .address)) neverPlace) [] (placeFaults p v 0 (placeAt (m .addresses) (e .address)))) [] x
 
     faults-none : stateFaults p st ++ landFaults p v m d s ≡ []
     faults-none = nil-append (stateFaults p st) (landFaults p v m d s) (state-clear p st (u .base .state-ok)) as!
@@ -260,9 +273,11 @@ module _ (p : Params) (k : Disk) (m : Memory) (u : Run p k m) (we : Well p k m) 
     chunk-run : (su : State) (tb : List ℕ) → su .missing ≡ st .missing → StateOk p su → Healthy p v1 su → tb ≡ addressTable p (candidates p 0 (segments p v1 0))
         → Run p (storeAll (storeDisk p) (store ∷ []) k) (mkMemory su tb new-compact (m .inflight))
     chunk-run su tb e sk hk t =
-        well-run p k (store ∷ []) (mkMemory su tb new-compact (m .inflight)) (u .base .ranged) (whole-of p k m (u .base .lent)) sh (chunk-roomy p rg v sh st he so z oz d i hd hi fi rd b lb) store-within
+        well-run p k (store ∷ []) (mkMemory su tb new-compact (m .inflight)) (u .base .ranged) (whole-of p k m (u .base .lent)) sh
+        (chunk-roomy p rg v sh st he so z oz d i hd hi fi rd b lb) store-within
         (e ∙ we .none-missing) sk (subst (λ (x : View). Healthy p x su) (sym one-store) hk)
-        (t ∙ ap (λ (x : View). addressTable p (candidates p 0 (segments p x 0))) (sym one-store)) (compact-now ∙ ap (λ (x : View). compactTable p (segments p x 0)) (sym one-store)) (buffer-long p k m u we)
+        (t ∙ ap (λ (x : View). addressTable p (candidates p 0 (segments p x 0))) (sym one-store))
+        (compact-now ∙ ap (λ (x : View). compactTable p (segments p x 0)) (sym one-store)) (buffer-long p k m u we)
 
     -- the address table when the stripe completes
     abbrev new-addresses : List ℕ
@@ -276,7 +291,8 @@ module _ (p : Params) (k : Disk) (m : Memory) (u : Run p k m) (we : Well p k m) 
     lands-chunk q =
         subst (λ (x : List Store). Run p (storeAll (storeDisk p) x k) (plan .memory)) (sym (stores-is q))
         (subst (λ (x : Memory). Run p (storeAll (storeDisk p) (store ∷ []) k) x) (sym (memory-is q))
-        (chunk-run st1 (m .addresses) (chunk-missing p rg v sh st he so z oz d i hd hi fi rd b lb) (chunk-state p rg v sh st he so z oz d i hd hi fi rd b lb) (chunk-healthy p rg v sh st he so z oz d i hd hi fi rd b lb)
+        (chunk-run st1 (m .addresses) (chunk-missing p rg v sh st he so z oz d i hd hi fi rd b lb)
+        (chunk-state p rg v sh st he so z oz d i hd hi fi rd b lb) (chunk-healthy p rg v sh st he so z oz d i hd hi fi rd b lb)
         (at! ∙ addresses-stay p rg v sh st he so z oz d i hd hi fi rd b lb q)))
       where
         stores-is : completes p st i d ≡ false → plan .stores ≡ store ∷ []
@@ -312,7 +328,9 @@ module _ (p : Params) (k : Disk) (m : Memory) (u : Run p k m) (we : Well p k m) 
         not-last x y = clash (yes q x y) ns
           where
             yes : completes p st i d ≡ true → st .next ≡ p .S → length (inFlight st) ≡ 1 → seals p st i d ≡ true
-            yes q x y = unfold seals in and-both (completes p st i d && eqb (st .next) (p .S)) (eqb (length (inFlight st)) 1) (and-both (completes p st i d) (eqb (st .next) (p .S)) q (eq-eqb (st .next) (p .S) x)) (eq-eqb (length (inFlight st)) 1 y)
+            yes q x y =
+                unfold seals in and-both (completes p st i d && eqb (st .next) (p .S)) (eqb (length (inFlight st)) 1)
+                (and-both (completes p st i d) (eqb (st .next) (p .S)) q (eq-eqb (st .next) (p .S) x)) (eq-eqb (length (inFlight st)) 1 y)
 
     -- it completes the segment, which is sealed
     lands-segment : seals p st i d ≡ true → Run p (storeAll (storeDisk p) (plan .stores) k) (plan .memory)
@@ -342,7 +360,8 @@ module _ (p : Params) (k : Disk) (m : Memory) (u : Run p k m) (we : Well p k m) 
         subst (λ (x : List Store). Run p (storeAll (storeDisk p) x k) (plan .memory)) (sym (stores-is sl))
         (subst (λ (x : Memory). Run p (storeAll (storeDisk p) ((store ∷ []) ++ ss) k) x) (sym (memory-is q sl))
         (well-run p k ((store ∷ []) ++ ss) (mkMemory su new-addresses new-compact (m .inflight)) (u .base .ranged) (whole-of p k m (u .base .lent)) sh
-        (roomy-append p v (store ∷ []) ss (sh .sized) (chunk-roomy p rg v sh st he so z oz d i hd hi fi rd b lb) (subst (λ (x : View). Roomy p x ss) (sym one-store) (seal-roomy p rg v1 sh1 z hz behind)))
+        (roomy-append p v (store ∷ []) ss (sh .sized) (chunk-roomy p rg v sh st he so z oz d i hd hi fi rd b lb)
+        (subst (λ (x : View). Roomy p x ss) (sym one-store) (seal-roomy p rg v1 sh1 z hz behind)))
         (within-append p (store ∷ []) ss store-within (seal-within p rg v1 sh1 z hz behind))
         (closed-missing ∙ we .none-missing) (closed-ok (freed-state p rg v sh st he so z oz d i hd hi fi rd b lb)) (subst (λ (x : View). Healthy p x su) (sym ev) hk)
         (addresses-now q ∙ ap (addressTable p) (grows-candidates p rg v1 v2 z gr s0 t1 recs) ∙ ap (λ (x : View). addressTable p (candidates p 0 (segments p x 0))) (sym ev))
@@ -393,11 +412,22 @@ module _ (p : Params) (k : Disk) (m : Memory) (u : Run p k m) (we : Well p k m) 
           missing-one = sx .missing-one;
           opened-low = omega arith;
           next-low = omega arith;
-          slots-ok = λ j h. record { stripe-ok = sx .slots-ok j h .stripe-ok; filled-ok = sx .slots-ok j h .filled-ok; writes-ok = sx .slots-ok j h .writes-ok; landed-ok = sx .slots-ok j h .landed-ok };
+          slots-ok =
+              λ j h. record { stripe-ok = sx .slots-ok j h .stripe-ok; filled-ok = sx .slots-ok j h .filled-ok; writes-ok = sx .slots-ok j h .writes-ok; landed-ok = sx .slots-ok j h .landed-ok };
           offsets-low = sx .offsets-low;
         }
 
-        sealed! : (y : ℕ) → y < p .Z → (v2 : View) → usedAt v2 y ≡ true → Grows p v1 v2 z → Dec (z ≡ y) → ((e : ℕ) → e < p .N → pointerAt v2 e z ≡ capacity p) → (e : ℕ) → e < p .N → pointerAt v2 e y ≡ capacity p
+        sealed! :
+            (y : ℕ)
+            → y < p .Z
+            → (v2 : View)
+            → usedAt v2 y ≡ true
+            → Grows p v1 v2 z
+            → Dec (z ≡ y)
+            → ((e : ℕ) → e < p .N → pointerAt v2 e z ≡ capacity p)
+            → (e : ℕ)
+            → e < p .N
+            → pointerAt v2 e y ≡ capacity p
         sealed! y hy v2 x gr (yes a) f e h = subst (λ (n : ℕ). pointerAt v2 e n ≡ capacity p) a (f e h)
         sealed! y hy v2 x gr (no n) f e h = ⊎-elim (λ a. absurd (n (sym a))) (λ a. sym (zones-pointer p rg v1 v2 y (gr .others y hy n) e h) ∙ a e h)
             (sealed1 p rg v sh st he so z oz d i hd hi fi rd b lb y hy (grows-used p rg v1 v2 z gr y hy ∙ x))
@@ -429,7 +459,9 @@ module _ (p : Params) (k : Disk) (m : Memory) (u : Run p k m) (we : Well p k m) 
       waits! : not (waiting p st d s) ≡ false → Waits p v st d s
       waits! q = waits p v st d s he (not-false (waiting p st d s) q)
 
-      go : Ended p k m checks (landPlan p v m d s) (outcome p (storeDisk p) n k m [] (decided (firstRefusal checks) (landPlan p v m d s))) → Kept p (outcome p (storeDisk p) n k m [] (decided (firstRefusal checks) (landPlan p v m d s)))
+      go :
+          Ended p k m checks (landPlan p v m d s) (outcome p (storeDisk p) n k m [] (decided (firstRefusal checks) (landPlan p v m d s)))
+          → Kept p (outcome p (storeDisk p) n k m [] (decided (firstRefusal checks) (landPlan p v m d s)))
       go (ended-refused x e f g h) = refused-kept p k m _ x u (clear checks (refl, λ c1. (refl, λ c2. (refl, λ c3. (refl, λ c5. (faults-none (waits! c5), tt))))) x e) f g h
       go (ended-done c f g h) = record {
         never-ninth = ap (isRefusedAs 9) f ∙ mild-landed;

@@ -101,7 +101,9 @@ holds-place p r v tb e a c h q = go (table-holds p r v tb e a h)
 
 pub table-clear : (p : Params) (r : Ranged p) (v : View) (tb : List ℕ) → tb ≡ addressTable p (candidates p 0 (segments p v 0)) → tableFaults p tb ≡ []
 table-clear p r v tb e = clear! (in-none (λ q. leb (p .N) (placeDrive p q)) (placesIn p tb)
-    (λ q m. let t = places-pointed p r v tb e q m in lt-leb (p .N) (placeDrive p q) (subst (λ (x : ℕ). placeDrive p x < p .N) (sym (t .place!)) (subst (λ (x : ℕ). x < p .N) (sym (spot-drive p r v 0 (t .cand) (t .spot))) (t .spot .drive-low)))))
+    (λ q m. let t = places-pointed p r v tb e q m in lt-leb (p .N) (placeDrive p q)
+    (subst (λ (x : ℕ). placeDrive p x < p .N) (sym (t .place!))
+    (subst (λ (x : ℕ). x < p .N) (sym (spot-drive p r v 0 (t .cand) (t .spot))) (t .spot .drive-low)))))
   where
     clear! : any (λ q. leb (p .N) (placeDrive p q)) (placesIn p tb) ≡ false → tableFaults p tb ≡ []
     clear! q = unfold tableFaults consIf in rw q

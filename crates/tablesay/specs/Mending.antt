@@ -119,9 +119,13 @@ module _ (p : Params) (r : Ranged p) (v : View) (sh : Shaped p v) (acc : Accepte
     lack-is = as! (flat-cong (λ d. footerStores p d (x .seg) (getD (x .zonesBy) d noZone) (footersStored p (getD (x .zonesBy) d noZone)) (footers p - footersStored p (getD (x .zonesBy) d noZone)))
         (λ d. map (putAt d g) (lack d)) (below (p .N))
         (λ d m. let hd = below-in (p .N) d m in
-        ap₂ (λ (z : ℕ) (q : Zone). footerStores p d z q (footersStored p q) (footers p - footersStored p q)) (seg-is p v 0 g) (zone-by p v 0 g d hd) ∙ footer-puts p d g (zoneAt v d g) (have d) (footers p - have d)))
+        ap₂ (λ (z : ℕ) (q : Zone). footerStores p d z q (footersStored p q) (footers p - footersStored p q)) (seg-is p v 0 g) (zone-by p v 0 g d hd)
+        ∙ footer-puts p d g (zoneAt v d g) (have d) (footers p - have d)))
       where
-        as! : flat (λ d. footerStores p d (x .seg) (getD (x .zonesBy) d noZone) (footersStored p (getD (x .zonesBy) d noZone)) (footers p - footersStored p (getD (x .zonesBy) d noZone))) (below (p .N)) ≡ flat (λ d. map (putAt d g) (lack d)) (below (p .N))
+        as! :
+            flat (λ d. footerStores p d (x .seg) (getD (x .zonesBy) d noZone) (footersStored p (getD (x .zonesBy) d noZone))
+            (footers p - footersStored p (getD (x .zonesBy) d noZone))) (below (p .N))
+            ≡ flat (λ d. map (putAt d g) (lack d)) (below (p .N))
             → missingFooters p x ≡ flat (λ d. map (putAt d g) (lack d)) (drivesOf p)
         as! e = unfold missingFooters drivesOf zoneOn in e
 
@@ -151,12 +155,15 @@ module _ (p : Params) (r : Ranged p) (v : View) (sh : Shaped p v) (acc : Accepte
       pub b-zone : (d : ℕ) → d < p .N → zoneAt vb d g ≡ putAll d g (lack d) (zoneAt v d g)
       b-zone d hd =
           zone-after p va d g ts (shaped-a .sized) hd hg
-          ∙ ap₂ (λ (l : List Store) (q : Zone). storeAll zoneStore l q) (ap (hits d g) lack-is ∙ hits-each p d g g lack hd ∙ cond-true (eqb g g) (map (putAt d g) (lack d)) [] (eqb-self g)) (zone-a d hd)
+          ∙ ap₂ (λ (l : List Store) (q : Zone). storeAll zoneStore l q)
+          (ap (hits d g) lack-is ∙ hits-each p d g g lack hd ∙ cond-true (eqb g g) (map (putAt d g) (lack d)) [] (eqb-self g)) (zone-a d hd)
 
       pub b-other : (y : ℕ) → y < p .Z → (g ≡ y → ⊥) → SameZones p va vb y
       b-other y hy n d hd =
           sym (zone-after p va d y ts (shaped-a .sized) hd hy
-          ∙ ap (λ (l : List Store). storeAll zoneStore l (zoneAt va d y)) (ap (hits d y) lack-is ∙ hits-each p d y g lack hd ∙ cond-false (eqb g y) (map (putAt d g) (lack d)) [] (ne-eqb g y n)) ∙ nothing)
+          ∙ ap (λ (l : List Store). storeAll zoneStore l (zoneAt va d y))
+          (ap (hits d y) lack-is ∙ hits-each p d y g lack hd ∙ cond-false (eqb g y) (map (putAt d g) (lack d)) [] (ne-eqb g y n))
+          ∙ nothing)
         where
           nothing : storeAll zoneStore [] (zoneAt va d y) ≡ zoneAt va d y
           nothing = unfold storeAll in refl
@@ -172,14 +179,17 @@ module _ (p : Params) (r : Ranged p) (v : View) (sh : Shaped p v) (acc : Accepte
       b-roomy d y hd hy = subst (λ (l : List Store). Room p (pointerAt va d y) l) (sym (ap (hits d y) lack-is ∙ hits-each p d y g lack hd)) (go (ℕ-discrete g y))
         where
           fit : Room p (pointerAt va d g) (map (putAt d g) (lack d))
-          fit = as! (footer-rooms p r (zoneAt v d g) (sh .zone-ok d g hd hg) d g (have d) (footers p - have d) (let a = has-pointer d hd in let c = capacity-is p r in let e = have-few d in omega arith))
+          fit =
+              as! (footer-rooms p r (zoneAt v d g) (sh .zone-ok d g hd hg) d g (have d) (footers p - have d) (let a = has-pointer d hd in let c = capacity-is p r in let e = have-few d in omega arith))
             where
               as! : Room p (zoneAt v d g .pointer) (map (putAt d g) (lack d)) → Room p (pointerAt va d g) (map (putAt d g) (lack d))
               as! w = unfold pointerAt in subst (λ (q : Zone). Room p (q .pointer) (map (putAt d g) (lack d))) (sym (zone-a d hd)) w
 
           go : Dec (g ≡ y) → Room p (pointerAt va d y) (cond (eqb g y) (map (putAt d g) (lack d)) [])
           go (no n) = subst (λ (l : List Store). Room p (pointerAt va d y) l) (sym (cond-false (eqb g y) (map (putAt d g) (lack d)) [] (ne-eqb g y n))) tt
-          go (yes q) = subst (λ (l : List Store). Room p (pointerAt va d y) l) (sym (cond-true (eqb g y) (map (putAt d g) (lack d)) [] (eq-eqb g y q))) (subst (λ (n : ℕ). Room p (pointerAt va d n) (map (putAt d g) (lack d))) q fit)
+          go (yes q) =
+              subst (λ (l : List Store). Room p (pointerAt va d y) l) (sym (cond-true (eqb g y) (map (putAt d g) (lack d)) [] (eq-eqb g y q)))
+              (subst (λ (n : ℕ). Room p (pointerAt va d n) (map (putAt d g) (lack d))) q fit)
 
       b-grows : Grows p va vb g
       b-grows = record {
@@ -196,7 +206,8 @@ module _ (p : Params) (r : Ranged p) (v : View) (sh : Shaped p v) (acc : Accepte
 
           head : headerAt va 0 g ≡ headerAt vb 0 g
           head = as! (ap (λ (q : Zone). getD (q .blocks) 0 noChunk .block) (zone-a 0 h0)
-              ∙ sym (ap (λ (q : Zone). getD (q .blocks) 0 noChunk .block) (b-zone 0 h0) ∙ ap (λ (c : Chunk). c .block) (puts-old 0 g (lack 0) (zoneAt v 0 g) 0 (let a = has-pointer 0 h0 in omega arith))))
+              ∙ sym (ap (λ (q : Zone). getD (q .blocks) 0 noChunk .block) (b-zone 0 h0)
+              ∙ ap (λ (c : Chunk). c .block) (puts-old 0 g (lack 0) (zoneAt v 0 g) 0 (let a = has-pointer 0 h0 in omega arith))))
             where
               as! : getD (zoneAt va 0 g .blocks) 0 noChunk .block ≡ getD (zoneAt vb 0 g .blocks) 0 noChunk .block → headerAt va 0 g ≡ headerAt vb 0 g
               as! e = unfold headerAt chunkAt zoneOn in e

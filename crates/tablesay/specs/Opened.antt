@@ -23,7 +23,9 @@ use Rattle.laws.specs.Ranges.Test.{yes!, no! }
 use Rattle.tablesay.specs.Idle.{in-slots, slots-in}
 use Rattle.tablesay.specs.Members.{none-in, any-in}
 use Rattle.tablesay.specs.Run.{spareAt, awaits, LandedAt, Flight, Open, Lists}
-use Rattle.tablesay.specs.Slots.{cell-same, begin-number, begin-number-other, begin-filled, begin-filled-other, begin-landed, begin-landed-other, begin-entry-other, begin-offset, add-filled, add-filled-other, add-number, add-landed, add-offset, add-entry, add-entry-other}
+use Rattle.tablesay.specs.Slots.{cell-same, begin-number, begin-number-other, begin-filled, begin-filled-other, begin-landed, begin-landed-other}
+use Rattle.tablesay.specs.Slots.{begin-entry-other, begin-offset, add-filled, add-filled-other, add-number, add-landed, add-offset, add-entry}
+use Rattle.tablesay.specs.Slots.{add-entry-other}
 use Rattle.tablesay.specs.Tallies.{tally-cong, tally-none, tally-some, tally-more}
 use Rattle.tablesay.specs.Tests.{clash, and-false-left, or-true-right, eqb-self}
 
@@ -32,7 +34,11 @@ pub busy-same : (p : Params) (v : View) (st : State) (busy busy′ : ℕ → Boo
 busy-same p v st busy busy′ z e o = record {
   opened-zone = o .opened-zone;
   has-header = o .has-header;
-  count = λ d h. ap (λ (x : ℕ). pointerAt v d z + x) (sym (tally-cong (awaits st busy d) (awaits st busy′ d) slots (λ i m. ap (λ (b : Bool). b && not (isIn (landedIn st i) d)) (e i (slots-in i m))))) ∙ o .count d h;
+  count =
+      λ d h. ap (λ (x : ℕ). pointerAt v d z + x) (sym
+      (tally-cong (awaits st busy d) (awaits st busy′ d) slots
+      (λ i m. ap (λ (b : Bool). b && not (isIn (landedIn st i) d)) (e i (slots-in i m)))))
+      ∙ o .count d h;
   below-next = o .below-next;
   flight = λ i h q. o .flight i h (e i h ∙ q);
   once = λ i j hi hj a b s. o .once i j hi hj (e i hi ∙ a) (e j hj ∙ b) s;
@@ -129,7 +135,11 @@ module _ (p : Params) (r : Ranged p) (v : View) (st : State) (ls : Lists st) (bu
   add-open l = record {
     opened-zone = o .opened-zone;
     has-header = o .has-header;
-    count = λ d h. ap (λ (x : ℕ). pointerAt v d z + x) (tally-cong (awaits st′ busy d) (awaits st busy d) slots (λ j m. ap (λ (x : ℕ). busy j && not (isIn x d)) (add-landed st ls i hi a t w j))) ∙ o .count d h ∙ ap suc (sym next-is);
+    count =
+        λ d h. ap (λ (x : ℕ). pointerAt v d z + x) (tally-cong (awaits st′ busy d) (awaits st busy d) slots
+        (λ j m. ap (λ (x : ℕ). busy j && not (isIn x d)) (add-landed st ls i hi a t w j)))
+        ∙ o .count d h
+        ∙ ap suc (sym next-is);
     below-next = λ d e h q. subst (λ (x : ℕ). spareAt p v d z e .stripe < x) (sym next-is) (o .below-next d e h q);
     flight = λ j h q. add-flight j h q (l j h) (o .flight j h q);
     once = λ j k hj hk x y e. o .once j k hj hk x y (sym (add-number st ls i hi a t w j) ∙ e ∙ add-number st ls i hi a t w k);
@@ -239,7 +249,10 @@ module _ (p : Params) (r : Ranged p) (v : View) (st : State) (ls : Lists st) (bu
   begin-open = record {
     opened-zone = o .opened-zone;
     has-header = o .has-header;
-    count = λ d h. ap (λ (x : ℕ). pointerAt v d z + x) (tally-su d) ∙ (let c = o .count d h in let e : pointerAt v d z + suc (tally (awaits st busy d) slots) ≡ suc (suc (st .next)) = omega arith in e) ∙ ap suc (sym next-su);
+    count =
+        λ d h. ap (λ (x : ℕ). pointerAt v d z + x) (tally-su d)
+        ∙ (let c = o .count d h in let e : pointerAt v d z + suc (tally (awaits st busy d) slots) ≡ suc (suc (st .next)) = omega arith in e)
+        ∙ ap suc (sym next-su);
     below-next = λ d e h q. subst (λ (x : ℕ). spareAt p v d z e .stripe < x) (sym next-su) (let l = o .below-next d e h q in omega arith);
     flight = λ j h q. go j h q (ℕ-discrete j i);
     once = λ j k hj hk x y e. two j k hj hk x y e (ℕ-discrete j i) (ℕ-discrete k i);

@@ -42,7 +42,9 @@ ended p k m cs q n b = go (decide cs q)
 
     go : Decided cs q (decided (firstRefusal cs) q) → Ended p k m cs q (outcome p (storeDisk p) n k m b (decided (firstRefusal cs) q))
     go (stops a e w) = subst (λ (x : Verdict). Ended p k m cs q (outcome p (storeDisk p) n k m b x)) (sym w)
-        (ended-refused a e (ap (λ (r : After Disk). r .answer) (refused-same p (storeDisk p) n k m b a)) (ap (λ (r : After Disk). r .drives) (refused-same p (storeDisk p) n k m b a)) (ap (λ (r : After Disk). r .memory) (refused-same p (storeDisk p) n k m b a)))
+        (ended-refused a e (ap (λ (r : After Disk). r .answer) (refused-same p (storeDisk p) n k m b a))
+        (ap (λ (r : After Disk). r .drives) (refused-same p (storeDisk p) n k m b a))
+        (ap (λ (r : After Disk). r .memory) (refused-same p (storeDisk p) n k m b a)))
     go (goes c w) = subst (λ (x : Verdict). Ended p k m cs q (outcome p (storeDisk p) n k m b x)) (sym w) (limits (leb (length (q .stores)) n) refl c)
 
 -- ---- answers

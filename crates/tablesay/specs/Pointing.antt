@@ -73,7 +73,10 @@ module _ (p : Params) (v : View) (tb : List ℕ) (cs : List Cand) where
   next-long c t l = go (test (ltb (c .address) (p .L)))
     where
       go : Test (ltb (c .address) (p .L)) → length (next c t) ≡ addressesLen p
-      go (yes! q) = ap length (cond-true (ltb (c .address) (p .L)) (setPlace t (c .address) (placeOr (best (held p v tb (c .address)) (candsOf (c .address) cs)))) t q) ∙ set-long t (c .address) (placeOr (best (held p v tb (c .address)) (candsOf (c .address) cs))) l (ltb-true (c .address) (p .L) q)
+      go (yes! q) =
+          ap length (cond-true (ltb (c .address) (p .L))
+          (setPlace t (c .address) (placeOr (best (held p v tb (c .address)) (candsOf (c .address) cs)))) t q)
+          ∙ set-long t (c .address) (placeOr (best (held p v tb (c .address)) (candsOf (c .address) cs))) l (ltb-true (c .address) (p .L) q)
       go (no! q) = ap length (cond-false (ltb (c .address) (p .L)) (setPlace t (c .address) (placeOr (best (held p v tb (c .address)) (candsOf (c .address) cs)))) t q) ∙ l
 
   -- what is right stays right
@@ -99,7 +102,12 @@ module _ (p : Params) (v : View) (tb : List ℕ) (cs : List Cand) where
   pointed-long [] t l = l
   pointed-long (c ∷ ds) t l = pointed-long ds (next c t) (next-long c t l)
 
-  pointed-right : (ds : List Cand) (t : List ℕ) (a : ℕ) → length t ≡ addressesLen p → a < p .L → (part (4 * a) 4 t ≡ gets a) ⊎ ((c : Cand) × In c ds × (c .address ≡ a)) → part (4 * a) 4 (pointed p v tb cs ds t) ≡ gets a
+  pointed-right :
+      (ds : List Cand) (t : List ℕ) (a : ℕ)
+      → length t ≡ addressesLen p
+      → a < p .L
+      → (part (4 * a) 4 t ≡ gets a) ⊎ ((c : Cand) × In c ds × (c .address ≡ a))
+      → part (4 * a) 4 (pointed p v tb cs ds t) ≡ gets a
   unfolding pointed
   pointed-right [] t a l h (inl e) = e
   pointed-right [] t a l h (inr (c, m, e)) = absurd m

@@ -121,7 +121,10 @@ module _ (p : Params) (k : Disk) (m : Memory) (b : Base p k m) where
       cs : List ℕ
       cs = compactTable p (segments p v gone)
 
-      go : Finds p v gone (winner a) (place a) → cond (eqb (kind (readAnswer p (place a))) 9) unwritten (got (readPiece p v gone (compactTable p (segments p v gone)) (place a) .block)) ≡ saidAt p v gone a
+      go :
+          Finds p v gone (winner a) (place a)
+          → cond (eqb (kind (readAnswer p (place a))) 9) unwritten (got (readPiece p v gone (compactTable p (segments p v gone)) (place a) .block)) ≡
+          saidAt p v gone a
       go (finds-none e q) = unfold readAnswer kind saidAt saidBlock in rw (q, e)
       go (finds-here c e i t x q) = unfold readAnswer kind saidAt in rw (q, e) (sym (said-here p rg v gone c i t x))
       go (finds-away c e i t x q) = unfold readAnswer kind saidAt in rw (q, e) (sym (said-away p rg v gone c i t (b .decodes (c .drive) x) x))

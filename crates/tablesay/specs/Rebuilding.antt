@@ -126,7 +126,8 @@ module _ (p : Params) (r : Ranged p) (v : View) (sh : Shaped p v) where
         (λ i h.
         subst (λ (c : Chunk). Sound p (n + i) c)
         (sym (getD-map-below (λ i. mkChunk (footerBlock p lostSpares i) zeroSpare) (footers p) i noChunk (subst (λ (y : ℕ). i < y) l h)))
-        (footer-sound p r (n + i) lostSpares i (λ s m. ap length (spare-of s m .1) ∙ length-record (spare-of s m .0)) (λ s m. subst (λ (y : List ℕ). Bytes y) (sym (spare-of s m .1)) (bytes-record (spare-of s m .0)))))
+        (footer-sound p r (n + i) lostSpares i (λ s m. ap length (spare-of s m .1) ∙ length-record (spare-of s m .0))
+        (λ s m. subst (λ (y : List ℕ). Bytes y) (sym (spare-of s m .1)) (bytes-record (spare-of s m .0)))))
 
     abbrev lostEnd : List Chunk
     lostEnd = cond (x .full) lostFooters []
@@ -154,19 +155,29 @@ module _ (p : Params) (r : Ranged p) (v : View) (sh : Shaped p v) where
       let x = segmentOf p v gone g in
       let qs = map (λ s. pieceOf p gone x s d) (counted p gone x) in
       let ss = map (λ (q : Piece). recordBytes (q .rec)) qs in
-      ap (λ (y : ℕ). put d y (headerBlock p d y (x .serial) (x .copied)) zeroSpare ∷ (map (putPiece d y) qs ++ cond (x .full) (map (λ i. put d y (footerBlock p ss i) zeroSpare) (below (footers p))) []))
+      ap (λ (y : ℕ). put d y (headerBlock p d y (x .serial) (x .copied)) zeroSpare ∷
+      (map (putPiece d y) qs ++ cond (x .full) (map (λ i. put d y (footerBlock p ss i) zeroSpare) (below (footers p))) []))
       (seg-is p v gone g)
       ∙ ap₂ (λ (y z : List Store). put d g (headerBlock p d g (x .serial) (x .copied)) zeroSpare ∷ (y ++ z)) (put-pieces d g qs) (end d g ss (x .full))
-      ∙ first d g (headerBlock p d g (x .serial) (x .copied)) (map (putAt d g) (map pieceChunk qs) ++ map (putAt d g) (cond (x .full) (map (λ i. mkChunk (footerBlock p ss i) zeroSpare) (below (footers p))) []))
-      ∙ ap (λ (y : List Store). putAt d g (mkChunk (headerBlock p d g (x .serial) (x .copied)) zeroSpare) ∷ y) (sym (map-append (putAt d g) (map pieceChunk qs) (cond (x .full) (map (λ i. mkChunk (footerBlock p ss i) zeroSpare) (below (footers p))) [])))
+      ∙ first d g (headerBlock p d g (x .serial) (x .copied))
+      (map (putAt d g) (map pieceChunk qs) ++ map (putAt d g)
+      (cond (x .full) (map (λ i. mkChunk (footerBlock p ss i) zeroSpare) (below (footers p))) []))
+      ∙ ap (λ (y : List Store). putAt d g (mkChunk (headerBlock p d g (x .serial) (x .copied)) zeroSpare) ∷ y)
+      (sym (map-append (putAt d g) (map pieceChunk qs) (cond (x .full) (map (λ i. mkChunk (footerBlock p ss i) zeroSpare) (below (footers p))) [])))
     where
       first : (d g : ℕ) (b : List ℕ) (l : List Store) → (put d g b zeroSpare ∷ l) ≡ (putAt d g (mkChunk b zeroSpare) ∷ l)
       first d g b l = unfold putAt in refl
 
-      end : (d g : ℕ) (ss : List (List ℕ)) (b : Bool) → cond b (map (λ i. put d g (footerBlock p ss i) zeroSpare) (below (footers p))) [] ≡ map (putAt d g) (cond b (map (λ i. mkChunk (footerBlock p ss i) zeroSpare) (below (footers p))) [])
+      end :
+          (d g : ℕ) (ss : List (List ℕ)) (b : Bool)
+          → cond b (map (λ i. put d g (footerBlock p ss i) zeroSpare) (below (footers p))) [] ≡ map (putAt d g)
+          (cond b (map (λ i. mkChunk (footerBlock p ss i) zeroSpare) (below (footers p))) [])
       end d g ss true = plain d g ss ∙ sym (map-map (putAt d g) (λ i. mkChunk (footerBlock p ss i) zeroSpare) (below (footers p)))
         where
-          plain : (d g : ℕ) (ss : List (List ℕ)) → map (λ i. put d g (footerBlock p ss i) zeroSpare) (below (footers p)) ≡ map (λ i. putAt d g (mkChunk (footerBlock p ss i) zeroSpare)) (below (footers p))
+          plain :
+              (d g : ℕ) (ss : List (List ℕ))
+              → map (λ i. put d g (footerBlock p ss i) zeroSpare) (below (footers p)) ≡ map (λ i. putAt d g (mkChunk (footerBlock p ss i) zeroSpare))
+              (below (footers p))
           plain d g ss = unfold putAt in refl
       end d g ss false = refl
 

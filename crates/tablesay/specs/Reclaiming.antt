@@ -13,7 +13,8 @@ use Rattle.defs.specs.declared.State.{State}
 use Rattle.defs.specs.Answers.{kind, isRefused, isRefusedAs}
 use Rattle.defs.specs.Calls.{Check, firstRefusal, Plan, decided, outcome}
 use Rattle.defs.specs.Calls.Check.{rule, zones}
-use Rattle.defs.specs.Drives.{View, zoneAt, pointerAt, chunkAt, Store, storeView, Disk, storeDisk, storeAll, segmentNumbers, zoneOn, placeSegment, emptyZones, sealedIn, recordIn, recordAt, resetStores}
+use Rattle.defs.specs.Drives.{View, zoneAt, pointerAt, chunkAt, Store, storeView, Disk, storeDisk, storeAll, segmentNumbers, zoneOn, placeSegment, emptyZones}
+use Rattle.defs.specs.Drives.{sealedIn, recordIn, recordAt, resetStores}
 use Rattle.defs.specs.Engine.Call.{reclaim}
 use Rattle.defs.specs.Engine.{storeCount, lentBlock, verdict, lentOk, callOn, callDisk}
 use Rattle.defs.specs.History.{step}
@@ -24,7 +25,8 @@ use Rattle.defs.specs.Memory.{Memory, mkMemory, stateFaults}
 use Rattle.defs.specs.Params.{between, inRange, capacity, placeOf, placeBlock, placeZone, placeDrive, drivesOf, present}
 use Rattle.defs.specs.Parity.{parityRec}
 use Rattle.defs.specs.Rank.{Cand, best, candsOf}
-use Rattle.defs.specs.Reclaim.{placesIn, tableFaults, segmentPlaces, liveIn, flying, Victim, victimOf, fewer, fewest, victim, isNone, victimSegment, victimLive, idle, reclaimChecks, cleared, resetPlan, copyPlan, reclaimVerdict}
+use Rattle.defs.specs.Reclaim.{placesIn, tableFaults, segmentPlaces, liveIn, flying, Victim, victimOf, fewer, fewest, victim, isNone, victimSegment}
+use Rattle.defs.specs.Reclaim.{victimLive, idle, reclaimChecks, cleared, resetPlan, copyPlan, reclaimVerdict}
 use Rattle.defs.specs.Segments.{Segment, segmentOf, segments, storedRec, recOf, candOf, candidates, addressTable}
 use Rattle.defs.specs.Write.{opens, noSerial, mustWait, scarce, sending}
 use Rattle.laws.specs.Geometry.{between-of, Ranged, ranged}
@@ -210,7 +212,8 @@ module _ (p : Params) (k : Disk) (m : Memory) (u : Run p k m) (we : Well p k m) 
   reclaim-faults nn =
       let e1 = state-clear p st (u .base .state-ok) in
       let e2 = table-clear p rg v (m .addresses) at! in
-      let e3 : keep (λ q. not (between 1 (p .S) (placeBlock p q))) (victimLive w) ≡ [] = keep-nothing (λ q. not (between 1 (p .S) (placeBlock p q))) (victimLive w) (λ q i. ap not (between-live q (live-pointed q nn i))) in
+      let e3 : keep (λ q. not (between 1 (p .S) (placeBlock p q))) (victimLive w) ≡ [] =
+      keep-nothing (λ q. not (between 1 (p .S) (placeBlock p q))) (victimLive w) (λ q i. ap not (between-live q (live-pointed q nn i))) in
       nil-append (stateFaults p st ++ tableFaults p (m .addresses)) (map (λ q. victimSegment w) (keep (λ q. not (between 1 (p .S) (placeBlock p q))) (victimLive w)))
       (nil-append (stateFaults p st) (tableFaults p (m .addresses)) e1 e2) (ap (map (λ q. victimSegment w)) e3)
 
@@ -301,14 +304,17 @@ module _ (p : Params) (k : Disk) (m : Memory) (u : Run p k m) (we : Well p k m) 
           go (x ∷ l) h = unfold isNil in refl
 
       stores-is : (q : ℕ) → copyPlan p v m q .stores
-          ≡ sending p v st (m .inflight) (recordAt p v 0 (placeDrive p q) (placeSegment p q) (placeBlock p q - 1) .address) (recordAt p v 0 (placeDrive p q) (placeSegment p q) (placeBlock p q - 1) .stamp) 0
+          ≡ sending p v st (m .inflight) (recordAt p v 0 (placeDrive p q) (placeSegment p q) (placeBlock p q - 1) .address)
+          (recordAt p v 0 (placeDrive p q) (placeSegment p q) (placeBlock p q - 1) .stamp) 0
           (chunkAt v (placeDrive p q) (placeZone p q) (placeBlock p q) .block) .stores
       stores-is q = unfold copyPlan in refl
 
       memory-is : (q : ℕ) → copyPlan p v m q .memory
-          ≡ mkMemory (sending p v st (m .inflight) (recordAt p v 0 (placeDrive p q) (placeSegment p q) (placeBlock p q - 1) .address) (recordAt p v 0 (placeDrive p q) (placeSegment p q) (placeBlock p q - 1) .stamp) 0
+          ≡ mkMemory (sending p v st (m .inflight) (recordAt p v 0 (placeDrive p q) (placeSegment p q) (placeBlock p q - 1) .address)
+          (recordAt p v 0 (placeDrive p q) (placeSegment p q) (placeBlock p q - 1) .stamp) 0
           (chunkAt v (placeDrive p q) (placeZone p q) (placeBlock p q) .block) .state) (m .addresses) (m .compact)
-          (sending p v st (m .inflight) (recordAt p v 0 (placeDrive p q) (placeSegment p q) (placeBlock p q - 1) .address) (recordAt p v 0 (placeDrive p q) (placeSegment p q) (placeBlock p q - 1) .stamp) 0
+          (sending p v st (m .inflight) (recordAt p v 0 (placeDrive p q) (placeSegment p q) (placeBlock p q - 1) .address)
+          (recordAt p v 0 (placeDrive p q) (placeSegment p q) (placeBlock p q - 1) .stamp) 0
           (chunkAt v (placeDrive p q) (placeZone p q) (placeBlock p q) .block) .inflight)
       memory-is q = unfold copyPlan in refl
 
@@ -340,7 +346,21 @@ module _ (p : Params) (k : Disk) (m : Memory) (u : Run p k m) (we : Well p k m) 
 
       go : Ended p k m checks plan (outcome p (storeDisk p) n k m [] (decided (firstRefusal checks) plan)) → Kept p (outcome p (storeDisk p) n k m [] (decided (firstRefusal checks) plan))
       go (ended-refused x e f g h) = refused-kept p k m _ x u
-          (clear checks (refl, λ c1. (refl, λ c2. (refl, λ c3. (refl, λ c5. (refl, λ c6. (refl, λ c7. (refl, λ c8. (reclaim-faults (or-left (isNone w) (live && isNil (idle p v st w)) c5), tt)))))))) x e) f g h
+          (clear checks (
+            refl,
+            λ c1. (
+              refl,
+              λ c2. (
+                refl,
+                λ c3. (
+                  refl,
+                  λ c5.
+                      (refl, λ c6. (refl, λ c7. (refl, λ c8. (reclaim-faults (or-left (isNone w) (live && isNil (idle p v st w)) c5), tt)))),
+                ),
+              ),
+            ),
+          )
+          x e) f g h
       go (ended-done c f g h) = record {
         never-ninth = ap (isRefusedAs 9) f ∙ mild-plan (isNil (victimLive w)) (victimSegment w) (firstOr 0 (idle p v st w));
         runs-on = λ x. subst (λ (y : Memory). Run p (outcome p (storeDisk p) n k m [] (decided (firstRefusal checks) plan) .drives) y) (sym h) (reclaim-done c _ g);

@@ -123,7 +123,8 @@ module _ (p : Params) (r : Ranged p) (v : View) (sh : Shaped p v) (g : ℕ) (hg 
 
       tog : (d z : ℕ) → d < p .N → z < p .Z → Dec (g ≡ z) → eqb (pointerAt u d z) 0 ≡ eqb (pointerAt u 0 z) 0
       tog d z hd hz (yes e) = subst (λ (x : ℕ). eqb (pointerAt u d x) 0 ≡ eqb (pointerAt u 0 x) 0) e (ap (λ (x : ℕ). eqb x 0) (reset-pointers d hd ∙ sym (reset-pointers 0 h0)))
-      tog d z hd hz (no n) = ap (λ (x : ℕ). eqb x 0) (sym (zones-pointer p r v u z (reset-same z hz n) d hd)) ∙ t .together d z hd hz ∙ ap (λ (x : ℕ). eqb x 0) (zones-pointer p r v u z (reset-same z hz n) 0 h0)
+      tog d z hd hz (no n) =
+          ap (λ (x : ℕ). eqb x 0) (sym (zones-pointer p r v u z (reset-same z hz n) d hd)) ∙ t .together d z hd hz ∙ ap (λ (x : ℕ). eqb x 0) (zones-pointer p r v u z (reset-same z hz n) 0 h0)
 
   -- none of its records holds: the address table stays
   pub reset-addresses : (s : ℕ) → Tidy p v s → ((a : ℕ) (c : Cand) (k : CandAt p v 0 c) → a < p .L → best none (candsOf a (candidates p 0 (segments p v 0))) ≡ some c → k .of ≡ g → ⊥)
@@ -172,7 +173,10 @@ module _ (p : Params) (r : Ranged p) (v : View) (sh : Shaped p v) (g : ℕ) (hg 
         ⊎-elim (λ x. inl x) (λ x. inr (λ d hd. sym (zones-pointer p r v u z (reset-same z hz n) d hd) ∙ x d hd)) (h .sealed-but z hz w);
     opens-at = λ z q.
         let o = h .opens-at z q in
-        let n : g ≡ z → ⊥ = λ e. (let h0 : 0 < p .N = omega (arith, r .drives-low) in let x = open-short p r v st z so o 0 h0 in let y = full 0 h0 ∙ refl in let w : pointerAt v 0 z ≡ capacity p = subst (λ (a : ℕ). pointerAt v 0 a ≡ capacity p) e y in let bad : ⊥ = omega arith in bad) in
+        let n : g ≡ z → ⊥ =
+        λ e. (let h0 : 0 < p .N = omega (arith, r .drives-low) in let x = open-short p r v st z so o 0 h0 in let y = full 0 h0
+        ∙ refl in let w : pointerAt v 0 z ≡ capacity p = subst (λ (a : ℕ). pointerAt v 0 a ≡ capacity p) e y in let bad : ⊥ = omega arith in
+        bad) in
         open-view p v u st z (reset-same z (o .opened-zone) n) (flies st) o;
     shut = h .shut;
     serial-fits = h .serial-fits;
@@ -264,7 +268,8 @@ module _ (p : Params) (r : Ranged p) (g : ℕ) (hg : g < p .Z) where
   pub cleared-is : (v u : View) → ((d y : ℕ) → d < p .N → y < p .Z → rowAt p u 0 d y ≡ cond (eqb y g) [] (rowAt p v 0 d y))
       → cleared p g (drivesOf p) (compactTable p (segments p v 0)) ≡ compactTable p (segments p u 0)
   cleared-is v u rows =
-      grid-ext p (λ d z. compactRow p (rowAt p u 0 d z)) (compact-row-long p u 0) (cleared p g (drivesOf p) cs) (all-long (drivesOf p) cs low (length-compact p v 0)) (r .stripes-low) (let z = r .zones-low in omega arith) entry
+      grid-ext p (λ d z. compactRow p (rowAt p u 0 d z)) (compact-row-long p u 0) (cleared p g (drivesOf p) cs)
+      (all-long (drivesOf p) cs low (length-compact p v 0)) (r .stripes-low) (let z = r .zones-low in omega arith) entry
       ∙ sym (compact-is p u 0)
     where
       cs : List ℕ

@@ -56,7 +56,10 @@ module _ (p : Params) (r : Ranged p) (v : View) (sh : Shaped p v) (acc : Accepte
 
   mended-one : (g : ℕ) → g < p .Z → remains p v 0 g ≡ true → sealedIn p v 0 g ≡ false → ((y : ℕ) → y < p .Z → remains p v 0 y ≡ true → (y ≡ g → ⊥) → sealedIn p v 0 y ≡ true)
       → unsealed gs ≡ segmentOf p v 0 g ∷ []
-      → rewrites p 0 gs && eqb (greatestSerial gs) lastCount ≡ false → rewrites p 0 gs && isNil (freeZones p gs) ≡ false → greatestSerial gs < 256 ^ 8 → Mended p va (mendStores p gs (segmentOf p v 0 g))
+      → rewrites p 0 gs && eqb (greatestSerial gs) lastCount ≡ false
+      → rewrites p 0 gs && isNil (freeZones p gs) ≡ false
+      → greatestSerial gs < 256 ^ 8
+      → Mended p va (mendStores p gs (segmentOf p v 0 g))
   mended-one g hg kg ng oth us c6 c8 bd = go (test (isWhole p x)) (test (isRagged p x))
     where
       x : Segment
@@ -68,7 +71,10 @@ module _ (p : Params) (r : Ranged p) (v : View) (sh : Shaped p v) (acc : Accepte
       plain! : isWhole p (segmentOf p v 0 g) ≡ false → isRagged p (segmentOf p v 0 g) ≡ false → mendStores p gs (segmentOf p v 0 g) ≡ []
       plain! q w = unfold mendStores in rw (q, w)
 
-      ragged! : isWhole p (segmentOf p v 0 g) ≡ false → isRagged p (segmentOf p v 0 g) ≡ true → mendStores p gs (segmentOf p v 0 g) ≡ rewriteStores p (segmentOf p v 0 g) (firstOr 0 (freeZones p gs)) (suc (greatestSerial gs))
+      ragged! :
+          isWhole p (segmentOf p v 0 g) ≡ false
+          → isRagged p (segmentOf p v 0 g) ≡ true
+          → mendStores p gs (segmentOf p v 0 g) ≡ rewriteStores p (segmentOf p v 0 g) (firstOr 0 (freeZones p gs)) (suc (greatestSerial gs))
       ragged! q w = unfold mendStores in rw (q, w)
 
       rewrites! : isRagged p (segmentOf p v 0 g) ≡ true → rewrites p 0 gs ≡ true
@@ -88,7 +94,11 @@ module _ (p : Params) (r : Ranged p) (v : View) (sh : Shaped p v) (acc : Accepte
           subst (λ (l : List Store). Mended p va l) (sym (ragged! q w))
           (mend-rewrite p r v sh acc g hg kg ng oth z0 (below-in (p .Z) z0 i) (not-true (remains p v 0 z0) f) (let b = bd in omega arith) q)
 
-  pub mended : rewrites p 0 gs && eqb (greatestSerial gs) lastCount ≡ false → rewrites p 0 gs && isNil (freeZones p gs) ≡ false → greatestSerial gs < 256 ^ 8 → Mended p va (flat (mendStores p gs) (unsealed gs))
+  pub mended :
+      rewrites p 0 gs && eqb (greatestSerial gs) lastCount ≡ false
+      → rewrites p 0 gs && isNil (freeZones p gs) ≡ false
+      → greatestSerial gs < 256 ^ 8
+      → Mended p va (flat (mendStores p gs) (unsealed gs))
   mended c6 c8 bd = go (loose p r v sh acc)
     where
       go : Loose p v → Mended p va (flat (mendStores p gs) (unsealed gs))
@@ -96,7 +106,10 @@ module _ (p : Params) (r : Ranged p) (v : View) (sh : Shaped p v) (acc : Accepte
         where
           none! : flat (mendStores p gs) [] ≡ []
           none! = unfold flat in refl
-      go (loose-one g hg kg ng us oth) = subst (λ (l : List Store). Mended p va l) (sym (ap (flat (mendStores p gs)) us ∙ one! (segmentOf p v 0 g) ∙ append-nil (mendStores p gs (segmentOf p v 0 g)))) (mended-one g hg kg ng oth us c6 c8 bd)
+      go (loose-one g hg kg ng us oth) =
+          subst (λ (l : List Store). Mended p va l)
+          (sym (ap (flat (mendStores p gs)) us ∙ one! (segmentOf p v 0 g) ∙ append-nil (mendStores p gs (segmentOf p v 0 g))))
+          (mended-one g hg kg ng oth us c6 c8 bd)
         where
           one! : (x : Segment) → flat (mendStores p gs) (x ∷ []) ≡ mendStores p gs x ++ []
           one! x = unfold flat in refl
@@ -143,7 +156,10 @@ well-start p k m d shk b nd =
     let (hk, sk) = rest-healthy p r v2 sh2 (md .mend-bound) (md .mend-tidy) (md .mend-rest) (m .inflight) in
     let mem = restartMemory p v2 0 (m .inflight) in
     let es : startPlan p k m d .stores ≡ ss = stores-are gs in
-    let em : startPlan p k m d .memory ≡ mem = memory-is ∙ ap₂ (λ (l : List Store) (g : ℕ). restartMemory p (storeAll storeView l v) g (m .inflight)) es nd ∙ ap (λ (x : View). restartMemory p x 0 (m .inflight)) ev in
+    let em : startPlan p k m d .memory ≡ mem =
+    memory-is
+    ∙ ap₂ (λ (l : List Store) (g : ℕ). restartMemory p (storeAll storeView l v) g (m .inflight)) es nd
+    ∙ ap (λ (x : View). restartMemory p x 0 (m .inflight)) ev in
     let so = state-of p r (mem .state) sk in
     subst (λ (l : List Store). Run p (storeAll (storeDisk p) l k) (startPlan p k m d .memory)) (sym es)
     (subst (λ (x : Memory). Run p (storeAll (storeDisk p) ss k) x) (sym em)
@@ -182,5 +198,9 @@ names-none p r d q = ⊎-elim (λ x. inl (ltb-true d (p .N) x)) (λ x. inr (none
     none! : d ≡ noDrive → named d ≡ 0
     none! e = unfold named in only-none d (subst (λ (n : ℕ). 8 ≤ n) (sym (e ∙ is-255)) (lit≤ tt))
 
-pub started : (p : Params) (k : Disk) (m : Memory) (d : ℕ) → (Whole p k → Shaped p (seen p k)) → Begins p k m d → Run p (storeAll (storeDisk p) (startPlan p k m d .stores) k) (startPlan p k m d .memory)
+pub started :
+    (p : Params) (k : Disk) (m : Memory) (d : ℕ)
+    → (Whole p k → Shaped p (seen p k))
+    → Begins p k m d
+    → Run p (storeAll (storeDisk p) (startPlan p k m d .stores) k) (startPlan p k m d .memory)
 started p k m d sh b = ⊎-elim (λ x. lost-start p k m d sh b x) (λ x. well-start p k m d sh b x) (names-none p (ranged p (b .in-range!)) d (b .names!))

@@ -113,7 +113,8 @@ module _ (p : Params) (r : Ranged p) (v : View) (sh : Shaped p v) (b : ℕ) (t :
       let k = cand-at p v 0 c i in
       let hd = its-drive-low p r v b t c k in
       let hk = remaining-low p v 0 (k .of) (k .remains) in
-      subst (λ (x : ℕ). x < 256 ^ 8) (sym (e ∙ cand-record p r v b t c k .1)) (record-low p (zoneAt v (c .drive) (k .of)) (sh .zone-ok (c .drive) (k .of) hd hk) (sealedIn p v 0 (k .of)) (c .offset) .1)))
+      subst (λ (x : ℕ). x < 256 ^ 8) (sym (e ∙ cand-record p r v b t c k .1))
+      (record-low p (zoneAt v (c .drive) (k .of)) (sh .zone-ok (c .drive) (k .of) hd hk) (sealedIn p v 0 (k .of)) (c .offset) .1)))
     where
       as! : greatest (map (λ (c : Cand). c .stamp) (candidates p 0 gs)) < 256 ^ 8 → greatestStamp (candidates p 0 gs) < 256 ^ 8
       as! x = unfold greatestStamp in x
@@ -141,7 +142,8 @@ module _ (p : Params) (r : Ranged p) (v : View) (sh : Shaped p v) (b : ℕ) (t :
       ∙ ap (map (segmentOf p v 0)) (keep-cong (λ g. not (segmentOf p v 0 g .full)) (λ g. not (sealedIn p v 0 g)) (remaining p v 0) (λ g m. ap not (full-is p v 0 g))
       ∙ ap (keep (λ g. not (sealedIn p v 0 g))) (remaining-is p v 0)
       ∙ keep-keep (λ g. not (sealedIn p v 0 g)) (remains p v 0) (below (p .Z))
-      ∙ keep-cong (λ g. remains p v 0 g && not (sealedIn p v 0 g)) (λ g. usedAt v g && not (sealedIn p v 0 g)) (below (p .Z)) (λ g m. ap (λ (x : Bool). x && not (sealedIn p v 0 g)) (remains-used p r v b t g (below-in (p .Z) g m)))))
+      ∙ keep-cong (λ g. remains p v 0 g && not (sealedIn p v 0 g)) (λ g. usedAt v g && not (sealedIn p v 0 g)) (below (p .Z))
+      (λ g m. ap (λ (x : Bool). x && not (sealedIn p v 0 g)) (remains-used p r v b t g (below-in (p .Z) g m)))))
     where
       as! : keep (λ (g : Segment). not (g .full)) (map (segmentOf p v 0) (remaining p v 0)) ≡ map (segmentOf p v 0) (keep (λ g. usedAt v g && not (sealedIn p v 0 g)) (below (p .Z)))
           → unsealed gs ≡ map (segmentOf p v 0) (keep (λ g. usedAt v g && not (sealedIn p v 0 g)) (below (p .Z)))
@@ -155,14 +157,19 @@ module _ (p : Params) (r : Ranged p) (v : View) (sh : Shaped p v) (b : ℕ) (t :
       go g hg (no! q) = and-false-left (usedAt v g) (not (sealedIn p v 0 g)) q
 
   steady-unsealed : (g c : ℕ) → Steady p v g c → sealedIn p v 0 g ≡ false
-  steady-unsealed g c s = not-so (sealedIn p v 0 g) (λ q. let x = sealed-full p v g q 0 h0 in let y = s .steady-pointer 0 h0 in let w = s .steady-few in let l = capacity-over p r in let bad : ⊥ = omega arith in bad)
+  steady-unsealed g c s =
+      not-so (sealedIn p v 0 g) (λ q. let x = sealed-full p v g q 0 h0 in let y = s .steady-pointer 0 h0 in let w = s .steady-few in let l = capacity-over p r in let bad : ⊥ = omega arith in bad)
 
   one-unsealed : (g c : ℕ) → Steady p v g c → ((z : ℕ) → z < p .Z → usedAt v z ≡ true → (z ≡ g → ⊥) → SealedAll p v z) → unsealed gs ≡ segmentOf p v 0 g ∷ []
   one-unsealed g c s f = unsealed-are ∙ ap (map (segmentOf p v 0))
-      (keep-cong (λ y. usedAt v y && not (sealedIn p v 0 y)) (λ y. eqb y g) (below (p .Z)) (λ y m. go y (below-in (p .Z) y m) (ℕ-discrete y g) (test (usedAt v y))) ∙ keep-one-below (λ y. eqb y g) g (p .Z) (λ y. refl) (s .steady-low))
+      (keep-cong (λ y. usedAt v y && not (sealedIn p v 0 y)) (λ y. eqb y g) (below (p .Z))
+      (λ y m. go y (below-in (p .Z) y m) (ℕ-discrete y g) (test (usedAt v y)))
+      ∙ keep-one-below (λ y. eqb y g) g (p .Z) (λ y. refl) (s .steady-low))
     where
       go : (y : ℕ) → y < p .Z → Dec (y ≡ g) → Test (usedAt v y) → usedAt v y && not (sealedIn p v 0 y) ≡ eqb y g
-      go y hy (yes e) q = subst (λ (x : ℕ). usedAt v x && not (sealedIn p v 0 x) ≡ eqb x g) (sym e) (and-both (usedAt v g) (not (sealedIn p v 0 g)) (s .steady-used) (ap not (steady-unsealed g c s)) ∙ sym (eqb-self g))
+      go y hy (yes e) q =
+          subst (λ (x : ℕ). usedAt v x && not (sealedIn p v 0 x) ≡ eqb x g) (sym e)
+          (and-both (usedAt v g) (not (sealedIn p v 0 g)) (s .steady-used) (ap not (steady-unsealed g c s)) ∙ sym (eqb-self g))
       go y hy (no n) (yes! q) = and-false-right (usedAt v y) (not (sealedIn p v 0 y)) (ap not (sealed-is y (f y hy q n))) ∙ sym (ne-eqb y g n)
       go y hy (no n) (no! q) = and-false-left (usedAt v y) (not (sealedIn p v 0 y)) q ∙ sym (ne-eqb y g n)
 
@@ -224,7 +231,8 @@ module _ (p : Params) (r : Ranged p) (v : View) (sh : Shaped p v) (b : ℕ) (t :
   open-healthy g c s f = record {
     tidy = subst (λ (x : ℕ). Tidy p v x) (sym (idle-serial (suc g) c)) tidy-now;
     sealed-but = λ z hz q. go z hz q (ℕ-discrete z g);
-    opens-at = λ z q. subst (λ (x : ℕ). Open p v (su (suc g) c) (flies (su (suc g) c)) x) (let e : suc g ≡ suc z = sym (idle-opened (suc g) c) ∙ q in let x : g ≡ z = omega arith in x) (steady-open g c s);
+    opens-at =
+        λ z q. subst (λ (x : ℕ). Open p v (su (suc g) c) (flies (su (suc g) c)) x) (let e : suc g ≡ suc z = sym (idle-opened (suc g) c) ∙ q in let x : g ≡ z = omega arith in x) (steady-open g c s);
     shut = λ q. absurd (let x = sym (idle-opened (suc g) c) ∙ q in let bad : ⊥ = omega arith in bad);
     serial-fits = subst (λ (x : ℕ). x < 256 ^ 8) (sym (idle-serial (suc g) c)) serial-bound;
     stamp-fits = subst (λ (x : ℕ). x < 256 ^ 8) (sym (idle-stamp (suc g) c)) stamp-bound;
@@ -258,7 +266,9 @@ module _ (p : Params) (r : Ranged p) (v : View) (sh : Shaped p v) (b : ℕ) (t :
   rest-healthy (rest-open g c s f) fl =
       let e : restartMemory p v 0 fl .state ≡ su (suc g) c = memory-state (segmentOf p v 0 g ∷ []) (one-unsealed g c s f) fl ∙ one! ∙ ap₂ su (ap suc (seg-is p v 0 g)) (s .steady-count) in (
         subst (λ (x : State). Healthy p v x) (sym e) (open-healthy g c s f),
-        ap (stateOk p) e ∙ idle-ok p r 0 (greatestStamp (candidates p 0 gs)) serial (suc g) c (pow-pos (p .N)) (let e = ones-ones 0 in omega arith) (s .steady-low) (let l = s .steady-few in omega arith),
+        ap (stateOk p) e
+            ∙ idle-ok p r 0 (greatestStamp (candidates p 0 gs)) serial (suc g) c (pow-pos (p .N)) (let e = ones-ones 0 in omega arith) (s .steady-low)
+            (let l = s .steady-few in omega arith),
       )
     where
       one! : su (openOf (segmentOf p v 0 g ∷ [])) (nextOf p (segmentOf p v 0 g ∷ [])) ≡ su (suc (segmentOf p v 0 g .seg)) (length (counted p 0 (segmentOf p v 0 g)))

@@ -12,7 +12,8 @@ use lib.Dec.{ltb, eqb}
 use lib.ListN.{length, getD, length-map}
 use Rattle.defs.specs.declared.Params.{Params}
 use Rattle.defs.specs.Bytes.{parity}
-use Rattle.defs.specs.Drives.{Chunk, mkChunk, noChunk, Zone, View, zoneAt, pointerAt, chunkAt, Store, resetZone, storeView, storeAll, zoneOn, sealedIn, dataStored, recordIn, zeroSpare, headerStores, resetStores}
+use Rattle.defs.specs.Drives.{Chunk, mkChunk, noChunk, Zone, View, zoneAt, pointerAt, chunkAt, Store, resetZone, storeView, storeAll, zoneOn, sealedIn}
+use Rattle.defs.specs.Drives.{dataStored, recordIn, zeroSpare, headerStores, resetStores}
 use Rattle.defs.specs.Drives.Store.{put, reset}
 use Rattle.defs.specs.Layout.{dataDrive, dataPosition, isData, dataDrives, headerBlock, headerSerial, headerCopied, Rec, mkRec, recordBytes, recordOf}
 use Rattle.defs.specs.Lists.{upFrom, below, all, consIf, keep}
@@ -51,7 +52,10 @@ unfolding keep consIf upFrom
 keep-firsts c i zero a b = ap (upFrom i) (let e : 0 ≡ c - i = omega arith in e) ∙ refl
 keep-firsts c i (suc n) a b = go (decLt i c) (keep-firsts c (suc i) n)
   where
-    go : Dec (i < c) → (suc i ≤ c → c ≤ suc i + n → keep (λ s. ltb s c) (upFrom (suc i) n) ≡ upFrom (suc i) (c - suc i)) → consIf (ltb i c) i (keep (λ s. ltb s c) (upFrom (suc i) n)) ≡ upFrom i (c - i)
+    go :
+        Dec (i < c)
+        → (suc i ≤ c → c ≤ suc i + n → keep (λ s. ltb s c) (upFrom (suc i) n) ≡ upFrom (suc i) (c - suc i))
+        → consIf (ltb i c) i (keep (λ s. ltb s c) (upFrom (suc i) n)) ≡ upFrom i (c - i)
     go (yes h) ih =
         let q : ltb i c ≡ true = lt-ltb i c h in
         let e : c - i ≡ suc (c - suc i) = omega arith in
@@ -111,7 +115,8 @@ module _ (p : Params) (r : Ranged p) (v : View) (sh : Shaped p v) (acc : Accepte
     qs-at : (n : ℕ) → n < dataCount p → getD qs n (mkPiece [] (mkRec 0 0 0)) ≡ renumbered k (storedPiece x s (dataDrive p s n))
     qs-at n l =
         ap (λ (y : List Piece). getD y n (mkPiece [] (mkRec 0 0 0))) qs-is
-        ∙ getD-map (λ d. renumbered k (storedPiece x s d)) (map (dataDrive p s) (below (dataCount p))) n (mkPiece [] (mkRec 0 0 0)) 0 (subst (λ (y : ℕ). n < y) (sym (length-map (below (dataCount p)) (dataDrive p s) ∙ length-below (dataCount p))) l)
+        ∙ getD-map (λ d. renumbered k (storedPiece x s d)) (map (dataDrive p s) (below (dataCount p))) n (mkPiece [] (mkRec 0 0 0)) 0
+        (subst (λ (y : ℕ). n < y) (sym (length-map (below (dataCount p)) (dataDrive p s) ∙ length-below (dataCount p))) l)
         ∙ ap (λ (d : ℕ). renumbered k (storedPiece x s d)) (getD-map-below (dataDrive p s) (dataCount p) n 0 l)
 
     abbrev on : ℕ → Piece
@@ -147,7 +152,10 @@ module _ (p : Params) (r : Ranged p) (v : View) (sh : Shaped p v) (acc : Accepte
           block! q = unfold renumbered in refl
 
           go : Test (isData p k e) → length (on e .block) ≡ p .B
-          go (yes! q) = ap (λ (y : Piece). length (y .block)) (moved-data e q he) ∙ ap length (block! (storedPiece x s (dataDrive p s (dataPosition p k e)))) ∙ stored-b (dataDrive p s (dataPosition p k e)) (drive! (dataPosition p k e) (position-lt p k e q he))
+          go (yes! q) =
+              ap (λ (y : Piece). length (y .block)) (moved-data e q he)
+              ∙ ap length (block! (storedPiece x s (dataDrive p s (dataPosition p k e))))
+              ∙ stored-b (dataDrive p s (dataPosition p k e)) (drive! (dataPosition p k e) (position-lt p k e q he))
           go (no! q) = ap (λ (y : Piece). length (y .block)) (moved-parity e q) ∙ as! (parity-length (p .B) (map (λ (y : Piece). y .block) qs)
               (λ b m.
               let (y, i, f) = map-in (λ (y : Piece). y .block) qs b m in
@@ -192,7 +200,10 @@ module _ (p : Params) (r : Ranged p) (v : View) (sh : Shaped p v) (acc : Accepte
       hit : (d : ℕ) → hitsAt e y (putPiece d z0 (on s k d)) ≡ (eqb d e && eqb z0 y)
       hit d = unfold putPiece hitsAt in refl
 
-      join : (b : Bool) → cond b (putPiece e z0 (on s k e) ∷ []) [] ++ cond b (map (putAt e z0) (movedChunks e ss (suc k))) [] ≡ cond b (putAt e z0 (pieceChunk (on s k e)) ∷ map (putAt e z0) (movedChunks e ss (suc k))) []
+      join :
+          (b : Bool)
+          → cond b (putPiece e z0 (on s k e) ∷ []) [] ++ cond b (map (putAt e z0) (movedChunks e ss (suc k))) [] ≡ cond b
+          (putAt e z0 (pieceChunk (on s k e)) ∷ map (putAt e z0) (movedChunks e ss (suc k))) []
       join true = unfold putPiece putAt pieceChunk in refl
       join false = refl
 
@@ -213,11 +224,17 @@ module _ (p : Params) (r : Ranged p) (v : View) (sh : Shaped p v) (acc : Accepte
       ∙ ap₂ _++_ (hits-append e y (headerStores p z0 sn (x .serial)) (movedStripes p x z0 cs 0) ∙ ap₂ _++_ (hits-headers p e y z0 sn (x .serial) he) (hits-moved e y cs 0 he) ∙ join (eqb z0 y))
       (ap (λ (n : ℕ). hits e y (resetStores p n)) (seg-is p v 0 g) ∙ hits-resets p e y g he))
     where
-      as! : hits e y ((headerStores p z0 sn (x .serial) ++ movedStripes p x z0 cs 0) ++ resetStores p (x .seg)) ≡ cond (eqb z0 y) (map (putAt e z0) (mkChunk (headerBlock p e z0 sn (x .serial)) zeroSpare ∷ movedChunks e cs 0)) [] ++ cond (eqb g y) (reset e g ∷ []) []
+      as! :
+          hits e y ((headerStores p z0 sn (x .serial) ++ movedStripes p x z0 cs 0) ++ resetStores p (x .seg))
+          ≡ cond (eqb z0 y) (map (putAt e z0) (mkChunk (headerBlock p e z0 sn (x .serial)) zeroSpare ∷ movedChunks e cs 0)) [] ++ cond (eqb g y)
+          (reset e g ∷ []) []
           → hits e y ts ≡ cond (eqb z0 y) (map (putAt e z0) (mkChunk (headerBlock p e z0 sn (x .serial)) zeroSpare ∷ movedChunks e cs 0)) [] ++ cond (eqb g y) (reset e g ∷ []) []
       as! q = unfold rewriteStores in q
 
-      join : (b : Bool) → cond b (put e z0 (headerBlock p e z0 sn (x .serial)) zeroSpare ∷ []) [] ++ cond b (map (putAt e z0) (movedChunks e cs 0)) [] ≡ cond b (map (putAt e z0) (mkChunk (headerBlock p e z0 sn (x .serial)) zeroSpare ∷ movedChunks e cs 0)) []
+      join :
+          (b : Bool)
+          → cond b (put e z0 (headerBlock p e z0 sn (x .serial)) zeroSpare ∷ []) [] ++ cond b (map (putAt e z0) (movedChunks e cs 0)) [] ≡ cond b
+          (map (putAt e z0) (mkChunk (headerBlock p e z0 sn (x .serial)) zeroSpare ∷ movedChunks e cs 0)) []
       join true = unfold putAt in refl
       join false = refl
 
@@ -267,13 +284,17 @@ module _ (p : Params) (r : Ranged p) (v : View) (sh : Shaped p v) (acc : Accepte
           let l : i < c = (let a = lay-count e in omega arith) in
           let (b, q, f, lb, st) = lay-at e i he l in
           let w : 0 + suc i ≡ suc i = zero-add (suc i) in
-          subst (λ (n : ℕ). Sound p n (getD (lay e) (suc i) noChunk)) (sym w) (subst (λ (y : Chunk). Sound p (suc i) y) (sym f) (data-sound p (suc i) b q (omega arith) (let k = c-low in omega arith) lb))
+          subst (λ (n : ℕ). Sound p n (getD (lay e) (suc i) noChunk)) (sym w)
+          (subst (λ (y : Chunk). Sound p (suc i) y) (sym f) (data-sound p (suc i) b q (omega arith) (let k = c-low in omega arith) lb))
 
   rewrite-roomy : Roomy p va ts
   rewrite-roomy e y he hy = go (ℕ-discrete z0 y) (ℕ-discrete g y)
     where
       go : Dec (z0 ≡ y) → Dec (g ≡ y) → Room p (pointerAt va e y) (hits e y ts)
-      go (yes a) b = subst (λ (n : ℕ). Room p (pointerAt va e n) (hits e n ts)) a (subst (λ (l : List Store). Room p (pointerAt va e z0) l) (sym (hits-new e he)) (subst (λ (n : ℕ). Room p n (map (putAt e z0) (lay e))) (sym (empty-a e he)) (lay-room e he)))
+      go (yes a) b =
+          subst (λ (n : ℕ). Room p (pointerAt va e n) (hits e n ts)) a
+          (subst (λ (l : List Store). Room p (pointerAt va e z0) l) (sym (hits-new e he))
+          (subst (λ (n : ℕ). Room p n (map (putAt e z0) (lay e))) (sym (empty-a e he)) (lay-room e he)))
       go (no a) (yes b) = subst (λ (n : ℕ). Room p (pointerAt va e n) (hits e n ts)) b (subst (λ (l : List Store). Room p (pointerAt va e g) l) (sym (hits-old e he)) tt)
       go (no a) (no b) = subst (λ (l : List Store). Room p (pointerAt va e y) l) (sym (hits-else e y he a b)) tt
 
@@ -317,7 +338,10 @@ module _ (p : Params) (r : Ranged p) (v : View) (sh : Shaped p v) (acc : Accepte
   new-zone e he = zone-after p va e z0 ts (sha .sized) he hz0 ∙ ap (λ (l : List Store). storeAll zoneStore l (zoneAt va e z0)) (hits-new e he)
 
   pub old-pointer : (e : ℕ) → e < p .N → pointerAt vc e g ≡ 0
-  old-pointer e he = as! (ap (λ (q : Zone). q .pointer) (zone-after p va e g ts (sha .sized) he hg ∙ ap (λ (l : List Store). storeAll zoneStore l (zoneAt va e g)) (hits-old e he) ∙ once) ∙ reset-pointer (zoneAt va e g))
+  old-pointer e he =
+      as! (ap (λ (q : Zone). q .pointer)
+      (zone-after p va e g ts (sha .sized) he hg ∙ ap (λ (l : List Store). storeAll zoneStore l (zoneAt va e g)) (hits-old e he) ∙ once)
+      ∙ reset-pointer (zoneAt va e g))
     where
       once : storeAll zoneStore (reset e g ∷ []) (zoneAt va e g) ≡ resetZone (zoneAt va e g)
       once = unfold storeAll zoneStore in refl
@@ -338,7 +362,10 @@ module _ (p : Params) (r : Ranged p) (v : View) (sh : Shaped p v) (acc : Accepte
       as! q = unfold pointerAt in q
 
   pub new-pointer : (e : ℕ) → e < p .N → pointerAt vc e z0 ≡ 1 + c
-  new-pointer e he = as! (ap (λ (q : Zone). q .pointer) (new-zone e he) ∙ puts-pointer e z0 (lay e) (zoneAt va e z0) ∙ (let a = zero! e he in let b = lay-count e in let w : zoneAt va e z0 .pointer + length (lay e) ≡ 1 + c = omega arith in w))
+  new-pointer e he =
+      as! (ap (λ (q : Zone). q .pointer) (new-zone e he)
+      ∙ puts-pointer e z0 (lay e) (zoneAt va e z0)
+      ∙ (let a = zero! e he in let b = lay-count e in let w : zoneAt va e z0 .pointer + length (lay e) ≡ 1 + c = omega arith in w))
     where
       as! : zoneAt vc e z0 .pointer ≡ 1 + c → pointerAt vc e z0 ≡ 1 + c
       as! q = unfold pointerAt in q
@@ -347,13 +374,18 @@ module _ (p : Params) (r : Ranged p) (v : View) (sh : Shaped p v) (acc : Accepte
   new-block e i he h =
       ap (λ (q : Zone). getD (q .blocks) i noChunk) (new-zone e he)
       ∙ ap (λ (n : ℕ). getD (putAll e z0 (lay e) (zoneAt va e z0) .blocks) n noChunk) (let a = zero! e he in let w : i ≡ zoneAt va e z0 .pointer + i = omega arith in w)
-      ∙ puts-new e z0 (lay e) (zoneAt va e z0) i h (let a = zero! e he in let b = lay-count e in let d = c-low in let k = capacity-over p r in let l = sha .zone-ok e z0 he hz0 .blocks-long in omega arith)
+      ∙ puts-new e z0 (lay e) (zoneAt va e z0) i h
+      (let a = zero! e he in let b = lay-count e in let d = c-low in let k = capacity-over p r in let l = sha .zone-ok e z0 he hz0 .blocks-long in
+      omega arith)
 
   -- stripe o lies at offset o
   pub new-stripe : (e o : ℕ) → e < p .N → o < c → spareAt p vc e z0 o .stripe ≡ o
   new-stripe e o he h =
       let (b, q, f, lb, st) = lay-at e o he h in
-      let w : getD (zoneAt vc e z0 .blocks) (1 + o) noChunk ≡ mkChunk b (recordBytes q) = ap (λ (n : ℕ). getD (zoneAt vc e z0 .blocks) n noChunk) (let z : 1 + o ≡ suc o = omega arith in z) ∙ new-block e (suc o) he (let a = lay-count e in omega arith) ∙ f in
+      let w : getD (zoneAt vc e z0 .blocks) (1 + o) noChunk ≡ mkChunk b (recordBytes q) =
+      ap (λ (n : ℕ). getD (zoneAt vc e z0 .blocks) n noChunk) (let z : 1 + o ≡ suc o = omega arith in z)
+      ∙ new-block e (suc o) he (let a = lay-count e in omega arith)
+      ∙ f in
       as! b q w (record-stripe q (subst (λ (n : ℕ). n < 256 ^ 4) (sym st) (let a = c-low in let k = r .stripes-high in omega arith)) ∙ st)
     where
       as! : (b : List ℕ) (q : Rec) → getD (zoneAt vc e z0 .blocks) (1 + o) noChunk ≡ mkChunk b (recordBytes q) → recordOf (recordBytes q) .stripe ≡ o → spareAt p vc e z0 o .stripe ≡ o
@@ -364,7 +396,11 @@ module _ (p : Params) (r : Ranged p) (v : View) (sh : Shaped p v) (acc : Accepte
   new-record e o he h =
       let (s, m, q) = moved-at e cs 0 o h in
       let w : getD (zoneAt vc e z0 .blocks) (1 + o) noChunk ≡ pieceChunk (on s o e) =
-      ap (λ (n : ℕ). getD (zoneAt vc e z0 .blocks) n noChunk) (let z : 1 + o ≡ suc o = omega arith in z) ∙ new-block e (suc o) he (let a = lay-count e in omega arith) ∙ behind ∙ q ∙ ap (λ (n : ℕ). pieceChunk (on s n e)) (zero-add o) in
+      ap (λ (n : ℕ). getD (zoneAt vc e z0 .blocks) n noChunk) (let z : 1 + o ≡ suc o = omega arith in z)
+      ∙ new-block e (suc o) he (let a = lay-count e in omega arith)
+      ∙ behind
+      ∙ q
+      ∙ ap (λ (n : ℕ). pieceChunk (on s n e)) (zero-add o) in
       (s, m, as! s w)
     where
       behind : getD (lay e) (suc o) noChunk ≡ getD (movedChunks e cs 0) o noChunk
@@ -426,9 +462,15 @@ module _ (p : Params) (r : Ranged p) (v : View) (sh : Shaped p v) (acc : Accepte
         in! q = unfold counts in q
 
         go : Dec (s < c) → counts p 0 y0 s ≡ ltb s c
-        go (yes l) = in! (in-all (hasChunk y0 s) (present p 0) (λ e m. let he = present-in p 0 e m .0 in has-chunk p vc 0 z0 e s s he (isIn-empty e) (stored! e s he l) (ap (λ (a : Rec). a .stripe) (by-spare e s) ∙ new-stripe e s he l))) ∙ sym (lt-ltb s c l)
+        go (yes l) =
+            in! (in-all (hasChunk y0 s) (present p 0) (λ e m. let he = present-in p 0 e m .0 in has-chunk p vc 0 z0 e s s he (isIn-empty e)
+            (stored! e s he l) (ap (λ (a : Rec). a .stripe) (by-spare e s) ∙ new-stripe e s he l)))
+            ∙ sym (lt-ltb s c l)
         go (no l) = not-so (counts p 0 y0 s) (λ q. clash (counts-in p 0 y0 s 0 q h0 (isIn-empty 0))
-            (no-chunk p vc 0 z0 0 s h0 (isIn-empty 0) (λ o b w. let a = under! 0 o h0 b in let f = sym (ap (λ (a : Rec). a .stripe) (by-spare 0 o) ∙ new-stripe 0 o h0 a) ∙ w in let bad : ⊥ = omega arith in bad))) ∙ sym (le-ltb s c (omega arith))
+            (no-chunk p vc 0 z0 0 s h0 (isIn-empty 0) (λ o b w. let a = under! 0 o h0 b in let f = sym
+            (ap (λ (a : Rec). a .stripe) (by-spare 0 o) ∙ new-stripe 0 o h0 a)
+            ∙ w in let bad : ⊥ = omega arith in bad)))
+            ∙ sym (le-ltb s c (omega arith))
 
     new-count : length (counted p 0 y0) ≡ c
     new-count = as! (ap length (keep-cong (counts p 0 y0) (λ s. ltb s c) (below (p .S)) (λ s m. counts-are s (below-in (p .S) s m))) ∙ keep-below c (p .S) c-low)
@@ -492,7 +534,10 @@ module _ (p : Params) (r : Ranged p) (v : View) (sh : Shaped p v) (acc : Accepte
         tog : (d z : ℕ) → d < p .N → z < p .Z → Dec (z0 ≡ z) → Dec (g ≡ z) → eqb (pointerAt vc d z) 0 ≡ eqb (pointerAt vc 0 z) 0
         tog d z hd hz (yes a) b = subst (λ (n : ℕ). eqb (pointerAt vc d n) 0 ≡ eqb (pointerAt vc 0 n) 0) a (ap (λ (n : ℕ). eqb n 0) (new-pointer d hd ∙ sym (new-pointer 0 h0)))
         tog d z hd hz (no a) (yes b) = subst (λ (n : ℕ). eqb (pointerAt vc d n) 0 ≡ eqb (pointerAt vc 0 n) 0) b (ap (λ (n : ℕ). eqb n 0) (old-pointer d hd ∙ sym (old-pointer 0 h0)))
-        tog d z hd hz (no a) (no b) = ap (λ (n : ℕ). eqb n 0) (sym (zones-pointer p r va vc z (same-else z hz a b) d hd)) ∙ drop-tidy p r v sh acc .together d z hd hz ∙ ap (λ (n : ℕ). eqb n 0) (zones-pointer p r va vc z (same-else z hz a b) 0 h0)
+        tog d z hd hz (no a) (no b) =
+            ap (λ (n : ℕ). eqb n 0) (sym (zones-pointer p r va vc z (same-else z hz a b) d hd))
+            ∙ drop-tidy p r v sh acc .together d z hd hz
+            ∙ ap (λ (n : ℕ). eqb n 0) (zones-pointer p r va vc z (same-else z hz a b) 0 h0)
 
         less : (z : ℕ) → z < p .Z → (z ≡ z0) ⊎ ((keeps! z ≡ true) × ((z0 ≡ z → ⊥) × (g ≡ z → ⊥))) → headerCopied (headerAt vc 0 z) < headerSerial (headerAt vc 0 z)
         less z hz (inl e) = subst (λ (n : ℕ). headerCopied (headerAt vc 0 n) < headerSerial (headerAt vc 0 n)) (sym e) (let a = serial-new in let b = copied-new in let d = serial-g-low in omega arith)
@@ -508,13 +553,27 @@ module _ (p : Params) (r : Ranged p) (v : View) (sh : Shaped p v) (acc : Accepte
         new-is : (y : ℕ) → y ≡ z0 → headerSerial (headerAt vc 0 y) ≡ sn
         new-is y e = ap (λ (n : ℕ). headerSerial (headerAt vc 0 n)) e ∙ serial-new
 
-        once : (y z : ℕ) → y < p .Z → z < p .Z → headerSerial (headerAt vc 0 y) ≡ headerSerial (headerAt vc 0 z) → (y ≡ z0) ⊎ ((keeps! y ≡ true) × ((z0 ≡ y → ⊥) × (g ≡ y → ⊥))) → (z ≡ z0) ⊎ ((keeps! z ≡ true) × ((z0 ≡ z → ⊥) × (g ≡ z → ⊥))) → y ≡ z
+        once :
+            (y z : ℕ)
+            → y < p .Z
+            → z < p .Z
+            → headerSerial (headerAt vc 0 y) ≡ headerSerial (headerAt vc 0 z)
+            → (y ≡ z0) ⊎ ((keeps! y ≡ true) × ((z0 ≡ y → ⊥) × (g ≡ y → ⊥)))
+            → (z ≡ z0) ⊎ ((keeps! z ≡ true) × ((z0 ≡ z → ⊥) × (g ≡ z → ⊥)))
+            → y ≡ z
         once y z hy hz e (inl a) (inl b) = a ∙ sym b
         once y z hy hz e (inl a) (inr (k, (m, n))) = absurd (let w = new-is y a in let l = old-low z hz k m n in let bad : ⊥ = omega arith in bad)
         once y z hy hz e (inr (k, (m, n))) (inl b) = absurd (let w = new-is z b in let l = old-low y hy k m n in let bad : ⊥ = omega arith in bad)
         once y z hy hz e (inr (k, (m, n))) (inr (k2, (m2, n2))) = kept-once p r v sh acc y z hy hz k k2 (ap headerSerial (hdr! y hy k m n) ∙ e ∙ ap headerSerial (sym (hdr! z hz k2 m2 n2)))
 
-        nc : (y z : ℕ) → y < p .Z → z < p .Z → headerCopied (headerAt vc 0 y) ≡ headerSerial (headerAt vc 0 z) → (y ≡ z0) ⊎ ((keeps! y ≡ true) × ((z0 ≡ y → ⊥) × (g ≡ y → ⊥))) → (z ≡ z0) ⊎ ((keeps! z ≡ true) × ((z0 ≡ z → ⊥) × (g ≡ z → ⊥))) → ⊥
+        nc :
+            (y z : ℕ)
+            → y < p .Z
+            → z < p .Z
+            → headerCopied (headerAt vc 0 y) ≡ headerSerial (headerAt vc 0 z)
+            → (y ≡ z0) ⊎ ((keeps! y ≡ true) × ((z0 ≡ y → ⊥) × (g ≡ y → ⊥)))
+            → (z ≡ z0) ⊎ ((keeps! z ≡ true) × ((z0 ≡ z → ⊥) × (g ≡ z → ⊥)))
+            → ⊥
         nc y z hy hz e (inl a) (inl b) =
             let w = new-is z b in
             let f : headerCopied (headerAt vc 0 y) ≡ headerSerial (headerAt v 0 g) = ap (λ (n : ℕ). headerCopied (headerAt vc 0 n)) a ∙ copied-new in
@@ -537,4 +596,7 @@ module _ (p : Params) (r : Ranged p) (v : View) (sh : Shaped p v) (acc : Accepte
       where
         sealed! : (z : ℕ) → z < p .Z → (z ≡ z0 → ⊥) → (z ≡ z0) ⊎ ((keeps! z ≡ true) × ((z0 ≡ z → ⊥) × (g ≡ z → ⊥))) → SealedAll p vc z
         sealed! z hz n (inl e) = absurd (n e)
-        sealed! z hz n (inr (k, (a, b))) = λ d hd. sym (zones-pointer p r va vc z (same-else z hz a b) d hd) ∙ sym (zones-pointer p r v va z (drop-same p r v sh acc z hz k) d hd) ∙ sealed-full p v z (oth z hz k (λ q. b (sym q))) d hd
+        sealed! z hz n (inr (k, (a, b))) =
+            λ d hd. sym (zones-pointer p r va vc z (same-else z hz a b) d hd)
+            ∙ sym (zones-pointer p r v va z (drop-same p r v sh acc z hz k) d hd)
+            ∙ sealed-full p v z (oth z hz k (λ q. b (sym q))) d hd

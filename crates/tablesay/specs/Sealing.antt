@@ -12,7 +12,8 @@ use lib.ListN.{length, getD, take, drop, length-take, length-drop, length-map}
 use lib.Seq.{getD-take, getD-drop}
 use Rattle.defs.specs.declared.Params.{Params}
 use Rattle.defs.specs.Bytes.{part}
-use Rattle.defs.specs.Drives.{Chunk, mkChunk, noChunk, Zone, View, zoneAt, pointerAt, chunkAt, Store, storeView, storeAll, zoneOn, sealedIn, dataStored, blocksOf, sparesOf, recordIn, footersOf, zeroSpare, footerStores}
+use Rattle.defs.specs.Drives.{Chunk, mkChunk, noChunk, Zone, View, zoneAt, pointerAt, chunkAt, Store, storeView, storeAll, zoneOn, sealedIn, dataStored}
+use Rattle.defs.specs.Drives.{blocksOf, sparesOf, recordIn, footersOf, zeroSpare, footerStores}
 use Rattle.defs.specs.Drives.Store.{put}
 use Rattle.defs.specs.Landing.{sealStores}
 use Rattle.defs.specs.Layout.{recordOf, footerBlock, footerRecord}
@@ -37,9 +38,15 @@ use Rattle.tablesay.specs.Zones.{Bytes, Sound, ZoneOk, Shaped, zoneStore
 
 -- a list of chunks for each drive, in the zone of one segment
 pub hits-each : (p : Params) (e y z : ℕ) (f : ℕ → List Chunk) → e < p .N → hits e y (flat (λ d. map (putAt d z) (f d)) (drivesOf p)) ≡ cond (eqb z y) (map (putAt e z) (f e)) []
-hits-each p e y z f he = hits-flat e y (λ d. map (putAt d z) (f d)) (drivesOf p) ∙ as! (flat-cong (λ d. hits e y (map (putAt d z) (f d))) (λ d. cond (eqb d e && eqb z y) (map (putAt d z) (f d)) []) (below (p .N)) (λ d m. hits-puts e y d z (f d)) ∙ go (test (eqb z y)))
+hits-each p e y z f he =
+    hits-flat e y (λ d. map (putAt d z) (f d)) (drivesOf p)
+    ∙ as! (flat-cong (λ d. hits e y (map (putAt d z) (f d))) (λ d. cond (eqb d e && eqb z y) (map (putAt d z) (f d)) []) (below (p .N))
+    (λ d m. hits-puts e y d z (f d))
+    ∙ go (test (eqb z y)))
   where
-    as! : flat (λ d. hits e y (map (putAt d z) (f d))) (below (p .N)) ≡ cond (eqb z y) (map (putAt e z) (f e)) [] → flat (λ d. hits e y (map (putAt d z) (f d))) (drivesOf p) ≡ cond (eqb z y) (map (putAt e z) (f e)) []
+    as! :
+        flat (λ d. hits e y (map (putAt d z) (f d))) (below (p .N)) ≡ cond (eqb z y) (map (putAt e z) (f e)) []
+        → flat (λ d. hits e y (map (putAt d z) (f d))) (drivesOf p) ≡ cond (eqb z y) (map (putAt e z) (f e)) []
     as! q = unfold drivesOf in q
 
     and-true! : (b : Bool) → b && true ≡ b
@@ -47,10 +54,13 @@ hits-each p e y z f he = hits-flat e y (λ d. map (putAt d z) (f d)) (drivesOf p
     and-true! false = refl
 
     go : Test (eqb z y) → flat (λ d. cond (eqb d e && eqb z y) (map (putAt d z) (f d)) []) (below (p .N)) ≡ cond (eqb z y) (map (putAt e z) (f e)) []
-    go (no! q) = flat-nothing (λ d. cond (eqb d e && eqb z y) (map (putAt d z) (f d)) []) (below (p .N)) (λ d m. cond-false (eqb d e && eqb z y) (map (putAt d z) (f d)) [] (and-false-right (eqb d e) (eqb z y) q))
+    go (no! q) =
+        flat-nothing (λ d. cond (eqb d e && eqb z y) (map (putAt d z) (f d)) []) (below (p .N))
+        (λ d m. cond-false (eqb d e && eqb z y) (map (putAt d z) (f d)) [] (and-false-right (eqb d e) (eqb z y) q))
         ∙ sym (cond-false (eqb z y) (map (putAt e z) (f e)) [] q)
     go (yes! q) =
-        flat-cong (λ d. cond (eqb d e && eqb z y) (map (putAt d z) (f d)) []) (λ d. cond (eqb d e) (map (putAt d z) (f d)) []) (below (p .N)) (λ d m. ap (λ (b : Bool). cond b (map (putAt d z) (f d)) []) (ap (λ (b : Bool). eqb d e && b) q ∙ and-true! (eqb d e)))
+        flat-cong (λ d. cond (eqb d e && eqb z y) (map (putAt d z) (f d)) []) (λ d. cond (eqb d e) (map (putAt d z) (f d)) []) (below (p .N))
+        (λ d m. ap (λ (b : Bool). cond b (map (putAt d z) (f d)) []) (ap (λ (b : Bool). eqb d e && b) q ∙ and-true! (eqb d e)))
         ∙ ap (flat (λ d. cond (eqb d e) (map (putAt d z) (f d)) [])) (sym (keep-all (λ d. true) (below (p .N)) (λ d m. refl)))
         ∙ flat-one (λ d. true) (λ d. map (putAt d z) (f d)) e (p .N) he
         ∙ sym (cond-true (eqb z y) (map (putAt e z) (f e)) [] q)
@@ -77,7 +87,12 @@ unfoldable pub footerChunks : Params → Zone → ℕ → ℕ → List Chunk
 footerChunks p q i n = map (λ j. mkChunk (footerBlock p (sparesIn p q) j) zeroSpare) (upFrom i n)
 
 pub footer-puts : (p : Params) (d z : ℕ) (q : Zone) (i n : ℕ) → footerStores p d z q i n ≡ map (putAt d z) (footerChunks p q i n)
-footer-puts p d z q i n = as! ∙ map-map (λ (b : List ℕ). put d z b zeroSpare) (footerBlock p (sparesIn p q)) (upFrom i n) ∙ plain ∙ sym (map-map (putAt d z) (λ j. mkChunk (footerBlock p (sparesIn p q) j) zeroSpare) (upFrom i n)) ∙ bs!
+footer-puts p d z q i n =
+    as!
+    ∙ map-map (λ (b : List ℕ). put d z b zeroSpare) (footerBlock p (sparesIn p q)) (upFrom i n)
+    ∙ plain
+    ∙ sym (map-map (putAt d z) (λ j. mkChunk (footerBlock p (sparesIn p q) j) zeroSpare) (upFrom i n))
+    ∙ bs!
   where
     as! : footerStores p d z q i n ≡ map (λ (b : List ℕ). put d z b zeroSpare) (map (footerBlock p (sparesIn p q)) (upFrom i n))
     as! = unfold footerStores footersOf sparesIn in refl
@@ -124,14 +139,21 @@ module _ (p : Params) (r : Ranged p) (q : Zone) (k : ZoneOk p q) where
       as! e = unfold footerChunks in e
 
   pub footer-chunk : (i n j : ℕ) → j < n → getD (footerChunks p q i n) j noChunk ≡ mkChunk (footerBlock p (sparesIn p q) (i + j)) zeroSpare
-  footer-chunk i n j h = as! (getD-map (λ j. mkChunk (footerBlock p (sparesIn p q) j) zeroSpare) (upFrom i n) j noChunk 0 (subst (λ (x : ℕ). j < x) (sym (length-upFrom i n)) h) ∙ ap (λ (x : ℕ). mkChunk (footerBlock p (sparesIn p q) x) zeroSpare) (getD-upFrom i n j 0 h))
+  footer-chunk i n j h =
+      as! (getD-map (λ j. mkChunk (footerBlock p (sparesIn p q) j) zeroSpare) (upFrom i n) j noChunk 0
+      (subst (λ (x : ℕ). j < x) (sym (length-upFrom i n)) h)
+      ∙ ap (λ (x : ℕ). mkChunk (footerBlock p (sparesIn p q) x) zeroSpare) (getD-upFrom i n j 0 h))
     where
-      as! : getD (map (λ j. mkChunk (footerBlock p (sparesIn p q) j) zeroSpare) (upFrom i n)) j noChunk ≡ mkChunk (footerBlock p (sparesIn p q) (i + j)) zeroSpare → getD (footerChunks p q i n) j noChunk ≡ mkChunk (footerBlock p (sparesIn p q) (i + j)) zeroSpare
+      as! :
+          getD (map (λ j. mkChunk (footerBlock p (sparesIn p q) j) zeroSpare) (upFrom i n)) j noChunk ≡ mkChunk (footerBlock p (sparesIn p q) (i + j))
+          zeroSpare
+          → getD (footerChunks p q i n) j noChunk ≡ mkChunk (footerBlock p (sparesIn p q) (i + j)) zeroSpare
       as! e = unfold footerChunks in e
 
   pub footer-rooms : (d z i n : ℕ) → q .pointer + n ≤ capacity p → Room p (q .pointer) (map (putAt d z) (footerChunks p q i n))
   footer-rooms d z i n h = room-puts p d z (q .pointer) (footerChunks p q i n) (let e = footers-count i n in omega arith)
-      (λ j l. subst (λ (c : Chunk). Sound p (q .pointer + j) c) (sym (footer-chunk i n j (subst (λ (x : ℕ). j < x) (footers-count i n) l))) (footer-sound p r (q .pointer + j) (sparesIn p q) (i + j) spares-long spares-bytes))
+      (λ j l. subst (λ (c : Chunk). Sound p (q .pointer + j) c) (sym (footer-chunk i n j (subst (λ (x : ℕ). j < x) (footers-count i n) l)))
+      (footer-sound p r (q .pointer + j) (sparesIn p q) (i + j) spares-long spares-bytes))
 
   -- all footers behind the data: records by footer are those by spare
   pub footer-records : (d z : ℕ) → q .pointer ≡ 1 + p .S → (x : ℕ) → x < p .S → recordIn p true (putAll d z (footerChunks p q 0 (footers p)) q) x ≡ recordIn p false q x
@@ -167,7 +189,9 @@ module _ (p : Params) (r : Ranged p) (v : View) (sh : Shaped p v) (z : ℕ) (hz 
 
   stores-are : ss ≡ flat (λ d. map (putAt d z) (ft d)) (drivesOf p)
   unfolding ft
-  stores-are = as! (flat-cong (λ d. footerStores p d z (zoneAt v d z) 0 (footers p)) (λ d. map (putAt d z) (footerChunks p (zoneAt v d z) 0 (footers p))) (drivesOf p) (λ d m. footer-puts p d z (zoneAt v d z) 0 (footers p)))
+  stores-are =
+      as! (flat-cong (λ d. footerStores p d z (zoneAt v d z) 0 (footers p)) (λ d. map (putAt d z) (footerChunks p (zoneAt v d z) 0 (footers p)))
+      (drivesOf p) (λ d m. footer-puts p d z (zoneAt v d z) 0 (footers p)))
     where
       as! : flat (λ d. footerStores p d z (zoneAt v d z) 0 (footers p)) (drivesOf p) ≡ flat (λ d. map (putAt d z) (footerChunks p (zoneAt v d z) 0 (footers p))) (drivesOf p)
           → sealStores p v z ≡ flat (λ d. map (putAt d z) (footerChunks p (zoneAt v d z) 0 (footers p))) (drivesOf p)
@@ -195,7 +219,9 @@ module _ (p : Params) (r : Ranged p) (v : View) (sh : Shaped p v) (z : ℕ) (hz 
 
   pub seal-pointer : (e : ℕ) → e < p .N → pointerAt u e z ≡ capacity p
   seal-pointer e he = as! (ap (λ (q : Zone). q .pointer) (seal-zone e he) ∙ puts-pointer e z (footerChunks p (zoneAt v e z) 0 (footers p)) (zoneAt v e z)
-      ∙ (let a = zone-pointer e he in let b = footers-count p r (zoneAt v e z) (sh .zone-ok e z he hz) 0 (footers p) in let c = capacity-is p r in let x : zoneAt v e z .pointer + length (footerChunks p (zoneAt v e z) 0 (footers p)) ≡ capacity p = omega arith in x))
+      ∙ (let a = zone-pointer e he in let b = footers-count p r (zoneAt v e z) (sh .zone-ok e z he hz) 0 (footers p) in let c = capacity-is p r in let
+      x : zoneAt v e z .pointer + length (footerChunks p (zoneAt v e z) 0 (footers p))
+      ≡ capacity p = omega arith in x))
     where
       as! : zoneAt u e z .pointer ≡ capacity p → pointerAt u e z ≡ capacity p
       as! q = unfold pointerAt in q
@@ -212,7 +238,9 @@ module _ (p : Params) (r : Ranged p) (v : View) (sh : Shaped p v) (z : ℕ) (hz 
 
       go : Dec (z ≡ y) → Room p (pointerAt v e y) (cond (eqb z y) (map (putAt e z) (ft e)) [])
       go (no n) = subst (λ (l : List Store). Room p (pointerAt v e y) l) (sym (cond-false (eqb z y) (map (putAt e z) (ft e)) [] (ne-eqb z y n))) tt
-      go (yes q) = subst (λ (l : List Store). Room p (pointerAt v e y) l) (sym (cond-true (eqb z y) (map (putAt e z) (ft e)) [] (eq-eqb z y q))) (subst (λ (x : ℕ). Room p (pointerAt v e x) (map (putAt e z) (ft e))) q fit)
+      go (yes q) =
+          subst (λ (l : List Store). Room p (pointerAt v e y) l) (sym (cond-true (eqb z y) (map (putAt e z) (ft e)) [] (eq-eqb z y q)))
+          (subst (λ (x : ℕ). Room p (pointerAt v e x) (map (putAt e z) (ft e))) q fit)
 
   pub seal-within : (s : Store) → In s ss → Within p s
   unfolding ft
@@ -232,7 +260,10 @@ module _ (p : Params) (r : Ranged p) (v : View) (sh : Shaped p v) (z : ℕ) (hz 
       h0 = omega (arith, r .drives-low)
 
       head : headerAt v 0 z ≡ headerAt u 0 z
-      head = as! (sym (ap (λ (q : Zone). getD (q .blocks) 0 noChunk .block) (seal-zone 0 h0) ∙ ap (λ (c : Chunk). c .block) (puts-old 0 z (footerChunks p (zoneAt v 0 z) 0 (footers p)) (zoneAt v 0 z) 0 (let a = zone-pointer 0 h0 in omega arith))))
+      head =
+          as! (sym (ap (λ (q : Zone). getD (q .blocks) 0 noChunk .block) (seal-zone 0 h0)
+          ∙ ap (λ (c : Chunk). c .block)
+          (puts-old 0 z (footerChunks p (zoneAt v 0 z) 0 (footers p)) (zoneAt v 0 z) 0 (let a = zone-pointer 0 h0 in omega arith))))
         where
           as! : getD (zoneAt v 0 z .blocks) 0 noChunk .block ≡ getD (zoneAt u 0 z .blocks) 0 noChunk .block → headerAt v 0 z ≡ headerAt u 0 z
           as! e = unfold headerAt chunkAt zoneOn in e
@@ -266,4 +297,6 @@ module _ (p : Params) (r : Ranged p) (v : View) (sh : Shaped p v) (z : ℕ) (hz 
       go q q2 a b f = unfold recordsIn in
           let n1 : dataStored p q ≡ p .S = (unfold dataStored in (let z : min (q .pointer - 1) (p .S) ≡ p .S = omega arith in z)) in
           let n2 : dataStored p q2 ≡ p .S = (unfold dataStored in (let c = capacity-over p r in let z : min (q2 .pointer - 1) (p .S) ≡ p .S = omega arith in z)) in
-          ap (λ (n : ℕ). map (recordIn p false q) (below n)) n1 ∙ map-cong (recordIn p false q) (recordIn p true q2) (below (p .S)) (λ x m. f x (below-in (p .S) x m)) ∙ ap (λ (n : ℕ). map (recordIn p true q2) (below n)) (sym n2)
+          ap (λ (n : ℕ). map (recordIn p false q) (below n)) n1
+          ∙ map-cong (recordIn p false q) (recordIn p true q2) (below (p .S)) (λ x m. f x (below-in (p .S) x m))
+          ∙ ap (λ (n : ℕ). map (recordIn p true q2) (below n)) (sym n2)

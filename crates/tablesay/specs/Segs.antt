@@ -13,7 +13,8 @@ use Rattle.defs.specs.Layout.{dataDrive, dataDrives, headerSerial, headerCopied
 use Rattle.defs.specs.Lists.{below, all, keep, indexOf, isIn}
 use Rattle.defs.specs.Params.{dataCount, drivesOf, present}
 use Rattle.defs.specs.Rank.{Cand}
-use Rattle.defs.specs.Segments.{lowDrive, headerAt, leftBy1, isCopy, remaining, Segment, recordsIn, segmentOf, segments, recsOn, offsetOn, hasChunk, counts, counted, storedRec, candOf, segmentCands, candidates}
+use Rattle.defs.specs.Segments.{lowDrive, headerAt, leftBy1, isCopy, remaining, Segment, recordsIn, segmentOf, segments, recsOn, offsetOn, hasChunk, counts}
+use Rattle.defs.specs.Segments.{counted, storedRec, candOf, segmentCands, candidates}
 use Rattle.laws.specs.Ranges.{length-below, getD-map-below}
 use Rattle.tablesay.specs.Members.{In, in-map, map-in, in-flat, flat-in, in-keep, keep-in, in-any, in-below, below-in, in-getD, index-below, index-passes, index-first, index-is}
 use Rattle.tablesay.specs.Tests.{not-so, cond-true, cond-false}

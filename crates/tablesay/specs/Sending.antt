@@ -163,7 +163,12 @@ module _ (p : Params) (r : Ranged p) (v : View) (sh : Shaped p v) (st : State) (
         (or-left x y q1, (or-right x y q1, or-right (x || y) z q))
       where
         inner : leb slotCount (length (inFlight st)) || (mustOpen p st && not (isNil (inFlight st))) || (not (mustOpen p st) && any (otherGroup p st) (inFlight st)) ≡ false
-        inner = sym (ap (λ (c : Bool). not c && (leb slotCount (length (inFlight st)) || (mustOpen p st && not (isNil (inFlight st))) || (not (mustOpen p st) && any (otherGroup p st) (inFlight st)))) nf) ∙ (unfold mustWait in nw)
+        inner =
+            sym (ap (λ (c : Bool). not c
+            && (leb slotCount (length (inFlight st))
+            || (mustOpen p st && not (isNil (inFlight st)))
+            || (not (mustOpen p st) && any (otherGroup p st) (inFlight st)))) nf)
+            ∙ (unfold mustWait in nw)
 
     i : ℕ
     i = freeSlot st
@@ -192,7 +197,11 @@ module _ (p : Params) (r : Ranged p) (v : View) (sh : Shaped p v) (st : State) (
         (no-stores p v st su (placed p (beginStripe st (freeSlot st)) fl (freeSlot st) a t w b .inflight) k1 k2 k3 (missing-is (freeSlot st)))))
       where
         open-parts : mustOpen p st ≡ false → (st .opened ≡ 0 → ⊥) × (st .next ≡ p .S → ⊥)
-        open-parts q = unfold mustOpen in (eqb-false (st .opened) 0 (or-left (eqb (st .opened) 0) (eqb (st .next) (p .S)) q), eqb-false (st .next) (p .S) (or-right (eqb (st .opened) 0) (eqb (st .next) (p .S)) q))
+        open-parts q =
+            unfold mustOpen in (
+              eqb-false (st .opened) 0 (or-left (eqb (st .opened) 0) (eqb (st .next) (p .S)) q),
+              eqb-false (st .next) (p .S) (or-right (eqb (st .opened) 0) (eqb (st .next) (p .S)) q),
+            )
 
         opened-at : (o : ℕ) → st .opened ≡ o → (st .opened ≡ 0 → ⊥) → (z : ℕ) × (st .opened ≡ suc z)
         opened-at zero e n = absurd (n e)
@@ -228,7 +237,9 @@ module _ (p : Params) (r : Ranged p) (v : View) (sh : Shaped p v) (st : State) (
         let u = storeAll storeView (headerStores p g (suc s) 0) v in
         let ku = head-healthy p r v sh s g (h .tidy) hg em fit st h refl shut! none in
         let ko = open-ok g (suc s) hg in
-        let (k1, k2, k3) = begins-in su u g ku ko (opened-is g (suc s)) (subst (λ (x : ℕ). x < p .S) (sym (next-is g (suc s))) (r .stripes-low)) (freeSlot st) (free! .0) (free-same g (suc s) (freeSlot st) ∙ free! .1)
+        let (k1, k2, k3) =
+        begins-in su u g ku ko (opened-is g (suc s)) (subst (λ (x : ℕ). x < p .S) (sym (next-is g (suc s))) (r .stripes-low)) (freeSlot st)
+        (free! .0) (free-same g (suc s) (freeSlot st) ∙ free! .1)
         (λ j hj fj. clash fj (free-same g (suc s) j ∙ none j hj)) in
         let sw = addEntry (beginStripe su (freeSlot st)) (freeSlot st) a t w in
         subst (λ (x : State). SentOk p v st x (sent .stores) (sent .inflight)) (sym (state-is mo))
@@ -283,7 +294,8 @@ module _ (p : Params) (r : Ranged p) (v : View) (sh : Shaped p v) (st : State) (
           missing-one = so .missing-one;
           opened-low = hg;
           next-low = omega arith;
-          slots-ok = λ i h. record { stripe-ok = so .slots-ok i h .stripe-ok; filled-ok = so .slots-ok i h .filled-ok; writes-ok = so .slots-ok i h .writes-ok; landed-ok = so .slots-ok i h .landed-ok };
+          slots-ok =
+              λ i h. record { stripe-ok = so .slots-ok i h .stripe-ok; filled-ok = so .slots-ok i h .filled-ok; writes-ok = so .slots-ok i h .writes-ok; landed-ok = so .slots-ok i h .landed-ok };
           offsets-low = so .offsets-low;
         }
 

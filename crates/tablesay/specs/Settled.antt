@@ -65,7 +65,9 @@ module _ (p : Params) (r : Ranged p) (v : View) (serial : ℕ) (t : Tidy p v ser
   pub remains-used : (g : ℕ) → g < p .Z → remains p v 0 g ≡ usedAt v g
   unfolding remains zoneOn
   remains-used g hg = same-test (all (λ d. not (eqb (pointerAt v d g) 0)) (present p 0) && not (isCopy v (lowDrive p 0) (leftBy1 p v 0) g)) (usedAt v g)
-      (λ q. all-in (λ d. not (eqb (pointerAt v d g) 0)) (present p 0) (and-left (all (λ d. not (eqb (pointerAt v d g) 0)) (present p 0)) (not (isCopy v (lowDrive p 0) (leftBy1 p v 0) g)) q) 0 (present-all p 0 zero-low))
+      (λ q. all-in (λ d. not (eqb (pointerAt v d g) 0)) (present p 0)
+      (and-left (all (λ d. not (eqb (pointerAt v d g) 0)) (present p 0)) (not (isCopy v (lowDrive p 0) (leftBy1 p v 0) g)) q) 0
+      (present-all p 0 zero-low))
       (λ q. and-both (all (λ d. not (eqb (pointerAt v d g) 0)) (present p 0)) (not (isCopy v (lowDrive p 0) (leftBy1 p v 0) g))
       (in-all (λ d. not (eqb (pointerAt v d g) 0)) (present p 0) (λ d m. used-all d g (present-in p 0 d m .0) hg q)) (ap not (no-copies g hg q)))
 
@@ -101,7 +103,9 @@ module _ (p : Params) (r : Ranged p) (v : View) (serial : ℕ) (t : Tidy p v ser
         ∙ ap (λ (x : ℕ). offsetOn (segmentOf p v 0 (k .of)) x (k .stripe)) (sym its-drive)
 
     pub chunk-of-it : ChunkAt p v 0 (k .of) (c .drive) (k .stripe)
-    chunk-of-it = chunk-at p v 0 (k .of) (c .drive) (k .stripe) its-drive-low (isIn-empty (c .drive)) (counts-in p 0 (segmentOf p v 0 (k .of)) (k .stripe) (c .drive) (k .it-counts) its-drive-low (isIn-empty (c .drive)))
+    chunk-of-it =
+        chunk-at p v 0 (k .of) (c .drive) (k .stripe) its-drive-low (isIn-empty (c .drive))
+        (counts-in p 0 (segmentOf p v 0 (k .of)) (k .stripe) (c .drive) (k .it-counts) its-drive-low (isIn-empty (c .drive)))
 
     pub stripe-at-offset : recordIn p (sealedIn p v 0 (k .of)) (zoneAt v (c .drive) (k .of)) (c .offset) .stripe ≡ k .stripe
     stripe-at-offset = ap (λ (x : ℕ). recordIn p (sealedIn p v 0 (k .of)) (zoneAt v (c .drive) (k .of)) x .stripe) its-offset ∙ chunk-of-it .its-stripe
@@ -111,7 +115,10 @@ module _ (p : Params) (r : Ranged p) (v : View) (serial : ℕ) (t : Tidy p v ser
   cand-same c d k j e f g =
       let es : k .stripe ≡ j .stripe = sym (stripe-at-offset c k)
       ∙ (λ i. recordIn p (sealedIn p v 0 (e i)) (zoneAt v (f i) (e i)) (g i) .stripe) ∙ stripe-at-offset d j in
-      let ep : k .position ≡ j .position = sym (position-drive p (k .stripe) (k .position)) ∙ ap₂ (dataPosition p) es (sym (its-drive c k) ∙ f ∙ its-drive d j) ∙ position-drive p (j .stripe) (j .position) in
+      let ep : k .position ≡ j .position =
+      sym (position-drive p (k .stripe) (k .position))
+      ∙ ap₂ (dataPosition p) es (sym (its-drive c k) ∙ f ∙ its-drive d j)
+      ∙ position-drive p (j .stripe) (j .position) in
       k .it-is ∙ (λ i. candOf p 0 (segmentOf p v 0 (e i)) (es i) (dataDrive p (es i) (ep i))) ∙ sym (j .it-is)
 
   pub cands-apart : Apart (candidates p 0 (segments p v 0))

@@ -138,10 +138,16 @@ lost-start p k m d sh b hd =
     no-stores : (gs : List Segment) → eqb (named d) 0 ≡ false → restartPlan p (seen p k) d gs (m .inflight) .stores ≡ []
     no-stores gs q = unfold restartPlan restartStores in cond-false (eqb (named d) 0) (dropStores p gs ++ flat (mendStores p gs) (unsealed gs)) [] q
 
-    the-memory : (gs : List Segment) → restartPlan p (seen p k) d gs (m .inflight) .stores ≡ [] → restartPlan p (seen p k) d gs (m .inflight) .memory ≡ restartMemory p (seen p k) (named d) (m .inflight)
+    the-memory :
+        (gs : List Segment)
+        → restartPlan p (seen p k) d gs (m .inflight) .stores ≡ []
+        → restartPlan p (seen p k) d gs (m .inflight) .memory ≡ restartMemory p (seen p k) (named d) (m .inflight)
     the-memory gs q = after gs ∙ ap (λ (x : List Store). restartMemory p (storeAll storeView x (seen p k)) (named d) (m .inflight)) q ∙ none-made
       where
-        after : (gs : List Segment) → restartPlan p (seen p k) d gs (m .inflight) .memory ≡ restartMemory p (storeAll storeView (restartPlan p (seen p k) d gs (m .inflight) .stores) (seen p k)) (named d) (m .inflight)
+        after :
+            (gs : List Segment)
+            → restartPlan p (seen p k) d gs (m .inflight) .memory ≡ restartMemory p
+            (storeAll storeView (restartPlan p (seen p k) d gs (m .inflight) .stores) (seen p k)) (named d) (m .inflight)
         after gs = unfold restartPlan in refl
 
         none-made : restartMemory p (storeAll storeView [] (seen p k)) (named d) (m .inflight) ≡ restartMemory p (seen p k) (named d) (m .inflight)

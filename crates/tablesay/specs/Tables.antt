@@ -229,7 +229,8 @@ the-row {B} h f z i (suc n) a b = go (ℕ-discrete i z) (test (h i)) (the-row h 
     go (yes e) (no! q) ih =
         let t : h z ≡ false = ap h (sym e) ∙ q in
         rw (q, t) (one-row h f z (suc i) n (omega arith))
-    go (no e) (yes! q) ih = rw q (ap (λ (x : List B). x ++ flat (λ g. cond (eqb g z) (f g) []) (keep h (upFrom (suc i) n))) (cond-false (eqb i z) (f i) [] (ne-eqb i z e)) ∙ ih (omega arith) (omega arith))
+    go (no e) (yes! q) ih =
+        rw q (ap (λ (x : List B). x ++ flat (λ g. cond (eqb g z) (f g) []) (keep h (upFrom (suc i) n))) (cond-false (eqb i z) (f i) [] (ne-eqb i z e)) ∙ ih (omega arith) (omega arith))
     go (no e) (no! q) ih = rw q (ih (omega arith) (omega arith))
 
 pub row-is : (p : Params) (v : View) (gone d z : ℕ) → z < p .Z → rowOf p (segments p v gone) d z ≡ cond (remains p v gone z) (recsOn (segmentOf p v gone z) d) []

@@ -61,7 +61,9 @@ restart-finished p k m d n sh q = go (restart-ends p k m d n)
 
     go : Ended p k m (startChecks p k m d) (startPlan p k m d) (callDisk p k m (restart d n)) → Run p (callDisk p k m (restart d n) .drives) (callDisk p k m (restart d n) .memory)
     go (ended-refused a e f g h) = clash q (ap finished f ∙ refused-unfinished a (refusal-kind (startChecks p k m d) a e))
-    go (ended-done c f g h) = subst (λ (x : Disk). Run p x (callDisk p k m (restart d n) .memory)) (sym g) (subst (λ (x : Memory). Run p (storeAll (storeDisk p) (startPlan p k m d .stores) k) x) (sym h) (started p k m d sh (begins p k m d c)))
+    go (ended-done c f g h) =
+        subst (λ (x : Disk). Run p x (callDisk p k m (restart d n) .memory)) (sym g)
+        (subst (λ (x : Memory). Run p (storeAll (storeDisk p) (startPlan p k m d .stores) k) x) (sym h) (started p k m d sh (begins p k m d c)))
     go (ended-cut c f) = clash q (ap finished f ∙ cut-unfinished)
 
 -- ---- one call
@@ -90,7 +92,11 @@ well-rebuild p k m u we d n = go (ended p k m checks plan n [])
         bad (parts t)
       where
         parts : namesMissing p (m .state) d ≡ true → (d < p .N) × (m .state .missing ≡ named d)
-        parts t = unfold namesMissing in (ltb-true d (p .N) (and-left (ltb d (p .N)) (eqb (m .state .missing) (named d)) t), eqb-true (m .state .missing) (named d) (and-right (ltb d (p .N)) (eqb (m .state .missing) (named d)) t))
+        parts t =
+            unfold namesMissing in (
+              ltb-true d (p .N) (and-left (ltb d (p .N)) (eqb (m .state .missing) (named d)) t),
+              eqb-true (m .state .missing) (named d) (and-right (ltb d (p .N)) (eqb (m .state .missing) (named d)) t),
+            )
 
         bad : (d < p .N) × (m .state .missing ≡ named d) → X
         bad (hd, e) = clash (eq-eqb (named d) 0 (sym e ∙ we .none-missing)) (named-some p (ranged p (u .base .ranged)) d hd)
@@ -106,7 +112,8 @@ restart-step p k m u d n nc = go (restart-ends p k m d n)
   where
     go : Ended p k m (startChecks p k m d) (startPlan p k m d) (callDisk p k m (restart d n)) → Run p (callDisk p k m (restart d n) .drives) (callDisk p k m (restart d n) .memory)
     go (ended-refused a e f g h) = subst (λ (x : Disk). Run p x (callDisk p k m (restart d n) .memory)) (sym g) (subst (λ (x : Memory). Run p k x) (sym h) u)
-    go (ended-done c f g h) = subst (λ (x : Disk). Run p x (callDisk p k m (restart d n) .memory)) (sym g) (subst (λ (x : Memory). Run p (storeAll (storeDisk p) (startPlan p k m d .stores) k) x) (sym h)
+    go (ended-done c f g h) =
+        subst (λ (x : Disk). Run p x (callDisk p k m (restart d n) .memory)) (sym g) (subst (λ (x : Memory). Run p (storeAll (storeDisk p) (startPlan p k m d .stores) k) x) (sym h)
         (started p k m d (λ w. u .base .shaped) (begins p k m d c)))
     go (ended-cut c f) = clash (ap isCut f ∙ cut-cut) nc
 

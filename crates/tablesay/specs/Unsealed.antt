@@ -59,7 +59,14 @@ keep-full {A} f l e a m = go (test (f a))
 -- which are unsealed: none, or one
 pub data Loose (p : Params) (v : View) : Type 0 where
   loose-none : unsealed (segments p v 0) ≡ [] → ((y : ℕ) → y < p .Z → remains p v 0 y ≡ true → sealedIn p v 0 y ≡ true) → Loose p v
-  loose-one : (g : ℕ) → g < p .Z → remains p v 0 g ≡ true → sealedIn p v 0 g ≡ false → unsealed (segments p v 0) ≡ segmentOf p v 0 g ∷ [] → ((y : ℕ) → y < p .Z → remains p v 0 y ≡ true → (y ≡ g → ⊥) → sealedIn p v 0 y ≡ true) → Loose p v
+  loose-one :
+      (g : ℕ)
+      → g < p .Z
+      → remains p v 0 g ≡ true
+      → sealedIn p v 0 g ≡ false
+      → unsealed (segments p v 0) ≡ segmentOf p v 0 g ∷ []
+      → ((y : ℕ) → y < p .Z → remains p v 0 y ≡ true → (y ≡ g → ⊥) → sealedIn p v 0 y ≡ true)
+      → Loose p v
 
 module _ (p : Params) (r : Ranged p) (v : View) (sh : Shaped p v) (acc : Accepted p v 0) where
   abbrev gs : List Segment
@@ -69,7 +76,9 @@ module _ (p : Params) (r : Ranged p) (v : View) (sh : Shaped p v) (acc : Accepte
   keeps! y = remains p v 0 y
 
   in-unsealed : (y : ℕ) → y < p .Z → keeps! y ≡ true → sealedIn p v 0 y ≡ false → In (segmentOf p v 0 y) (unsealed gs)
-  in-unsealed y hy q ns = as! (in-keep (λ (g : Segment). not (g .full)) (map (segmentOf p v 0) (remaining p v 0)) (segmentOf p v 0 y) (in-map (segmentOf p v 0) (remaining p v 0) y (in-remaining p v 0 y hy q)) (ap not (full-is p v 0 y ∙ ns)))
+  in-unsealed y hy q ns =
+      as! (in-keep (λ (g : Segment). not (g .full)) (map (segmentOf p v 0) (remaining p v 0)) (segmentOf p v 0 y)
+      (in-map (segmentOf p v 0) (remaining p v 0) y (in-remaining p v 0 y hy q)) (ap not (full-is p v 0 y ∙ ns)))
     where
       as! : In (segmentOf p v 0 y) (keep (λ (g : Segment). not (g .full)) (map (segmentOf p v 0) (remaining p v 0))) → In (segmentOf p v 0 y) (unsealed gs)
       as! m = unfold unsealed segments in m
@@ -115,7 +124,10 @@ module _ (p : Params) (r : Ranged p) (v : View) (sh : Shaped p v) (acc : Accepte
           clash (both g ns) (faults-apart p v 0 acc g (in-remaining p v 0 g hg k) .no-clash)
         where
           both : (g : ℕ) → sealedIn p v 0 g ≡ false → clashes gs (segmentOf p v 0 g) ≡ true
-          both g ns = unfold clashes in and-both (not (segmentOf p v 0 g .full)) (leb 2 (length (unsealed gs))) (ap not (full-is p v 0 g ∙ ns)) (le-leb 2 (length (unsealed gs)) (subst (λ (l : List Segment). 2 ≤ length l) (sym e) (let z : 2 ≤ suc (suc (length us)) = omega arith in z)))
+          both g ns =
+              unfold clashes in and-both (not (segmentOf p v 0 g .full)) (leb 2 (length (unsealed gs))) (ap not (full-is p v 0 g ∙ ns))
+              (le-leb 2 (length (unsealed gs))
+              (subst (λ (l : List Segment). 2 ≤ length l) (sym e) (let z : 2 ≤ suc (suc (length us)) = omega arith in z)))
 
   -- ---- the zones of an unsealed segment
 
@@ -148,7 +160,8 @@ module _ (p : Params) (r : Ranged p) (v : View) (sh : Shaped p v) (acc : Accepte
         let k = chunk-at p v 0 g d s hd (isIn-empty d) q in
         let o = offsetOn x d s in
         let l : o < length (rs d) = subst (λ (n : ℕ). o < n) (sym (length-records p false (zoneAt v d g))) (k .stored-there) in
-        subst (λ (n : ℕ). In n (map (λ (y : Rec). y .stripe) (rs d))) (ap (λ (y : Rec). y .stripe) (record-at p false (zoneAt v d g) o (mkRec 0 0 0) (k .stored-there) ∙ sym (by-spare d o)) ∙ k .its-stripe)
+        subst (λ (n : ℕ). In n (map (λ (y : Rec). y .stripe) (rs d)))
+        (ap (λ (y : Rec). y .stripe) (record-at p false (zoneAt v d g) o (mkRec 0 0 0) (k .stored-there) ∙ sym (by-spare d o)) ∙ k .its-stripe)
         (in-map (λ (y : Rec). y .stripe) (rs d) (getD (rs d) o (mkRec 0 0 0)) (in-getD (rs d) o (mkRec 0 0 0) l))
 
     number-has : (d s : ℕ) → d < p .N → In s (numbers d) → (hasChunk x s d ≡ true) × (s < p .S)
@@ -231,7 +244,9 @@ module _ (p : Params) (r : Ranged p) (v : View) (sh : Shaped p v) (acc : Accepte
       stored-are : (d : ℕ) → d < p .N → dataStored p (zoneAt v d g) ≡ c
       stored-are d hd =
           let a : length (numbers d) ≤ c = different-few c (numbers d) (numbers-differ d hd) (λ s m. let (q, h) = number-has d s hd m in chunk-counts d s hd q h) in
-          let b : c ≤ length (numbers d) = holds-many c (numbers d) (λ s h. has-number d s hd (counts-in p 0 x s d (counted-in p 0 x s (subst (λ (l : List ℕ). In s l) (sym first-ones) (in-below c s h)) .1) hd (isIn-empty d))) in
+          let b : c ≤ length (numbers d) =
+          holds-many c (numbers d) (λ s h. has-number d s hd
+          (counts-in p 0 x s d (counted-in p 0 x s (subst (λ (l : List ℕ). In s l) (sym first-ones) (in-below c s h)) .1) hd (isIn-empty d))) in
           let e = numbers-long d in
           omega arith
 

@@ -72,12 +72,19 @@ unfolding keep upFrom consIf firstOr
 none-kept f d i zero h e = refl
 none-kept f d i (suc n) h e = go (f i) e (none-kept f d (suc i) n (omega arith))
   where
-    go : (b : Bool) → firstOr d (consIf b i (keep f (upFrom (suc i) n))) ≡ d → (firstOr d (keep f (upFrom (suc i) n)) ≡ d → keep f (upFrom (suc i) n) ≡ []) → consIf b i (keep f (upFrom (suc i) n)) ≡ []
+    go :
+        (b : Bool)
+        → firstOr d (consIf b i (keep f (upFrom (suc i) n))) ≡ d
+        → (firstOr d (keep f (upFrom (suc i) n)) ≡ d → keep f (upFrom (suc i) n) ≡ [])
+        → consIf b i (keep f (upFrom (suc i) n)) ≡ []
     go true q r = absurd (let z : ⊥ = omega arith in z)
     go false q r = r q
 
 -- and else it is one of them that passes
-first-kept : (f : ℕ → Bool) (d i n : ℕ) → (firstOr d (keep f (upFrom i n)) ≡ d → ⊥) → (firstOr d (keep f (upFrom i n)) < i + n) × (f (firstOr d (keep f (upFrom i n))) ≡ true) × (i ≤ firstOr d (keep f (upFrom i n)))
+first-kept :
+    (f : ℕ → Bool) (d i n : ℕ)
+    → (firstOr d (keep f (upFrom i n)) ≡ d → ⊥)
+    → (firstOr d (keep f (upFrom i n)) < i + n) × (f (firstOr d (keep f (upFrom i n))) ≡ true) × (i ≤ firstOr d (keep f (upFrom i n)))
 unfolding keep upFrom consIf firstOr
 first-kept f d i zero h = absurd (h refl)
 first-kept f d i (suc n) h = go (f i) refl h (first-kept f d (suc i) n)
@@ -205,13 +212,17 @@ unfolding flying placeSegment
 flying-is p v st q r o e =
     let f : ℕ → Bool = λ b. between 1 (p .S) b in
     (λ j. holds st (e j .address) (e j .stamp))
-    ∙ ap (λ (x : Bool). x && holds st (recordAt p v 0 (placeDrive p q) (placeZone p q) (placeBlock p q - 1) .address) (recordAt p v 0 (placeDrive p q) (placeZone p q) (placeBlock p q - 1) .stamp)) (sym (data-block p q o))
+    ∙ ap (λ (x : Bool). x
+    && holds st (recordAt p v 0 (placeDrive p q) (placeZone p q) (placeBlock p q - 1) .address)
+    (recordAt p v 0 (placeDrive p q) (placeZone p q) (placeBlock p q - 1) .stamp)) (sym (data-block p q o))
 
 module _ (p : Params) (v : View) (st : State) (i : Idle) (q : ℕ) where
   not-flying : isOdd p q ≡ true → flying p v st q ≡ false
   unfolding flying placeSegment
   not-flying o =
-      ap (λ (x : Bool). x && holds st (recordAt p v 0 (placeDrive p q) (placeZone p q) (placeBlock p q - 1) .address) (recordAt p v 0 (placeDrive p q) (placeZone p q) (placeBlock p q - 1) .stamp)) (odd-block p q o)
+      ap (λ (x : Bool). x
+      && holds st (recordAt p v 0 (placeDrive p q) (placeZone p q) (placeBlock p q - 1) .address)
+      (recordAt p v 0 (placeDrive p q) (placeZone p q) (placeBlock p q - 1) .stamp)) (odd-block p q o)
 
   same-odd : isOdd p q ≡ false → i .odd ≡ (i .odd || isOdd p q)
   same-odd o = sym (ap (λ (x : Bool). i .odd || x) o ∙ or-false (i .odd))

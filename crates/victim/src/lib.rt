@@ -128,7 +128,12 @@ fn idle_run(
     requires { ⌜ inRange p ≡ true ⌝ }
     requires { ⌜ Whole p (mkDisk (now image) (now pointers)) ⌝ }
     requires { ⌜ (first ≤ lo) × (lo ≤ hi) × (hi ≤ first + 8 * length (now marks)) × (hi ≤ p .N * p .Z * capacity p) ⌝ }
-    ensures { λ r. ⌜ ((tb : List ℕ) (g : ℕ) → Marks tb (p .L) (now (marks .entry)) first hi → ((q : ℕ) → lo ≤ q → q < hi → eqb (placeZone p q) g ≡ mine) → Waiting p (viewOf p (now (image .entry)) (now (pointers .entry))) state tb g lo idle → Waiting p (viewOf p (now (image .entry)) (now (pointers .entry))) state tb g hi r) ⌝ }
+    ensures { λ r. ⌜
+        ((tb : List ℕ) (g : ℕ)
+        → Marks tb (p .L) (now (marks .entry)) first hi
+        → ((q : ℕ) → lo ≤ q → q < hi → eqb (placeZone p q) g ≡ mine)
+        → Waiting p (viewOf p (now (image .entry)) (now (pointers .entry))) state tb g lo idle
+        → Waiting p (viewOf p (now (image .entry)) (now (pointers .entry))) state tb g hi r) ⌝ }
 {
     if !mine {
         return idle;
@@ -161,7 +166,11 @@ fn idle_zones(
     requires { ⌜ inRange p ≡ true ⌝ }
     requires { ⌜ Whole p (mkDisk (now image) (now pointers)) ⌝ }
     requires { ⌜ (first ≤ end) × (end ≤ first + 8 * length (now marks)) × (end ≤ p .N * p .Z * capacity p) ⌝ }
-    ensures { λ r. ⌜ ((tb : List ℕ) → Marks tb (p .L) (now (marks .entry)) first end → Waiting p (viewOf p (now (image .entry)) (now (pointers .entry))) state tb g first idle → Waiting p (viewOf p (now (image .entry)) (now (pointers .entry))) state tb g end r) ⌝ }
+    ensures { λ r. ⌜
+        ((tb : List ℕ)
+        → Marks tb (p .L) (now (marks .entry)) first end
+        → Waiting p (viewOf p (now (image .entry)) (now (pointers .entry))) state tb g first idle
+        → Waiting p (viewOf p (now (image .entry)) (now (pointers .entry))) state tb g end r) ⌝ }
 {
     let cap = shape::capacity(p);
     let mut found = idle;

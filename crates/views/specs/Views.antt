@@ -9,7 +9,9 @@ use lib.ListN.{length, getD, take, drop, set, length-append, length-drop, length
 use lib.Dec.{eqb, lit<}
 use native.Mathlib.Nat.{zero-add, suc-add, zero-mul, suc-mul, mul-comm, add-mul, mul-assoc, le-of-eq, le-trans}
 use Rattle.defs.specs.Bytes.{beOf, toBe, part, splice}
-use Rattle.defs.specs.Drives.{Chunk, mkChunk, noChunk, Zone, mkZone, noZone, View, zoneAt, pointerAt, chunkAt, chunkOf, zoneOf, driveOf, viewOf, Store, putZone, resetZone, setZone, storeView, Disk, pointerByte, pointerOf, setPointer, storeDisk, storeAll, segmentNumbers, zoneOn, emptyOnAll, emptyZones, sealedIn}
+use Rattle.defs.specs.Drives.{Chunk, mkChunk, noChunk, Zone, mkZone, noZone, View, zoneAt, pointerAt, chunkAt, chunkOf, zoneOf, driveOf, viewOf, Store}
+use Rattle.defs.specs.Drives.{putZone, resetZone, setZone, storeView, Disk, pointerByte, pointerOf, setPointer, storeDisk, storeAll, segmentNumbers, zoneOn}
+use Rattle.defs.specs.Drives.{emptyOnAll, emptyZones, sealedIn}
 use Rattle.defs.specs.Drives.Store.{put, reset}
 use Rattle.defs.specs.Lists.{below, all, keep, pieces, zipped, isIn}
 use Rattle.defs.specs.Params.{spareLen, capacity, unitLen, zoneLen, driveLen, imageLen, pointersLen, placeOf, placeByte, drivesOf, present}
@@ -163,7 +165,11 @@ module _ (p : Params) (k : Disk) (d z : ℕ) (hd : d < p .N) (hz : z < p .Z) (w 
 
   long-ps : p .N * (4 * p .Z) ≤ length (k .pointers)
   unfolding pointersLen
-  long-ps = le-of-eq (let e : p .N * (4 * p .Z) ≡ 4 * (p .N * p .Z) = sym (mul-assoc (p .N) 4 (p .Z)) ∙ ap (λ (x : ℕ). x * p .Z) (mul-comm (p .N) 4) ∙ mul-assoc 4 (p .N) (p .Z) in e ∙ sym (w .pointers-long))
+  long-ps =
+      le-of-eq (let e : p .N * (4 * p .Z) ≡ 4 * (p .N * p .Z) = sym (mul-assoc (p .N) 4 (p .Z))
+      ∙ ap (λ (x : ℕ). x * p .Z) (mul-comm (p .N) 4)
+      ∙ mul-assoc 4 (p .N) (p .Z) in e
+      ∙ sym (w .pointers-long))
 
   drive-long : length driveIm ≡ driveLen p
   drive-long = length-piece (driveLen p) (p .N) (k .image) d hd long-im

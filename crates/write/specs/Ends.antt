@@ -113,7 +113,8 @@ module _ (p : Params) (k : Disk) (m : Memory) (a : ℕ) (b : List ℕ) (n : ℕ)
       → afterChange (m .state) c (k′ .image) (k′ .pointers) ad co (m .inflight) b ≡ callDisk p k m (write a b n)
   ends-cut t c ad co e f g =
       let w = ready p k m a b none! in
-      let q : mkMemory (stateAfter (m .state) c) ad co (m .inflight) ≡ cutMemory p m = cut-memory p m (stateAfter (m .state) c) ad co (w .addresses-long) (w .compact-long) (state-cut (m .state) c e) f g in
+      let q : mkMemory (stateAfter (m .state) c) ad co (m .inflight) ≡ cutMemory p m =
+      cut-memory p m (stateAfter (m .state) c) ad co (w .addresses-long) (w .compact-long) (state-cut (m .state) c e) f g in
       (λ j. mkAfter (e j) (h .disk j) (q j) b)
       ∙ write-cut p k m a b n none! (ltb-true n (length (openStores p k (m .state))) (sym (h .cut) ∙ t))
 
@@ -129,7 +130,9 @@ module _ (p : Params) (k : Disk) (m : Memory) (a : ℕ) (b : List ℕ) (n : ℕ)
     sentAt x = sentRow p (rowOf st at) (m .inflight) at (not (hasFilling p st)) x a (suc (st .stamp .0)) 1 b
 
     -- the state after a write, with the numbers in front
-    state-done : stateAfter st (planned (frontOf st) (aimOf p st) o (sentAt (o .next))) ≡ setStamp (putRow (frontAs st (o .serial .0) (o .opened) (sentAt (o .next) .next)) at (sentAt (o .next) .row)) (suc (st .stamp .0))
+    state-done :
+        stateAfter st (planned (frontOf st) (aimOf p st) o (sentAt (o .next)))
+        ≡ setStamp (putRow (frontAs st (o .serial .0) (o .opened) (sentAt (o .next) .next)) at (sentAt (o .next) .row)) (suc (st .stamp .0))
     unfolding isRefused isCut kind putRow putFront setStamp
     state-done =
         let c = planned (frontOf st) (aimOf p st) o (sentAt (o .next)) in
@@ -147,7 +150,8 @@ module _ (p : Params) (k : Disk) (m : Memory) (a : ℕ) (b : List ℕ) (n : ℕ)
         let out : ℕ → ℕ → SentRow → After Disk = λ x y q. mkAfter (Sent (aStamp tt′) (q .row .number) (q .drive)) k′
         (mkMemory (setStamp (putRow (frontAs st x y (q .next)) at (q .row)) tt′) (m .addresses) (m .compact) (q .inflight)) b in
         (λ j. afterChange st (e j) (k′ .image) (k′ .pointers) (m .addresses) (m .compact) (f j) b)
-        ∙ ap (λ (x : State). mkAfter (Sent (aStamp tt′) (sentAt (o .next) .row .number) (sentAt (o .next) .drive)) k′ (mkMemory x (m .addresses) (m .compact) (sentAt (o .next) .inflight)) b) state-done
+        ∙ ap (λ (x : State). mkAfter (Sent (aStamp tt′) (sentAt (o .next) .row .number) (sentAt (o .next) .drive)) k′
+        (mkMemory x (m .addresses) (m .compact) (sentAt (o .next) .inflight)) b) state-done
         ∙ (λ j. out (h .serial j) (h .opened j) (sentAt (h .next j)))
         ∙ (λ j. let q = sending-row p v st s sized (m .inflight) a tt′ 1 b (start-room p v st s sized d) j in
         mkAfter (Sent (aStamp tt′) (q .stripe) (q .drive)) (h .disk j) (mkMemory (setStamp (q .state) tt′) (m .addresses) (m .compact) (q .inflight)) b)

@@ -50,7 +50,10 @@ fn checks(
     block: &[u8],
 ) -> Check
     requires { ⌜ (f ≡ frontOf state) × (a ≡ aimOf p state) ⌝ }
-    ensures { λ r. ⌜ checked r ≡ refusal p (mkDisk (now (image .entry)) (now (pointers .entry))) (mkMemory state (now (addresses .entry)) (now (compact .entry)) (now (inflight .entry))) (address .0) (now (block .entry)) ⌝ }
+    ensures { λ r. ⌜
+        checked r
+        ≡ refusal p (mkDisk (now (image .entry)) (now (pointers .entry)))
+        (mkMemory state (now (addresses .entry)) (now (compact .entry)) (now (inflight .entry))) (address .0) (now (block .entry)) ⌝ }
 {
     if !shape::in_range(p) {
         return Check::Fail(Answer::Refused(1));
@@ -131,7 +134,11 @@ pub fn write(
     block: &[u8],
     count: u64,
 ) -> Change
-    ensures { λ r. ⌜ afterChange state r (now (image .exit)) (now (pointers .exit)) (now (addresses .exit)) (now (compact .exit)) (now (inflight .exit)) (now (block .entry)) ≡ callDisk p (mkDisk (now (image .entry)) (now (pointers .entry))) (mkMemory state (now (addresses .entry)) (now (compact .entry)) (now (inflight .entry))) (write (address .0) (now (block .entry)) count) ⌝ }
+    ensures { λ r. ⌜
+        afterChange state r (now (image .exit)) (now (pointers .exit)) (now (addresses .exit)) (now (compact .exit)) (now (inflight .exit))
+        (now (block .entry))
+        ≡ callDisk p (mkDisk (now (image .entry)) (now (pointers .entry)))
+        (mkMemory state (now (addresses .entry)) (now (compact .entry)) (now (inflight .entry))) (write (address .0) (now (block .entry)) count) ⌝ }
 {
     let f = rows::front_of(state);
     let a = filling::aim_of(p, f);

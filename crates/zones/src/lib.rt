@@ -54,7 +54,9 @@ pub fn put(
     requires { ⌜ Whole p (mkDisk (now image) (now pointers)) ⌝ }
     requires { ⌜ (drive < p .N) × (zone < p .Z) × (pointerOf p (now pointers) drive zone < capacity p) ⌝ }
     requires { ⌜ (length (now block) ≡ p .B) × (length (now spare) ≡ 20) ⌝ }
-    ensures { λ _. ⌜ mkDisk (now (image .exit)) (now (pointers .exit)) ≡ storeDisk p (put drive zone (now (block .entry)) (now (spare .entry))) (mkDisk (now (image .entry)) (now (pointers .entry))) ⌝ }
+    ensures { λ _. ⌜
+        mkDisk (now (image .exit)) (now (pointers .exit))
+        ≡ storeDisk p (put drive zone (now (block .entry)) (now (spare .entry))) (mkDisk (now (image .entry)) (now (pointers .entry))) ⌝ }
 {
     let n = pointer(p, pointers, drive, zone);
     let at = shape::block_byte(p, drive, zone, n as usize);
@@ -86,7 +88,10 @@ fn put_header(
     requires { ⌜ inRange p ≡ true ⌝ }
     requires { ⌜ Whole p (mkDisk (now image) (now pointers)) ⌝ }
     requires { ⌜ (drive < p .N) × (zone < p .Z) × (pointerOf p (now pointers) drive zone < capacity p) ⌝ }
-    ensures { λ _. ⌜ mkDisk (now (image .exit)) (now (pointers .exit)) ≡ storeDisk p (put drive zone (headerBlock p drive zone (serial .0) (copied .0)) zeroSpare) (mkDisk (now (image .entry)) (now (pointers .entry))) ⌝ }
+    ensures { λ _. ⌜
+        mkDisk (now (image .exit)) (now (pointers .exit))
+        ≡ storeDisk p (put drive zone (headerBlock p drive zone (serial .0) (copied .0)) zeroSpare)
+        (mkDisk (now (image .entry)) (now (pointers .entry))) ⌝ }
 {
     let n = pointer(p, pointers, drive, zone);
     let at = shape::block_byte(p, drive, zone, n as usize);
@@ -110,7 +115,9 @@ pub fn put_limited(
     requires { ⌜ Whole p (mkDisk (now image) (now pointers)) ⌝ }
     requires { ⌜ (drive < p .N) × (zone < p .Z) × (pointerOf p (now pointers) drive zone < capacity p) ⌝ }
     requires { ⌜ (length (now block) ≡ p .B) × (length (now spare) ≡ 20) ⌝ }
-    ensures { λ r. ⌜ Storing p count (put drive zone (now (block .entry)) (now (spare .entry)) ∷ []) (mkDisk (now (image .entry)) (now (pointers .entry))) r (mkDisk (now (image .exit)) (now (pointers .exit))) ⌝ }
+    ensures { λ r. ⌜
+        Storing p count (put drive zone (now (block .entry)) (now (spare .entry)) ∷ []) (mkDisk (now (image .entry)) (now (pointers .entry))) r
+        (mkDisk (now (image .exit)) (now (pointers .exit))) ⌝ }
 {
     if count == 0 {
         return Made { left: 0, cut: true };

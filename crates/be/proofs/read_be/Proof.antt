@@ -31,7 +31,9 @@ wide-requires : tie.Need-wide-requires Inv-loop μ-loop
 wide-requires c κs = tt
 
 add-n : tie.Need-add-n Inv-loop μ-loop
-add-n c = record { fits = room64 (c .before .before .before .loop .n) (c .before .before .before .loop .i) (c .wide .result) (c .before .before .before .loop .inv .2) (c .wide .ensures .1) (omega arith) }
+add-n c =
+    let loop = c .before .before .before .loop in
+    record { fits = room64 (loop .n) (loop .i) (c .wide .result) (loop .inv .2) (c .wide .ensures .1) (omega arith) }
 
 add-i : tie.Need-add-i Inv-loop μ-loop
 add-i c = omega arith

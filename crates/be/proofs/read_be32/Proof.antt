@@ -56,7 +56,14 @@ add-result-3 : tie.Need-add-result-3
 add-result-3 c = omega arith
 
 returns : tie.Need-returns
-returns c = rw (c .before .before .before .before .before .before .wide32 .ensures .0, c .before .before .before .before .wide322 .ensures .0, c .before .before .wide323 .ensures .0, c .wide324 .ensures .0) (beOf-part-four (c .before .before .before .before .before .before .before .before .before .args .at) (c .before .before .before .before .before .before .before .before .before .args .src .now) (c .before .before .before .before .before .before .before .before .before .pre))
+returns c =
+    let wide323 = c .before .before .wide323 in
+    let wide322 = c .before .before .before .before .wide322 in
+    let wide32 = c .before .before .before .before .before .before .wide32 in
+    let entry = c .before .before .before .before .before .before .before .before .before in
+    let args = entry .args in
+    let pre = entry .pre in
+    rw (wide32 .ensures .0, wide322 .ensures .0, wide323 .ensures .0, c .wide324 .ensures .0) (beOf-part-four (args .at) (args .src .now) (pre))
 
 pub read-be32-spec : {M : Type 1} → statement M
 read-be32-spec =

@@ -32,13 +32,16 @@ same-length c = search needs
 returns : tie.Need-returns
 returns c =
     let a = c .before .before .before .before .before .before .before .before .before .args in
+    let write-be322 = c .before .before .write-be322 in
+    let write-be32 = c .before .before .before .before .before .before .write-be32 in
+    let pre = c .before .before .before .before .before .before .before .before .before .pre in
     let l = a .dst .now in
     let n = a .n in
     let e : length (toBe 4 (n / 4294967296)) ≡ 4 = length-toBe 4 (n / 4294967296) in
     let f : length (toBe 4 n) ≡ 4 = length-toBe 4 n in
-    c .before .before .write-be322 .ensures ∙ ap₂ (λ (x y : List ℕ). splice x (a .at + 4) y) (c .before .before .before .before .before .before .write-be32 .ensures) (toBe-mod 4 n)
+    write-be322 .ensures ∙ ap₂ (λ (x y : List ℕ). splice x (a .at + 4) y) (write-be32 .ensures) (toBe-mod 4 n)
     ∙ ap (λ (x : ℕ). splice (splice l (a .at) (toBe 4 (n / 4294967296))) (a .at + x) (toBe 4 n)) (sym e)
-    ∙ splice-next l (a .at) (toBe 4 (n / 4294967296)) (toBe 4 n) (omega (arith, c .before .before .before .before .before .before .before .before .before .pre)) ∙ ap (splice l (a .at)) (sym (toBe-add 4 4 n))
+    ∙ splice-next l (a .at) (toBe 4 (n / 4294967296)) (toBe 4 n) (omega (arith, pre)) ∙ ap (splice l (a .at)) (sym (toBe-add 4 4 n))
 
 pub write-be64-spec : {M : Type 1} → statement M
 write-be64-spec =

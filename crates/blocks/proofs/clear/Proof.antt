@@ -13,7 +13,10 @@ same-length : tie.Need-same-length
 same-length c = search needs
 
 returns : tie.Need-returns
-returns c = c .before .before .clear-part .ensures ∙ splice-all (c .before .before .before .before .before .args .dst .now) (replicate (length (c .before .before .before .before .before .args .dst .now)) 0) (length-replicate (length (c .before .before .before .before .before .args .dst .now)) 0)
+returns c =
+    let clear-part = c .before .before .clear-part in
+    let args = c .before .before .before .before .before .args in
+    clear-part .ensures ∙ splice-all (args .dst .now) (replicate (length (args .dst .now)) 0) (length-replicate (length (args .dst .now)) 0)
 
 pub clear-spec : {M : Type 1} → statement M
 clear-spec = tie.close (tie.spec clear-part-requires same-length returns)

@@ -34,8 +34,12 @@ loop-less c = omega arith
 loop-again : tie.Need-loop-again Inv-loop μ-loop
 loop-again c =
     let l = c .before .loop in
-    let a = c .before .before .args in
-    (omega arith, simp length-set (l .inv .1), turn (a .dst .now) (l .dst) (a .at) (l .i) (replicate (l .i) 0) (l .inv .2) (length-replicate (l .i) 0) 0 (replicate (l .i + 1) 0) (omega arith) (replicate-snoc (l .i)))
+    let a = c .before .before .args in (
+      omega arith,
+      simp length-set (l .inv .1),
+      turn (a .dst .now) (l .dst) (a .at) (l .i) (replicate (l .i) 0) (l .inv .2) (length-replicate (l .i) 0) 0 (replicate (l .i + 1) 0)
+          (omega arith) (replicate-snoc (l .i)),
+    )
 
 same-length : tie.Need-same-length Inv-loop μ-loop
 same-length c = c .before .loop .inv .1

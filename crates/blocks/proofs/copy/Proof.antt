@@ -12,7 +12,12 @@ same-length : tie.Need-same-length
 same-length c = search needs
 
 returns : tie.Need-returns
-returns c = c .before .before .copy-part .ensures ∙ splice-all (c .before .before .before .before .before .before .args .dst .now) (c .before .before .before .before .before .before .args .src .now) (c .before .before .before .before .before .before .pre)
+returns c =
+    let copy-part = c .before .before .copy-part in
+    let entry = c .before .before .before .before .before .before in
+    let args = entry .args in
+    let pre = entry .pre in
+    copy-part .ensures ∙ splice-all (args .dst .now) (args .src .now) (pre)
 
 pub copy-spec : {M : Type 1} → statement M
 copy-spec = tie.close (tie.spec copy-part-requires same-length returns)

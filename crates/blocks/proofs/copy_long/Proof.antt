@@ -39,8 +39,12 @@ loop-again c =
     let l = c .before .before .loop in
     let a = c .before .before .before .args in
     let m = a .src .now in
-    let n : length (take (l .i) m) ≡ l .i = length-take-le (l .i) m (omega arith) in
-    (omega arith, simp length-set (l .inv .1), turn (a .dst .now) (l .dst) (a .at) (l .i) (take (l .i) m) (l .inv .2) n (getD m (l .i) 0) (take (l .i + 1) m) (omega arith) (take-more m (l .i) (omega arith)))
+    let n : length (take (l .i) m) ≡ l .i = length-take-le (l .i) m (omega arith) in (
+      omega arith,
+      simp length-set (l .inv .1),
+      turn (a .dst .now) (l .dst) (a .at) (l .i) (take (l .i) m) (l .inv .2) n (getD m (l .i) 0) (take (l .i + 1) m) (omega arith)
+          (take-more m (l .i) (omega arith)),
+    )
 
 same-length : tie.Need-same-length Inv-loop μ-loop
 same-length c = c .before .loop .inv .1

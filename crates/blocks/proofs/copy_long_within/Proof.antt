@@ -45,8 +45,13 @@ loop-again c =
     let d = a .buf .now in
     let s = part (a .b) (l .i) d in
     let n : length s ≡ l .i = length-part (a .b) (l .i) d (omega arith) in
-    let q : getD (l .buf) (a .b + l .i) 0 ≡ getD d (a .b + l .i) 0 = still-apart d (l .buf) (a .a) (l .i) s (l .inv .2) n (a .b) (a .n) (h .2) (omega arith) (omega arith) in
-    (omega arith, simp length-set (l .inv .1), ap (set (l .buf) (a .a + l .i)) q ∙ turn d (l .buf) (a .a) (l .i) s (l .inv .2) n (getD d (a .b + l .i) 0) (part (a .b) (l .i + 1) d) (omega arith) (part-more d (a .b) (l .i) (omega arith)))
+    let q : getD (l .buf) (a .b + l .i) 0 ≡ getD d (a .b + l .i) 0 = still-apart d (l .buf) (a .a) (l .i) s (l .inv .2) n (a .b) (a .n) (h .2) (omega arith) (omega arith) in (
+      omega arith,
+      simp length-set (l .inv .1),
+      ap (set (l .buf) (a .a + l .i)) q
+          ∙ turn d (l .buf) (a .a) (l .i) s (l .inv .2) n (getD d (a .b + l .i) 0) (part (a .b) (l .i + 1) d) (omega arith)
+          (part-more d (a .b) (l .i) (omega arith)),
+    )
 
 same-length : tie.Need-same-length Inv-loop μ-loop
 same-length c = c .before .loop .inv .1

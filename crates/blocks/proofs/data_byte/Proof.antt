@@ -12,7 +12,9 @@ slot-byte-requires : tie.Need-slot-byte-requires
 slot-byte-requires c κs = search needs
 
 returns : tie.Need-returns
-returns c = (c .slot-byte .ensures .0 ∙ ap (slotByte (c .before .before .args .p) (c .before .before .args .slot)) (c .before .data-drive .ensures .0), c .slot-byte .ensures .1)
+returns c =
+    let args = c .before .before .args in
+    (c .slot-byte .ensures .0 ∙ ap (slotByte (args .p) (args .slot)) (c .before .data-drive .ensures .0), c .slot-byte .ensures .1)
 
 pub data-byte-spec : {M : Type 1} → statement M
 data-byte-spec = tie.close (tie.spec data-drive-requires slot-byte-requires returns)

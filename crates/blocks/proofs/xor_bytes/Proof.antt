@@ -51,8 +51,13 @@ loop-again c =
     let m = a .src .now in
     let s = xors (part (a .at) (l .i) d) (take (l .i) m) in
     let n : length s ≡ l .i = length-xors-part d (take (l .i) m) (a .at) (l .i) (omega arith) in
-    let q : getD (l .dst) (a .at + l .i) 0 ≡ getD d (a .at + l .i) 0 = still-here d (l .dst) (a .at) (l .i) s (l .inv .2) n (omega arith) in
-    (omega arith, simp length-set (l .inv .1), ap (λ (x : ℕ). set (l .dst) (a .at + l .i) (bitXor x (getD m (l .i) 0))) q ∙ turn d (l .dst) (a .at) (l .i) s (l .inv .2) n (bitXor (getD d (a .at + l .i) 0) (getD m (l .i) 0)) (xors (part (a .at) (l .i + 1) d) (take (l .i + 1) m)) (omega arith) (xors-more d m (a .at) (l .i) (omega arith) (omega arith)))
+    let q : getD (l .dst) (a .at + l .i) 0 ≡ getD d (a .at + l .i) 0 = still-here d (l .dst) (a .at) (l .i) s (l .inv .2) n (omega arith) in (
+      omega arith,
+      simp length-set (l .inv .1),
+      ap (λ (x : ℕ). set (l .dst) (a .at + l .i) (bitXor x (getD m (l .i) 0))) q
+          ∙ turn d (l .dst) (a .at) (l .i) s (l .inv .2) n (bitXor (getD d (a .at + l .i) 0) (getD m (l .i) 0))
+          (xors (part (a .at) (l .i + 1) d) (take (l .i + 1) m)) (omega arith) (xors-more d m (a .at) (l .i) (omega arith) (omega arith)),
+    )
 
 same-length : tie.Need-same-length Inv-loop μ-loop
 same-length c = c .before .loop .inv .1

@@ -54,8 +54,14 @@ loop-again c =
     let s = xors (part (a .a) (l .i) d) (part (a .b) (l .i) d) in
     let n : length s ≡ l .i = length-xors-part d (part (a .b) (l .i) d) (a .a) (l .i) (omega arith) in
     let q : getD (l .buf) (a .a + l .i) 0 ≡ getD d (a .a + l .i) 0 = still-here d (l .buf) (a .a) (l .i) s (l .inv .2) n (omega arith) in
-    let r : getD (l .buf) (a .b + l .i) 0 ≡ getD d (a .b + l .i) 0 = still-apart d (l .buf) (a .a) (l .i) s (l .inv .2) n (a .b) (a .n) (h .2) (omega arith) (omega arith) in
-    (omega arith, simp length-set (l .inv .1), ap₂ (λ (x y : ℕ). set (l .buf) (a .a + l .i) (bitXor x y)) q r ∙ turn d (l .buf) (a .a) (l .i) s (l .inv .2) n (bitXor (getD d (a .a + l .i) 0) (getD d (a .b + l .i) 0)) (xors (part (a .a) (l .i + 1) d) (part (a .b) (l .i + 1) d)) (omega arith) (xors-part-suc d d (a .a) (a .b) (l .i) (omega arith) (omega arith)))
+    let r : getD (l .buf) (a .b + l .i) 0 ≡ getD d (a .b + l .i) 0 = still-apart d (l .buf) (a .a) (l .i) s (l .inv .2) n (a .b) (a .n) (h .2) (omega arith) (omega arith) in (
+      omega arith,
+      simp length-set (l .inv .1),
+      ap₂ (λ (x y : ℕ). set (l .buf) (a .a + l .i) (bitXor x y)) q r
+          ∙ turn d (l .buf) (a .a) (l .i) s (l .inv .2) n (bitXor (getD d (a .a + l .i) 0) (getD d (a .b + l .i) 0))
+          (xors (part (a .a) (l .i + 1) d) (part (a .b) (l .i + 1) d)) (omega arith)
+          (xors-part-suc d d (a .a) (a .b) (l .i) (omega arith) (omega arith)),
+    )
 
 same-length : tie.Need-same-length Inv-loop μ-loop
 same-length c = c .before .loop .inv .1

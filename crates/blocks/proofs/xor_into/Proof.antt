@@ -20,9 +20,10 @@ same-length c = search needs
 returns : tie.Need-returns
 returns c =
     let a = c .before .before .before .before .before .before .args in
+    let pre = c .before .before .before .before .before .before .pre in
     let d = a .dst .now in
     let s = a .src .now in
-    let e : part 0 (length s) d ≡ d = part-all (length s) d (omega (arith, c .before .before .before .before .before .before .pre)) in
+    let e : part 0 (length s) d ≡ d = part-all (length s) d (omega (arith, pre)) in
     c .before .before .xor-part .ensures ∙ ap (λ (x : List ℕ). splice d 0 (xors x s)) e ∙ splice-all d (xors d s) (length-xors d s)
 
 pub xor-into-spec : {M : Type 1} → statement M

@@ -18,7 +18,9 @@ abbrev μ-loop : tie.MeasureT-loop
 
 loop-holds : tie.Need-loop-holds Inv-loop μ-loop
 unfolding xors part
-loop-holds c = (omega arith, refl, sym (splice-nil (c .before .before .args .dst .now) (c .before .before .args .at)))
+loop-holds c =
+    let args = c .before .before .args in
+    (omega arith, refl, sym (splice-nil (args .dst .now) (args .at)))
 
 sub-loop : tie.Need-sub-loop Inv-loop μ-loop
 sub-loop c = omega arith
@@ -41,8 +43,14 @@ loop-again c =
     let a = c .before .before .before .before .before .before .before .before .args in
     let q = c .before .before .xor-piece in
     let d = a .dst .now in
-    let m = a .src .now in
-    (omega arith, q .kept .0 ∙ l .inv .1, q .ensures ∙ piece-more d (l .dst) m (a .at) 0 (l .i) 64 (l .inv .2) (omega arith) (part (a .at + l .i) 64 (l .dst)) (part (l .i) 64 m) (omega arith) (still-ahead d (l .dst) m (a .at) 0 (l .i) 64 (l .inv .2) (omega arith)) (ap (λ (k : ℕ). part k 64 m) (sym (zero-add (l .i)))))
+    let m = a .src .now in (
+      omega arith,
+      q .kept .0
+          ∙ l .inv .1,
+      q .ensures
+          ∙ piece-more d (l .dst) m (a .at) 0 (l .i) 64 (l .inv .2) (omega arith) (part (a .at + l .i) 64 (l .dst)) (part (l .i) 64 m) (omega arith)
+          (still-ahead d (l .dst) m (a .at) 0 (l .i) 64 (l .inv .2) (omega arith)) (ap (λ (k : ℕ). part k 64 m) (sym (zero-add (l .i)))),
+    )
 
 add-xor-bytes : tie.Need-add-xor-bytes Inv-loop μ-loop
 add-xor-bytes c = omega arith
@@ -59,13 +67,16 @@ part-xor-bytes-end c = omega arith
 xor-bytes-requires : tie.Need-xor-bytes-requires Inv-loop μ-loop
 unfolding part
 xor-bytes-requires c κs =
+    let args = c .before .before .before .before .before .before .args in
     let i = c .before .before .before .loop .i in
-    let m = c .before .before .before .before .before .before .args .src .now in
+    let m = args .src .now in
     let n : length (part i (length m - i) m) ≡ length m - i = length-part i (length m - i) m (omega arith) in
     omega arith
 
 same-length : tie.Need-same-length Inv-loop μ-loop
-same-length c = c .before .before .xor-bytes .kept .0 ∙ c .before .before .before .before .before .before .loop .inv .1
+same-length c =
+    let loop = c .before .before .before .before .before .before .loop in
+    c .before .before .xor-bytes .kept .0 ∙ loop .inv .1
 
 returns : tie.Need-returns Inv-loop μ-loop
 unfolding part
@@ -78,7 +89,8 @@ returns c =
     let e : l .i + n ≡ length m = omega arith in
     let s = part (l .i) n m in
     c .before .before .xor-bytes .ensures ∙ ap (λ (k : ℕ). splice (l .dst) (a .at + l .i) (xors (part (a .at + l .i) k (l .dst)) s)) (length-part (l .i) n m (omega arith))
-    ∙ piece-more d (l .dst) m (a .at) 0 (l .i) n (l .inv .2) (omega arith) (part (a .at + l .i) n (l .dst)) s (omega arith) (still-ahead d (l .dst) m (a .at) 0 (l .i) n (l .inv .2) (omega arith)) (ap (λ (k : ℕ). part k n m) (sym (zero-add (l .i))))
+    ∙ piece-more d (l .dst) m (a .at) 0 (l .i) n (l .inv .2) (omega arith) (part (a .at + l .i) n (l .dst)) s (omega arith)
+    (still-ahead d (l .dst) m (a .at) 0 (l .i) n (l .inv .2) (omega arith)) (ap (λ (k : ℕ). part k n m) (sym (zero-add (l .i))))
     ∙ ap (λ (k : ℕ). splice d (a .at) (xors (part (a .at) k d) (part 0 k m))) e
     ∙ ap (λ (x : List ℕ). splice d (a .at) (xors (part (a .at) (length m) d) x)) (part-all (length m) m (omega arith))
 

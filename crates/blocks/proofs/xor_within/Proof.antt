@@ -66,17 +66,20 @@ xor-bytes-within-requires c κs =
     (omega arith, omega arith, apart-rest (a .a) (a .b) (a .n) (l .i) (h .2) (l .inv .0))
 
 same-length : tie.Need-same-length Inv-loop μ-loop
-same-length c = c .before .before .xor-bytes-within .kept .0 ∙ c .before .before .before .before .before .loop .inv .1
+same-length c =
+    let loop = c .before .before .before .before .before .loop in
+    c .before .before .xor-bytes-within .kept .0 ∙ loop .inv .1
 
 returns : tie.Need-returns Inv-loop μ-loop
 returns c =
     let l = c .before .before .before .before .before .loop in
     let a = c .before .before .before .before .before .before .before .args in
     let h = c .before .before .before .before .before .before .before .pre in
+    let xor-bytes-within = c .before .before .xor-bytes-within in
     let d = a .buf .now in
     let n = a .n - l .i in
     let e : l .i + n ≡ a .n = omega arith in
-    c .before .before .xor-bytes-within .ensures
+    xor-bytes-within .ensures
     ∙ piece-more d (l .buf) d (a .a) (a .b) (l .i) n (l .inv .2) (omega arith) (part (a .a + l .i) n (l .buf)) (part (a .b + l .i) n (l .buf)) (omega arith)
     (still-ahead d (l .buf) d (a .a) (a .b) (l .i) n (l .inv .2) (omega arith)) (still-beside d (l .buf) (a .a) (a .b) (l .i) n (a .n) (l .inv .2) (h .2) (omega arith) (h .0) (h .1))
     ∙ ap (λ (k : ℕ). splice d (a .a) (xors (part (a .a) k d) (part (a .b) k d))) e

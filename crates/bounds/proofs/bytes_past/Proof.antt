@@ -13,7 +13,9 @@ abbrev μ-loop : tie.MeasureT-loop
 μ-loop bytes at limit bad₀ i₀ bad i = 8 - i
 
 loop-holds : tie.Need-loop-holds Inv-loop μ-loop
-loop-holds c = let a = c .before .args in (omega arith, past-none 1 (a .at) (a .limit) (a .bytes .now), omega arith)
+loop-holds c =
+    let a = c .before .args in
+    (omega arith, past-none 1 (a .at) (a .limit) (a .bytes .now), omega arith)
 
 add-wide32 : tie.Need-add-wide32 Inv-loop μ-loop
 add-wide32 c = omega arith

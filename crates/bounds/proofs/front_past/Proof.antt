@@ -19,7 +19,9 @@ other-requires : tie.Need-other-requires
 other-requires c κs = search needs
 
 shared-slice-read-wide32 : tie.Need-shared-slice-read-wide32
-shared-slice-read-wide32 c = omega (arith, state-len, c .before .before .before .before .pre .1)
+shared-slice-read-wide32 c =
+    let pre = c .before .before .before .before .pre in
+    omega (arith, state-len, pre .1)
 
 wide32-requires : tie.Need-wide32-requires
 wide32-requires c κs = search needs
@@ -33,7 +35,9 @@ past-requires : tie.Need-past-requires
 past-requires c κs = search needs
 
 shared-slice-read-count : tie.Need-shared-slice-read-count
-shared-slice-read-count c = omega (arith, state-len, c .before .before .before .before .before .before .before .before .pre .1)
+shared-slice-read-count c =
+    let pre = c .before .before .before .before .before .before .before .before .pre in
+    omega (arith, state-len, pre .1)
 
 count-requires : tie.Need-count-requires
 count-requires c κs = search needs
@@ -45,7 +49,9 @@ past-requires-2 : tie.Need-past-requires-2
 past-requires-2 c κs = search needs
 
 read-le32-requires : tie.Need-read-le32-requires
-read-le32-requires c κs = omega (arith, state-len, c .before .before .before .before .before .before .before .before .before .before .pre .1)
+read-le32-requires c κs =
+    let pre = c .before .before .before .before .before .before .before .before .before .before .pre in
+    omega (arith, state-len, pre .1)
 
 cast-past-2 : tie.Need-cast-past-2
 cast-past-2 c =
@@ -61,7 +67,9 @@ past-requires-3 : tie.Need-past-requires-3
 past-requires-3 c κs = search needs
 
 read-le32-requires-2 : tie.Need-read-le32-requires-2
-read-le32-requires-2 c κs = omega (arith, state-len, c .before .before .before .before .before .before .before .before .before .before .before .before .before .pre .1)
+read-le32-requires-2 c κs =
+    let pre = c .before .before .before .before .before .before .before .before .before .before .before .before .before .pre in
+    omega (arith, state-len, pre .1)
 
 cast-past-3 : tie.Need-cast-past-3
 cast-past-3 c =

@@ -23,7 +23,9 @@ cast-bytes-past c =
     omega (arith, ranged (s .args .p) (s .pre .0) .drives-high)
 
 bytes-past-requires : tie.Need-bytes-past-requires
-bytes-past-requires c κs = omega (arith, state-len, c .before .before .before .before .pre .1)
+bytes-past-requires c κs =
+    let pre = c .before .before .before .before .pre in
+    omega (arith, state-len, pre .1)
 
 sub-power : tie.Need-sub-power
 sub-power c =
@@ -36,7 +38,9 @@ power-requires c κs =
     omega (arith, ranged (s .args .p) (s .pre .0) .drives-high)
 
 bytes-past-requires-2 : tie.Need-bytes-past-requires-2
-bytes-past-requires-2 c κs = omega (arith, state-len, c .before .before .before .before .before .before .before .pre .1)
+bytes-past-requires-2 c κs =
+    let pre = c .before .before .before .before .before .before .before .pre in
+    omega (arith, state-len, pre .1)
 
 power-requires-2 : tie.Need-power-requires-2
 power-requires-2 c κs =
@@ -44,7 +48,9 @@ power-requires-2 c κs =
     omega (arith, ranged (s .args .p) (s .pre .0) .drives-high)
 
 bytes-past-requires-3 : tie.Need-bytes-past-requires-3
-bytes-past-requires-3 c κs = omega (arith, state-len, c .before .before .before .before .before .before .before .before .before .pre .1)
+bytes-past-requires-3 c κs =
+    let pre = c .before .before .before .before .before .before .before .before .before .pre in
+    omega (arith, state-len, pre .1)
 
 add-result : tie.Need-add-result
 add-result c = search needs

@@ -16,10 +16,16 @@ slots-past-requires : tie.Need-slots-past-requires
 slots-past-requires c κs = search needs
 
 cast-words-past : tie.Need-cast-words-past
-cast-words-past c = let r = ranged (c .before .before .before .before .args .p) (c .before .before .before .before .pre .0) in omega (arith, r .stripes-high)
+cast-words-past c =
+    let entry = c .before .before .before .before in
+    let args = entry .args in
+    let pre = entry .pre in
+    let r = ranged (args .p) (pre .0) in omega (arith, r .stripes-high)
 
 words-past-requires : tie.Need-words-past-requires
-words-past-requires c κs = (omega (arith, state-len, c .before .before .before .before .pre .1), omega arith)
+words-past-requires c κs =
+    let pre = c .before .before .before .before .pre in
+    (omega (arith, state-len, pre .1), omega arith)
 
 add-result : tie.Need-add-result
 add-result c = search needs

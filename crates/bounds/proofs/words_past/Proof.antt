@@ -12,7 +12,9 @@ abbrev μ-loop : tie.MeasureT-loop
 μ-loop bytes at n limit bad₀ i₀ bad i = n - i
 
 loop-holds : tie.Need-loop-holds Inv-loop μ-loop
-loop-holds c = let a = c .before .args in (omega arith, past-none 4 (a .at) (a .limit) (a .bytes .now), omega arith)
+loop-holds c =
+    let a = c .before .args in
+    (omega arith, past-none 4 (a .at) (a .limit) (a .bytes .now), omega arith)
 
 mul-read-le32 : tie.Need-mul-read-le32 Inv-loop μ-loop
 mul-read-le32 c = omega arith

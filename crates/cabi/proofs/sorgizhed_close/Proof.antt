@@ -43,7 +43,10 @@ close-requires : tie.Need-close-requires
 close-requires c κs = search needs
 
 apply-requires : tie.Need-apply-requires
-apply-requires c κs = c .before .before .before .before .before .before .before .if1 .left ∙ c .before .before .before .before .before .before .before .before .state-len .ensures
+apply-requires c κs =
+    let if1 = c .before .before .before .before .before .before .before .if1 in
+    let state-len = c .before .before .before .before .before .before .before .before .state-len in
+    if1 .left ∙ state-len .ensures
 
 same-length : tie.Need-same-length
 same-length c = search needs
@@ -55,13 +58,24 @@ returns-2 : tie.Need-returns-2
 unfolding lentDisk lentMemory
 returns-2 c n =
     let a = c .before .before .before .before .before .before .before .before .before .before .before .before .before .before .before .before .before .before .args in
+    let apply = c .before .before .apply in
+    let close′ = c .before .before .before .before .before .before .close in
+    let decode = c .before .before .before .before .before .before .before .before .decode in
+    let if1 = c .before .before .before .before .before .before .before .before .before .before .if1 in
+    let state-len = c .before .before .before .before .before .before .before .before .before .before .before .state-len in
     let p : Params = mkParams (a .n) (a .b) (a .z) (a .s) (a .g) (a .l) in
     let l : Lent = lending (a .image .now) (a .pointers .now) (a .addresses .now) (a .compact .now) (a .inflight .now) (a .state .now) in
-    let w = c .before .before .before .before .before .before .close .last in
-    let e : afterChange (stateOf (a .state .now)) (c .before .before .before .before .before .before .close .result) (a .image .now) (a .pointers .now) (a .addresses .now) (a .compact .now) (w .1 .1 .1 .1 .1 .0) [] ≡ callDisk p (lentDisk l) (lentMemory l) (close n) =
-    ap (λ (x : State). afterChange x (c .before .before .before .before .before .before .close .result) (a .image .now) (a .pointers .now) (a .addresses .now) (a .compact .now) (w .1 .1 .1 .1 .1 .0) []) (sym (c .before .before .before .before .before .before .before .before .decode .ensures)) ∙ c .before .before .before .before .before .before .close .ensures n ∙ ap (λ (x : State). callDisk p (lentDisk l) (mkMemory x (a .addresses .now) (a .compact .now) (a .inflight .now)) (close n)) (c .before .before .before .before .before .before .before .before .decode .ensures) in
-    hears-change p l (close n) [] (c .before .before .before .before .before .before .before .before .before .before .if1 .left ∙ c .before .before .before .before .before .before .before .before .before .before .before .state-len .ensures) (close-keeps p (lentDisk l) (lentMemory l) n)
-    (c .before .before .before .before .before .before .close .result) (a .image .now) (a .pointers .now) (a .addresses .now) (a .compact .now) (w .1 .1 .1 .1 .1 .0) (c .before .before .apply .last .0) [] (c .before .before .apply .result) e (c .before .before .apply .ensures .0) (c .before .before .apply .ensures .1)
+    let w = close′ .last in
+    let e : afterChange (stateOf (a .state .now)) (close′ .result) (a .image .now) (a .pointers .now) (a .addresses .now) (a .compact .now)
+    (w .1 .1 .1 .1 .1 .0) []
+    ≡ callDisk p (lentDisk l) (lentMemory l) (close n) =
+    ap (λ (x : State). afterChange x (close′ .result) (a .image .now) (a .pointers .now) (a .addresses .now) (a .compact .now) (w .1 .1 .1 .1 .1 .0)
+    []) (sym (decode .ensures))
+    ∙ close′ .ensures n
+    ∙ ap (λ (x : State). callDisk p (lentDisk l) (mkMemory x (a .addresses .now) (a .compact .now) (a .inflight .now)) (close n)) (decode .ensures)
+    in
+    hears-change p l (close n) [] (if1 .left ∙ state-len .ensures) (close-keeps p (lentDisk l) (lentMemory l) n)
+    (close′ .result) (a .image .now) (a .pointers .now) (a .addresses .now) (a .compact .now) (w .1 .1 .1 .1 .1 .0) (apply .last .0) [] (apply .result) e (apply .ensures .0) (apply .ensures .1)
 
 pub sorgizhed-close-spec : {M : Type 1} → statement M
 sorgizhed-close-spec =

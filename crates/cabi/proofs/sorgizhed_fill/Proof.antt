@@ -31,7 +31,9 @@ returns c =
     let d = lentDisk l in
     let m = lentMemory l in
     ap (λ (x : Told). hears x l (a .block .now)) (c .short-of .ensures ∙ ap (λ (x : Bool). toldOf (shortAnswer x)) (c .before .in-range .ensures))
-    ∙ hears-short p l (fill (a .address) (a .block .now)) (a .block .now) (λ e. c .before .before .if1 .taken (e ∙ sym (c .before .before .before .state-len .ensures))) (inRange p) (fill-short p d m (a .address) (a .block .now))
+    ∙ hears-short p l (fill (a .address) (a .block .now)) (a .block .now)
+    (λ e. c .before .before .if1 .taken (e ∙ sym (c .before .before .before .state-len .ensures))) (inRange p)
+    (fill-short p d m (a .address) (a .block .now))
 
 fill-requires : tie.Need-fill-requires
 fill-requires c κs = c .before .if1 .left ∙ c .before .before .state-len .ensures

@@ -30,12 +30,14 @@ returns : tie.Need-returns
 unfolding lentMemory
 returns c =
     let a = c .before .before .before .before .before .before .before .before .before .before .before .args in
+    let state-len = c .before .before .before .before .state-len in
     let p : Params = mkParams (a .n) (a .b) (a .z) (a .s) (a .g) (a .l) in
     let l : Lent = lending (a .image .now) (a .pointers .now) (a .addresses .now) (a .compact .now) (a .inflight .now) (a .state .now) in
     let d = lentDisk l in
     let m = lentMemory l in
     ap (λ (x : Told). hears x l []) (c .short-of .ensures ∙ ap (λ (x : Bool). toldOf (shortAnswer x)) (c .before .good-rebuild .ensures))
-    ∙ hears-short p l (rebuild (a .drive) (a .count)) [] (λ e. c .before .before .before .if1 .taken (e ∙ sym (c .before .before .before .before .state-len .ensures))) (inRange p && namesMissing p (m .state) (a .drive)) (rebuild-short p d m (a .drive) (a .count))
+    ∙ hears-short p l (rebuild (a .drive) (a .count)) [] (λ e. c .before .before .before .if1 .taken (e ∙ sym (state-len .ensures)))
+    (inRange p && namesMissing p (m .state) (a .drive)) (rebuild-short p d m (a .drive) (a .count))
 
 decode-requires : tie.Need-decode-requires
 decode-requires c κs = c .before .if1 .left ∙ c .before .before .state-len .ensures
@@ -44,7 +46,10 @@ rebuild-requires : tie.Need-rebuild-requires
 rebuild-requires c κs = search needs
 
 finish-requires : tie.Need-finish-requires
-finish-requires c κs = c .before .before .before .before .before .before .before .before .before .before .before .before .before .before .before .before .if1 .left ∙ c .before .before .before .before .before .before .before .before .before .before .before .before .before .before .before .before .before .state-len .ensures
+finish-requires c κs =
+    let if1 = c .before .before .before .before .before .before .before .before .before .before .before .before .before .before .before .before .if1 in
+    let state-len = c .before .before .before .before .before .before .before .before .before .before .before .before .before .before .before .before .before .state-len in
+    if1 .left ∙ state-len .ensures
 
 same-length : tie.Need-same-length
 same-length c = search needs
@@ -67,14 +72,27 @@ same-length-6 c = search needs
 returns-2 : tie.Need-returns-2
 unfolding lentDisk lentMemory
 returns-2 c =
-    let a = c .before .before .before .before .before .before .before .before .before .before .before .before .before .before .before .before .before .before .before .before .before .before .before .before .before .before .before .args in
+    let finish′ = c .before .before .finish in
+    let rebuild′′ = c .before .before .before .before .before .before .before .before .before .before .before .before .rebuild in
+    let at = c .before .before .before .before .before .before .before .before .before .before .before .before .before .before .before .before .before in
+    let decode′ = c .before .before .before .before .before .before .before .before .before .before .before .before .before .before .before .before .before .decode in
+    let if1′ = c .before .before .before .before .before .before .before .before .before .before .before .before .before .before .before .before .before .before .before .if1 in
+    let state-len′ = c .before .before .before .before .before .before .before .before .before .before .before .before .before .before .before .before .before .before .before .before .state-len in
+    let a =
+    at
+    .before .before .before .before .before .before .before .before .before .before .args in
+    let finish = finish′ in
+    let rebuild′ = rebuild′′ in
+    let decode = decode′ in
+    let if1 = if1′ in
+    let state-len = state-len′ in
     let p : Params = mkParams (a .n) (a .b) (a .z) (a .s) (a .g) (a .l) in
     let l : Lent = lending (a .image .now) (a .pointers .now) (a .addresses .now) (a .compact .now) (a .inflight .now) (a .state .now) in
-    let w = c .before .before .before .before .before .before .before .before .before .before .before .before .rebuild .last in
-    let e : after (c .before .before .before .before .before .before .before .before .before .before .before .before .rebuild .result) (w .1 .0) (w .1 .1 .0) (w .1 .1 .1 .0) (w .1 .1 .1 .1 .0) (a .inflight .now) [] ≡ callDisk p (lentDisk l) (lentMemory l) (rebuild (a .drive) (a .count)) =
-    c .before .before .before .before .before .before .before .before .before .before .before .before .rebuild .ensures ∙ ap (λ (x : State). callDisk p (lentDisk l) (mkMemory x (a .addresses .now) (a .compact .now) (a .inflight .now)) (rebuild (a .drive) (a .count))) (c .before .before .before .before .before .before .before .before .before .before .before .before .before .before .before .before .before .decode .ensures) in
-    hears-call p l (rebuild (a .drive) (a .count)) [] (c .before .before .before .before .before .before .before .before .before .before .before .before .before .before .before .before .before .before .before .if1 .left ∙ c .before .before .before .before .before .before .before .before .before .before .before .before .before .before .before .before .before .before .before .before .state-len .ensures) (rebuild-keeps p (lentDisk l) (lentMemory l) (a .drive) (a .count))
-    (c .before .before .before .before .before .before .before .before .before .before .before .before .rebuild .result) (w .1 .0) (w .1 .1 .0) (w .1 .1 .1 .0) (w .1 .1 .1 .1 .0) (a .inflight .now) (c .before .before .finish .last .0) [] (c .before .before .finish .result) e (c .before .before .finish .ensures .0) (c .before .before .finish .ensures .1)
+    let w = rebuild′ .last in
+    let e : after (rebuild′ .result) (w .1 .0) (w .1 .1 .0) (w .1 .1 .1 .0) (w .1 .1 .1 .1 .0) (a .inflight .now) [] ≡ callDisk p (lentDisk l) (lentMemory l) (rebuild (a .drive) (a .count)) =
+    rebuild′ .ensures ∙ ap (λ (x : State). callDisk p (lentDisk l) (mkMemory x (a .addresses .now) (a .compact .now) (a .inflight .now)) (rebuild (a .drive) (a .count))) (decode .ensures) in
+    hears-call p l (rebuild (a .drive) (a .count)) [] (if1 .left ∙ state-len .ensures) (rebuild-keeps p (lentDisk l) (lentMemory l) (a .drive) (a .count))
+    (rebuild′ .result) (w .1 .0) (w .1 .1 .0) (w .1 .1 .1 .0) (w .1 .1 .1 .1 .0) (a .inflight .now) (finish .last .0) [] (finish .result) e (finish .ensures .0) (finish .ensures .1)
 
 pub sorgizhed-rebuild-spec : {M : Type 1} → statement M
 sorgizhed-rebuild-spec =

@@ -43,7 +43,10 @@ reclaim-requires : tie.Need-reclaim-requires
 reclaim-requires c κs = search needs
 
 apply-requires : tie.Need-apply-requires
-apply-requires c κs = c .before .before .before .before .before .before .before .before .before .before .before .before .before .before .before .before .before .before .before .if1 .left ∙ c .before .before .before .before .before .before .before .before .before .before .before .before .before .before .before .before .before .before .before .before .state-len .ensures
+apply-requires c κs =
+    let if1 = c .before .before .before .before .before .before .before .before .before .before .before .before .before .before .before .before .before .before .before .if1 in
+    let state-len = c .before .before .before .before .before .before .before .before .before .before .before .before .before .before .before .before .before .before .before .before .state-len in
+    if1 .left ∙ state-len .ensures
 
 same-length : tie.Need-same-length
 same-length c = search needs
@@ -66,14 +69,34 @@ same-length-6 c = search needs
 returns-2 : tie.Need-returns-2
 unfolding lentDisk lentMemory
 returns-2 c =
-    let a = c .before .before .before .before .before .before .before .before .before .before .before .before .before .before .before .before .before .before .before .before .before .before .before .before .before .before .before .before .before .before .args in
+    let apply′ = c .before .before .apply in
+    let reclaim′′ = c .before .before .before .before .before .before .before .before .before .before .before .before .before .before .reclaim in
+    let at = c .before .before .before .before .before .before .before .before .before .before .before .before .before .before .before .before .before in
+    let decode′ = c .before .before .before .before .before .before .before .before .before .before .before .before .before .before .before .before .before .before .before .before .decode in
+    let if1′ = c .before .before .before .before .before .before .before .before .before .before .before .before .before .before .before .before .before .before .before .before .before .before .if1 in
+    let a =
+    at
+    .before .before .before .before .before .before .before .before .before .before .before .before .before .args in
+    let apply = apply′ in
+    let reclaim′ = reclaim′′ in
+    let decode = decode′ in
+    let if1 = if1′ in
+    let state-len =
+    at
+    .before .before .before .before .before .before .state-len in
     let p : Params = mkParams (a .n) (a .b) (a .z) (a .s) (a .g) (a .l) in
     let l : Lent = lending (a .image .now) (a .pointers .now) (a .addresses .now) (a .compact .now) (a .inflight .now) (a .state .now) in
-    let w = c .before .before .before .before .before .before .before .before .before .before .before .before .before .before .reclaim .last in
-    let e : afterChange (stateOf (a .state .now)) (c .before .before .before .before .before .before .before .before .before .before .before .before .before .before .reclaim .result) (w .1 .0) (w .1 .1 .0) (w .1 .1 .1 .0) (w .1 .1 .1 .1 .0) (w .1 .1 .1 .1 .1 .0) [] ≡ callDisk p (lentDisk l) (lentMemory l) (reclaim (a .count)) =
-    ap (λ (x : State). afterChange x (c .before .before .before .before .before .before .before .before .before .before .before .before .before .before .reclaim .result) (w .1 .0) (w .1 .1 .0) (w .1 .1 .1 .0) (w .1 .1 .1 .1 .0) (w .1 .1 .1 .1 .1 .0) []) (sym (c .before .before .before .before .before .before .before .before .before .before .before .before .before .before .before .before .before .before .before .before .decode .ensures)) ∙ c .before .before .before .before .before .before .before .before .before .before .before .before .before .before .reclaim .ensures ∙ ap (λ (x : State). callDisk p (lentDisk l) (mkMemory x (a .addresses .now) (a .compact .now) (a .inflight .now)) (reclaim (a .count))) (c .before .before .before .before .before .before .before .before .before .before .before .before .before .before .before .before .before .before .before .before .decode .ensures) in
-    hears-change p l (reclaim (a .count)) [] (c .before .before .before .before .before .before .before .before .before .before .before .before .before .before .before .before .before .before .before .before .before .before .if1 .left ∙ c .before .before .before .before .before .before .before .before .before .before .before .before .before .before .before .before .before .before .before .before .before .before .before .state-len .ensures) (reclaim-keeps p (lentDisk l) (lentMemory l) (a .count))
-    (c .before .before .before .before .before .before .before .before .before .before .before .before .before .before .reclaim .result) (w .1 .0) (w .1 .1 .0) (w .1 .1 .1 .0) (w .1 .1 .1 .1 .0) (w .1 .1 .1 .1 .1 .0) (c .before .before .apply .last .0) [] (c .before .before .apply .result) e (c .before .before .apply .ensures .0) (c .before .before .apply .ensures .1)
+    let w = reclaim′ .last in
+    let e : afterChange (stateOf (a .state .now)) (reclaim′ .result) (w .1 .0) (w .1 .1 .0) (w .1 .1 .1 .0) (w .1 .1 .1 .1 .0) (w .1 .1 .1 .1 .1 .0)
+    []
+    ≡ callDisk p (lentDisk l) (lentMemory l) (reclaim (a .count)) =
+    ap (λ (x : State). afterChange x (reclaim′ .result) (w .1 .0) (w .1 .1 .0) (w .1 .1 .1 .0) (w .1 .1 .1 .1 .0) (w .1 .1 .1 .1 .1 .0) [])
+    (sym (decode .ensures))
+    ∙ reclaim′ .ensures
+    ∙ ap (λ (x : State). callDisk p (lentDisk l) (mkMemory x (a .addresses .now) (a .compact .now) (a .inflight .now)) (reclaim (a .count)))
+    (decode .ensures) in
+    hears-change p l (reclaim (a .count)) [] (if1 .left ∙ state-len .ensures) (reclaim-keeps p (lentDisk l) (lentMemory l) (a .count))
+    (reclaim′ .result) (w .1 .0) (w .1 .1 .0) (w .1 .1 .1 .0) (w .1 .1 .1 .1 .0) (w .1 .1 .1 .1 .1 .0) (apply .last .0) [] (apply .result) e (apply .ensures .0) (apply .ensures .1)
 
 pub sorgizhed-reclaim-spec : {M : Type 1} → statement M
 sorgizhed-reclaim-spec =

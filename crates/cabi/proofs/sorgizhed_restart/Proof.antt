@@ -34,7 +34,9 @@ returns c =
     let d = lentDisk l in
     let m = lentMemory l in
     ap (λ (x : Told). hears x l []) (c .short-of .ensures ∙ ap (λ (x : Bool). toldOf (shortAnswer x)) (c .before .good-restart .ensures))
-    ∙ hears-short p l (restart (a .missing) (a .count)) [] (λ e. c .before .before .if1 .taken (e ∙ sym (c .before .before .before .state-len .ensures))) (inRange p && namesDrive p (a .missing)) (restart-short p d m (a .missing) (a .count))
+    ∙ hears-short p l (restart (a .missing) (a .count)) []
+    (λ e. c .before .before .if1 .taken (e ∙ sym (c .before .before .before .state-len .ensures))) (inRange p && namesDrive p (a .missing))
+    (restart-short p d m (a .missing) (a .count))
 
 decode-requires : tie.Need-decode-requires
 decode-requires c κs = c .before .if1 .left ∙ c .before .before .state-len .ensures
@@ -43,7 +45,10 @@ restart-requires : tie.Need-restart-requires
 restart-requires c κs = search needs
 
 finish-requires : tie.Need-finish-requires
-finish-requires c κs = c .before .before .before .before .before .before .before .before .before .before .before .before .before .before .before .before .if1 .left ∙ c .before .before .before .before .before .before .before .before .before .before .before .before .before .before .before .before .before .state-len .ensures
+finish-requires c κs =
+    let if1 = c .before .before .before .before .before .before .before .before .before .before .before .before .before .before .before .before .if1 in
+    let state-len = c .before .before .before .before .before .before .before .before .before .before .before .before .before .before .before .before .before .state-len in
+    if1 .left ∙ state-len .ensures
 
 same-length : tie.Need-same-length
 same-length c = search needs
@@ -63,14 +68,27 @@ same-length-5 c = search needs
 returns-2 : tie.Need-returns-2
 unfolding lentDisk lentMemory
 returns-2 c =
-    let a = c .before .before .before .before .before .before .before .before .before .before .before .before .before .before .before .before .before .before .before .before .before .before .before .before .before .before .before .args in
+    let finish′ = c .before .before .finish in
+    let restart′′ = c .before .before .before .before .before .before .before .before .before .before .before .before .restart in
+    let at = c .before .before .before .before .before .before .before .before .before .before .before .before .before .before .before .before .before in
+    let decode′ = c .before .before .before .before .before .before .before .before .before .before .before .before .before .before .before .before .before .decode in
+    let if1′ = c .before .before .before .before .before .before .before .before .before .before .before .before .before .before .before .before .before .before .before .if1 in
+    let state-len′ = c .before .before .before .before .before .before .before .before .before .before .before .before .before .before .before .before .before .before .before .before .state-len in
+    let a =
+    at
+    .before .before .before .before .before .before .before .before .before .before .args in
+    let finish = finish′ in
+    let restart′ = restart′′ in
+    let decode = decode′ in
+    let if1 = if1′ in
+    let state-len = state-len′ in
     let p : Params = mkParams (a .n) (a .b) (a .z) (a .s) (a .g) (a .l) in
     let l : Lent = lending (a .image .now) (a .pointers .now) (a .addresses .now) (a .compact .now) (a .inflight .now) (a .state .now) in
-    let w = c .before .before .before .before .before .before .before .before .before .before .before .before .restart .last in
-    let e : after (c .before .before .before .before .before .before .before .before .before .before .before .before .restart .result) (w .1 .0) (w .1 .1 .0) (w .1 .1 .1 .0) (w .1 .1 .1 .1 .0) (a .inflight .now) [] ≡ callDisk p (lentDisk l) (lentMemory l) (restart (a .missing) (a .count)) =
-    c .before .before .before .before .before .before .before .before .before .before .before .before .restart .ensures ∙ ap (λ (x : State). callDisk p (lentDisk l) (mkMemory x (a .addresses .now) (a .compact .now) (a .inflight .now)) (restart (a .missing) (a .count))) (c .before .before .before .before .before .before .before .before .before .before .before .before .before .before .before .before .before .decode .ensures) in
-    hears-call p l (restart (a .missing) (a .count)) [] (c .before .before .before .before .before .before .before .before .before .before .before .before .before .before .before .before .before .before .before .if1 .left ∙ c .before .before .before .before .before .before .before .before .before .before .before .before .before .before .before .before .before .before .before .before .state-len .ensures) (restart-keeps p (lentDisk l) (lentMemory l) (a .missing) (a .count))
-    (c .before .before .before .before .before .before .before .before .before .before .before .before .restart .result) (w .1 .0) (w .1 .1 .0) (w .1 .1 .1 .0) (w .1 .1 .1 .1 .0) (a .inflight .now) (c .before .before .finish .last .0) [] (c .before .before .finish .result) e (c .before .before .finish .ensures .0) (c .before .before .finish .ensures .1)
+    let w = restart′ .last in
+    let e : after (restart′ .result) (w .1 .0) (w .1 .1 .0) (w .1 .1 .1 .0) (w .1 .1 .1 .1 .0) (a .inflight .now) [] ≡ callDisk p (lentDisk l) (lentMemory l) (restart (a .missing) (a .count)) =
+    restart′ .ensures ∙ ap (λ (x : State). callDisk p (lentDisk l) (mkMemory x (a .addresses .now) (a .compact .now) (a .inflight .now)) (restart (a .missing) (a .count))) (decode .ensures) in
+    hears-call p l (restart (a .missing) (a .count)) [] (if1 .left ∙ state-len .ensures) (restart-keeps p (lentDisk l) (lentMemory l) (a .missing) (a .count))
+    (restart′ .result) (w .1 .0) (w .1 .1 .0) (w .1 .1 .1 .0) (w .1 .1 .1 .1 .0) (a .inflight .now) (finish .last .0) [] (finish .result) e (finish .ensures .0) (finish .ensures .1)
 
 pub sorgizhed-restart-spec : {M : Type 1} → statement M
 sorgizhed-restart-spec =

@@ -33,7 +33,9 @@ returns c =
     let d = lentDisk l in
     let m = lentMemory l in
     ap (λ (x : Told). hears x l (a .block .now)) (c .short-of .ensures ∙ ap (λ (x : Bool). toldOf (shortAnswer x)) (c .before .in-range .ensures))
-    ∙ hears-short p l (write (a .address) (a .block .now) (a .count)) (a .block .now) (λ e. c .before .before .if1 .taken (e ∙ sym (c .before .before .before .state-len .ensures))) (inRange p) (write-short p d m (a .address) (a .block .now) (a .count))
+    ∙ hears-short p l (write (a .address) (a .block .now) (a .count)) (a .block .now)
+    (λ e. c .before .before .if1 .taken (e ∙ sym (c .before .before .before .state-len .ensures))) (inRange p)
+    (write-short p d m (a .address) (a .block .now) (a .count))
 
 decode-requires : tie.Need-decode-requires
 decode-requires c κs = c .before .if1 .left ∙ c .before .before .state-len .ensures
@@ -42,7 +44,10 @@ write-requires : tie.Need-write-requires
 write-requires c κs = search needs
 
 apply-requires : tie.Need-apply-requires
-apply-requires c κs = c .before .before .before .before .before .before .before .before .before .before .before .before .before .before .before .before .before .before .before .if1 .left ∙ c .before .before .before .before .before .before .before .before .before .before .before .before .before .before .before .before .before .before .before .before .state-len .ensures
+apply-requires c κs =
+    let if1 = c .before .before .before .before .before .before .before .before .before .before .before .before .before .before .before .before .before .before .before .if1 in
+    let state-len = c .before .before .before .before .before .before .before .before .before .before .before .before .before .before .before .before .before .before .before .before .state-len in
+    if1 .left ∙ state-len .ensures
 
 same-length : tie.Need-same-length
 same-length c = search needs
@@ -65,14 +70,35 @@ same-length-6 c = search needs
 returns-2 : tie.Need-returns-2
 unfolding lentDisk lentMemory
 returns-2 c =
-    let a = c .before .before .before .before .before .before .before .before .before .before .before .before .before .before .before .before .before .before .before .before .before .before .before .before .before .before .before .before .before .before .before .args in
+    let apply′ = c .before .before .apply in
+    let write′′ = c .before .before .before .before .before .before .before .before .before .before .before .before .before .before .write in
+    let at = c .before .before .before .before .before .before .before .before .before .before .before .before .before .before .before .before .before in
+    let decode′ = c .before .before .before .before .before .before .before .before .before .before .before .before .before .before .before .before .before .before .before .before .decode in
+    let if1′ = c .before .before .before .before .before .before .before .before .before .before .before .before .before .before .before .before .before .before .before .before .before .before .if1 in
+    let a =
+    at
+    .before .before .before .before .before .before .before .before .before .before .before .before .before .before .args in
+    let apply = apply′ in
+    let write′ = write′′ in
+    let decode = decode′ in
+    let if1 = if1′ in
+    let state-len =
+    at
+    .before .before .before .before .before .before .state-len in
     let p : Params = mkParams (a .n) (a .b) (a .z) (a .s) (a .g) (a .l) in
     let l : Lent = lending (a .image .now) (a .pointers .now) (a .addresses .now) (a .compact .now) (a .inflight .now) (a .state .now) in
-    let w = c .before .before .before .before .before .before .before .before .before .before .before .before .before .before .write .last in
-    let e : afterChange (stateOf (a .state .now)) (c .before .before .before .before .before .before .before .before .before .before .before .before .before .before .write .result) (w .1 .0) (w .1 .1 .0) (w .1 .1 .1 .0) (w .1 .1 .1 .1 .0) (w .1 .1 .1 .1 .1 .0) (a .block .now) ≡ callDisk p (lentDisk l) (lentMemory l) (write (a .address) (a .block .now) (a .count)) =
-    ap (λ (x : State). afterChange x (c .before .before .before .before .before .before .before .before .before .before .before .before .before .before .write .result) (w .1 .0) (w .1 .1 .0) (w .1 .1 .1 .0) (w .1 .1 .1 .1 .0) (w .1 .1 .1 .1 .1 .0) (a .block .now)) (sym (c .before .before .before .before .before .before .before .before .before .before .before .before .before .before .before .before .before .before .before .before .decode .ensures)) ∙ c .before .before .before .before .before .before .before .before .before .before .before .before .before .before .write .ensures ∙ ap (λ (x : State). callDisk p (lentDisk l) (mkMemory x (a .addresses .now) (a .compact .now) (a .inflight .now)) (write (a .address) (a .block .now) (a .count))) (c .before .before .before .before .before .before .before .before .before .before .before .before .before .before .before .before .before .before .before .before .decode .ensures) in
-    hears-change p l (write (a .address) (a .block .now) (a .count)) (a .block .now) (c .before .before .before .before .before .before .before .before .before .before .before .before .before .before .before .before .before .before .before .before .before .before .if1 .left ∙ c .before .before .before .before .before .before .before .before .before .before .before .before .before .before .before .before .before .before .before .before .before .before .before .state-len .ensures) (write-keeps p (lentDisk l) (lentMemory l) (a .address) (a .block .now) (a .count))
-    (c .before .before .before .before .before .before .before .before .before .before .before .before .before .before .write .result) (w .1 .0) (w .1 .1 .0) (w .1 .1 .1 .0) (w .1 .1 .1 .1 .0) (w .1 .1 .1 .1 .1 .0) (c .before .before .apply .last .0) (a .block .now) (c .before .before .apply .result) e (c .before .before .apply .ensures .0) (c .before .before .apply .ensures .1)
+    let w = write′ .last in
+    let e : afterChange (stateOf (a .state .now)) (write′ .result) (w .1 .0) (w .1 .1 .0) (w .1 .1 .1 .0) (w .1 .1 .1 .1 .0) (w .1 .1 .1 .1 .1 .0)
+    (a .block .now)
+    ≡ callDisk p (lentDisk l) (lentMemory l) (write (a .address) (a .block .now) (a .count)) =
+    ap (λ (x : State). afterChange x (write′ .result) (w .1 .0) (w .1 .1 .0) (w .1 .1 .1 .0) (w .1 .1 .1 .1 .0) (w .1 .1 .1 .1 .1 .0) (a .block .now))
+    (sym (decode .ensures))
+    ∙ write′ .ensures
+    ∙ ap (λ (x : State). callDisk p (lentDisk l) (mkMemory x (a .addresses .now) (a .compact .now) (a .inflight .now))
+    (write (a .address) (a .block .now) (a .count))) (decode .ensures) in
+    hears-change p l (write (a .address) (a .block .now) (a .count)) (a .block .now) (if1 .left ∙ state-len .ensures)
+    (write-keeps p (lentDisk l) (lentMemory l) (a .address) (a .block .now) (a .count))
+    (write′ .result) (w .1 .0) (w .1 .1 .0) (w .1 .1 .1 .0) (w .1 .1 .1 .1 .0) (w .1 .1 .1 .1 .1 .0) (apply .last .0) (a .block .now) (apply .result) e (apply .ensures .0) (apply .ensures .1)
 
 pub sorgizhed-write-spec : {M : Type 1} → statement M
 sorgizhed-write-spec =

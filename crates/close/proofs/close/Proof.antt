@@ -39,8 +39,13 @@ abbrev memory : (c : tie.Start) → Memory
 memory c = mkMemory (c .args .state) (c .args .addresses .now) (c .args .compact .now) (c .args .inflight .now)
 
 -- the eighth is the state's
-slot-of : (c : tie.After-filling-slot) → c .filling-slot .result ≡ fillingSlot (c .before .before .before .before .before .before .before .args .p) (c .before .before .before .before .before .before .before .args .state)
-slot-of c = c .filling-slot .ensures ∙ front-filling (c .before .before .before .before .before .before .before .args .p) (c .before .before .before .before .before .before .before .args .state) (c .before .front-of .result) (c .before .front-of .ensures)
+slot-of :
+    (c : tie.After-filling-slot)
+    → c .filling-slot .result ≡ fillingSlot (c .before .before .before .before .before .before .before .args .p)
+    (c .before .before .before .before .before .before .before .args .state)
+slot-of c =
+    let args = c .before .before .before .before .before .before .before .args in
+    c .filling-slot .ensures ∙ front-filling (args .p) (args .state) (c .before .front-of .result) (c .before .front-of .ensures)
 
 front-of-requires : tie.Need-front-of-requires
 front-of-requires c κs = search needs
@@ -63,8 +68,9 @@ same-length c = search needs
 returns : tie.Need-returns
 returns c =
     let s = c .before .before .before .before .before .before .before .before .before .before .before .before .before in
+    let checks = c .before .before .before .before .checks in
     let q = c .before .before .c .given in
-    λ n. close-refused (s .args .p) (disk s) (memory s) (c .kept .result) (sym (c .before .before .before .before .checks .ensures) ∙ ap checked (q .1) ∙ ap (λ (x : Change). some (x .answer)) (sym (c .kept .ensures))) n
+    λ n. close-refused (s .args .p) (disk s) (memory s) (c .kept .result) (sym (checks .ensures) ∙ ap checked (q .1) ∙ ap (λ (x : Change). some (x .answer)) (sym (c .kept .ensures))) n
 
 enum-told : tie.Need-enum-told
 enum-told c = search needs
@@ -72,18 +78,25 @@ enum-told c = search needs
 row-of-requires : tie.Need-row-of-requires
 row-of-requires c κs =
     let s = c .before .before .before .before .before .before .before .before .before .before .before in
-    let none! : refusal (s .args .p) (disk s) (memory s) ≡ none = sym (c .before .before .checks .ensures) ∙ ap checked (c .enum-told .given .1) in
-    slot-low (s .args .p) (s .args .state) (c .before .before .before .before .filling-slot .result) (slot-of (c .before .before .before .before)) (ready (s .args .p) (disk s) (memory s) none! .filling)
+    let checks = c .before .before .checks in
+    let at = c .before .before .before .before in
+    let filling-slot = c .before .before .before .before .filling-slot in
+    let none! : refusal (s .args .p) (disk s) (memory s) ≡ none = sym (checks .ensures) ∙ ap checked (c .enum-told .given .1) in
+    slot-low (s .args .p) (s .args .state) (filling-slot .result) (slot-of (at)) (ready (s .args .p) (disk s) (memory s) none! .filling)
 
 pad-all-requires : tie.Need-pad-all-requires
 pad-all-requires c κs =
     let s = c .before .before .before .before .before .before .before .before .before .before .before .before .before in
-    let none! : refusal (s .args .p) (disk s) (memory s) ≡ none = sym (c .before .before .before .before .checks .ensures) ∙ ap checked (c .before .before .enum-told .given .1) in
+    let enum-told = c .before .before .enum-told in
+    let checks = c .before .before .before .before .checks in
+    let at = c .before .before .before .before .before .before in
+    let filling-slot = c .before .before .before .before .before .before .filling-slot in
+    let none! : refusal (s .args .p) (disk s) (memory s) ≡ none = sym (checks .ensures) ∙ ap checked (enum-told .given .1) in
     let r = ready (s .args .p) (disk s) (memory s) none! in
-    let i = c .before .before .before .before .before .before .filling-slot .result in
+    let i = filling-slot .result in
     let e : c .before .row-of .result .filled ≡ filledIn (s .args .state) i = ap (λ (x : Row). x .filled) (c .before .row-of .ensures) ∙ row-filled (s .args .state) i in (
       r .ranged,
-      (slot-low (s .args .p) (s .args .state) i (slot-of (c .before .before .before .before .before .before)) (r .filling), omega (arith, e, slot-open (s .args .p) (s .args .state) i (slot-of (c .before .before .before .before .before .before)) (r .filling)), r .inflight-long),
+      (slot-low (s .args .p) (s .args .state) i (slot-of (at)) (r .filling), omega (arith, e, slot-open (s .args .p) (s .args .state) i (slot-of (at)) (r .filling)), r .inflight-long),
     )
 
 cast-t20 : tie.Need-cast-t20
@@ -95,16 +108,23 @@ same-length-2 c = search needs
 returns-2 : tie.Need-returns-2
 returns-2 c =
     let s = c .before .before .before .before .before .before .before .before .before .before .before .before .before .before .before .before .before .before .before in
+    let pad-all = c .before .before .before .before .before .pad-all in
+    let row-of = c .before .before .before .before .before .before .before .row-of in
+    let enum-told = c .before .before .before .before .before .before .before .before .enum-told in
+    let checks = c .before .before .before .before .before .before .before .before .before .before .checks in
+    let at′ = c .before .before .before .before .before .before .before .before .before .before .before .before in
+    let filling-slot = c .before .before .before .before .before .before .before .before .before .before .before .before .filling-slot in
+    let front-of = c .before .before .before .before .before .before .before .before .before .before .before .before .before .front-of in
     let a = s .args in
-    let none! : refusal (a .p) (disk s) (memory s) ≡ none = sym (c .before .before .before .before .before .before .before .before .before .before .checks .ensures) ∙ ap checked (c .before .before .before .before .before .before .before .before .enum-told .given .1) in
+    let none! : refusal (a .p) (disk s) (memory s) ≡ none = sym (checks .ensures) ∙ ap checked (enum-told .given .1) in
     let r = ready (a .p) (disk s) (memory s) none! in
     let at = fillingSlot (a .p) (a .state) in
-    let f = c .before .before .before .before .before .before .before .before .before .before .before .before .before .front-of in
-    let g = c .before .before .before .before .before .before .before .before .before .before .before .before .filling-slot in
-    let q = c .before .before .before .before .before .pad-all in
+    let f = front-of in
+    let g = filling-slot in
+    let q = pad-all in
     let few : dataCount (a .p) ≤ 8 = omega (arith, data-count-high (a .p) (ranged (a .p) (r .ranged))) in
     λ n. close-done (a .p) (disk s) (memory s) none! (sized s) (slot-low (a .p) (a .state) at refl (r .filling)) few (slot-open (a .p) (a .state) at refl (r .filling)) (f .result) (f .ensures)
-    (g .result) (slot-of (c .before .before .before .before .before .before .before .before .before .before .before .before)) (c .before .before .before .before .before .before .before .row-of .result) (c .before .before .before .before .before .before .before .row-of .ensures) (q .result) (q .last .1 .0) (q .ensures .0) (q .ensures .1) n
+    (g .result) (slot-of (at′)) (row-of .result) (row-of .ensures) (q .result) (q .last .1 .0) (q .ensures .0) (q .ensures .1) n
 
 pub close-spec : {M : Type 1} → statement M
 close-spec =

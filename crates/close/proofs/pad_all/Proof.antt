@@ -12,7 +12,8 @@ use Rattle.close.proofs.pad_all.Statement.{statement}
 use Rattle.close.proofs.pad_all.Tie as tie
 
 abbrev Inv-loop : tie.InvT-loop
-Inv-loop p inflight₀ i n next₀ k₀ inflight next k = (k ≤ dataCount p) × (k ≡ next .filled) × (length inflight ≡ length inflight₀) × (paddedRow p i (dataCount p - k) next inflight ≡ paddedRow p i (dataCount p - k₀) next₀ inflight₀)
+Inv-loop p inflight₀ i n next₀ k₀ inflight next k =
+    (k ≤ dataCount p) × (k ≡ next .filled) × (length inflight ≡ length inflight₀) × (paddedRow p i (dataCount p - k) next inflight ≡ paddedRow p i (dataCount p - k₀) next₀ inflight₀)
 
 abbrev μ-loop : tie.MeasureT-loop
 μ-loop p inflight₀ i n next₀ k₀ inflight next k = dataCount p - k
@@ -32,23 +33,33 @@ low c = omega (arith, c .loop-test .taken, c .before .before .before .data-count
 pad-requires : tie.Need-pad-requires Inv-loop μ-loop
 pad-requires c κs =
     let l = c .before .before .loop in
-    (c .before .before .before .before .before .before .pre .0, (c .before .before .before .before .before .before .pre .1 .0, omega (arith, low (c .before), l .inv .1), l .inv .2 ∙ c .before .before .before .before .before .before .pre .1 .2))
+    let pre = c .before .before .before .before .before .before .pre in
+    (pre .0, (pre .1 .0, omega (arith, low (c .before), l .inv .1), l .inv .2 ∙ pre .1 .2))
 
 add-k : tie.Need-add-k Inv-loop μ-loop
-add-k c = omega (arith, low (c .before .before .before .before), data-count-high (c .before .before .before .before .before .before .before .before .before .args .p) (ranged (c .before .before .before .before .before .before .before .before .before .args .p) (c .before .before .before .before .before .before .before .before .before .pre .0)))
+add-k c =
+    let at = c .before .before .before .before in
+    let entry = c .before .before .before .before .before .before .before .before .before in
+    let args = entry .args in
+    let pre = entry .pre in
+    omega (arith, low (at), data-count-high (args .p) (ranged (args .p) (pre .0)))
 
 loop-less : tie.Need-loop-less Inv-loop μ-loop
-loop-less c = omega (arith, low (c .before .before .before .before))
+loop-less c =
+    let at = c .before .before .before .before in
+    omega (arith, low (at))
 
 loop-again : tie.Need-loop-again Inv-loop μ-loop
 loop-again c =
     let a = c .before .before .before .before .before .before .before .before .before .args in
     let l = c .before .before .before .before .before .loop in
-    let r = c .before .before .pad .ensures in (
-      omega (arith, low (c .before .before .before .before)),
+    let pad = c .before .before .pad in
+    let at = c .before .before .before .before in
+    let r = pad .ensures in (
+      omega (arith, low (at)),
       pad-filled (a .p) (a .i) (l .next) (l .inflight) (l .k) (l .inv .1) ∙ ap (λ (x : Row). x .filled) (sym (r .0)),
-      c .before .before .pad .kept .1 .0 ∙ l .inv .2,
-      (λ j. paddedRow (a .p) (a .i) (dataCount (a .p) - (l .k + 1)) (r .0 j) (r .1 j)) ∙ pads-turn (a .p) (a .i) (l .next) (l .inflight) (l .k) (low (c .before .before .before .before)) ∙ l .inv .3,
+      pad .kept .1 .0 ∙ l .inv .2,
+      (λ j. paddedRow (a .p) (a .i) (dataCount (a .p) - (l .k + 1)) (r .0 j) (r .1 j)) ∙ pads-turn (a .p) (a .i) (l .next) (l .inflight) (l .k) (low (at)) ∙ l .inv .3,
     )
 
 same-length : tie.Need-same-length Inv-loop μ-loop
@@ -59,7 +70,10 @@ returns c =
     let a = c .before .before .before .before .before .args in
     let l = c .before .loop in
     let e : dataCount (a .p) ≤ l .k = omega (arith, c .loop-test .left, c .before .before .before .data-count .ensures .0) in
-    let q = sym (pads-end (a .p) (a .i) (l .next) (l .inflight) (l .k) e) ∙ l .inv .3 ∙ ap (λ (x : ℕ). paddedRow (a .p) (a .i) (dataCount (a .p) - x) (a .row) (a .inflight .now)) (c .before .before .wide .ensures) in
+    let q =
+    sym (pads-end (a .p) (a .i) (l .next) (l .inflight) (l .k) e)
+    ∙ l .inv .3
+    ∙ ap (λ (x : ℕ). paddedRow (a .p) (a .i) (dataCount (a .p) - x) (a .row) (a .inflight .now)) (c .before .before .wide .ensures) in
     (ap (λ (x : PlacedRow). x .row) q, ap (λ (x : PlacedRow). x .inflight) q)
 
 pub pad-all-spec : {M : Type 1} → statement M

@@ -28,7 +28,8 @@ returns-2 c =
     let a = c .before .before .before .before .before .before .before .args in
     let v = viewOf (a .p) (a .image .now) (a .pointers .now) in
     let left = not (isNil (idle (a .p) v (a .state) (victim (a .p) v (a .addresses .now)))) in
-    numbers-fail (a .p) (a .state) (a .addresses .now) left (sym (c .before .before .before .is-left .ensures) ∙ c .before .before .if1 .left) (sym (c .before .state-ok .ensures) ∙ not-true (c .before .state-ok .result) (c .if2 .taken))
+    numbers-fail (a .p) (a .state) (a .addresses .now) left (sym (c .before .before .before .is-left .ensures) ∙ c .before .before .if1 .left)
+    (sym (c .before .state-ok .ensures) ∙ not-true (c .before .state-ok .result) (c .if2 .taken))
 
 any-outside-requires : tie.Need-any-outside-requires
 any-outside-requires c κs = search needs
@@ -36,17 +37,25 @@ any-outside-requires c κs = search needs
 returns-3 : tie.Need-returns-3
 returns-3 c =
     let a = c .before .before .before .before .before .before .before .before .before .args in
+    let if2 = c .before .before .if2 in
+    let state-ok = c .before .before .before .state-ok in
+    let if1 = c .before .before .before .before .if1 in
+    let is-left = c .before .before .before .before .before .is-left in
     let v = viewOf (a .p) (a .image .now) (a .pointers .now) in
     let left = not (isNil (idle (a .p) v (a .state) (victim (a .p) v (a .addresses .now)))) in
-    table-fails (a .p) (a .state) (a .addresses .now) left (sym (c .before .before .before .before .before .is-left .ensures) ∙ c .before .before .before .before .if1 .left) (sym (c .before .before .before .state-ok .ensures) ∙ not-false (c .before .before .before .state-ok .result) (c .before .before .if2 .left))
+    table-fails (a .p) (a .state) (a .addresses .now) left (sym (is-left .ensures) ∙ if1 .left) (sym (state-ok .ensures) ∙ not-false (state-ok .result) (if2 .left))
     (c .before .any-outside .ensures ∙ ap (λ (x : Bool). consIf x 0 []) (c .if3 .taken))
 
 returns-4 : tie.Need-returns-4
 returns-4 c =
     let a = c .before .before .before .before .before .before .before .before .before .args in
+    let if2 = c .before .before .if2 in
+    let state-ok = c .before .before .before .state-ok in
+    let if1 = c .before .before .before .before .if1 in
+    let is-left = c .before .before .before .before .before .is-left in
     let v = viewOf (a .p) (a .image .now) (a .pointers .now) in
     let left = not (isNil (idle (a .p) v (a .state) (victim (a .p) v (a .addresses .now)))) in
-    table-passes (a .p) (a .state) (a .addresses .now) left (sym (c .before .before .before .before .before .is-left .ensures) ∙ c .before .before .before .before .if1 .left) (sym (c .before .before .before .state-ok .ensures) ∙ not-false (c .before .before .before .state-ok .result) (c .before .before .if2 .left))
+    table-passes (a .p) (a .state) (a .addresses .now) left (sym (is-left .ensures) ∙ if1 .left) (sym (state-ok .ensures) ∙ not-false (state-ok .result) (if2 .left))
     (c .before .any-outside .ensures ∙ ap (λ (x : Bool). consIf x 0 []) (c .if3 .left))
 
 pub scarce-checks-spec : {M : Type 1} → statement M

@@ -48,13 +48,25 @@ read-le32-requires-2 c κs = omega (arith, state-len)
 
 returns : tie.Need-returns
 returns c =
-    let bs = c .before .before .before .before .before .before .before .before .before .before .before .before .before .before .args .bytes .now in
-    let h : 1 < length bs = omega (arith, state-len, c .before .before .before .before .before .before .before .before .before .before .before .before .before .before .pre) in
+    let read-le642 = c .before .before .read-le642 in
+    let read-le64 = c .before .before .before .read-le64 in
+    let many-words-at = c .before .before .before .before .before .before .many-words-at in
+    let many-longs-at2 = c .before .before .before .before .before .before .before .many-longs-at2 in
+    let many-longs-at = c .before .before .before .before .before .before .before .before .many-longs-at in
+    let bytes-at3 = c .before .before .before .before .before .before .before .before .before .bytes-at3 in
+    let bytes-at2 = c .before .before .before .before .before .before .before .before .before .before .bytes-at2 in
+    let bytes-at = c .before .before .before .before .before .before .before .before .before .before .before .bytes-at in
+    let words-at′ = c .before .before .before .before .before .before .before .before .before .before .before .before .words-at in
+    let entry = c .before .before .before .before .before .before .before .before .before .before .before .before .before .before in
+    let args = entry .args in
+    let pre = entry .pre in
+    let bs = args .bytes .now in
+    let h : 1 < length bs = omega (arith, state-len, pre) in
     rw (state-read bs)
     (λ j.
-    mkState (leOf-part-one 0 bs (omega arith) j) (leOf-part-one 1 bs h j) (c .before .before .before .read-le64 .ensures j) (c .before .before .read-le642 .ensures j) (c .before .read-le32 .ensures j) (c .read-le322 .ensures j)
-    (c .before .before .before .before .before .before .before .before .before .before .before .before .words-at .ensures j) (c .before .before .before .before .before .before .before .before .before .before .before .bytes-at .ensures j) (c .before .before .before .before .before .before .before .before .before .before .bytes-at2 .ensures j) (c .before .before .before .before .before .before .before .before .before .bytes-at3 .ensures j) (c .before .before .before .before .before .before .before .before .many-longs-at .ensures j) (c .before .before .before .before .before .before .before .many-longs-at2 .ensures j)
-    (c .before .before .before .before .before .before .many-words-at .ensures j))
+    mkState (leOf-part-one 0 bs (omega arith) j) (leOf-part-one 1 bs h j) (read-le64 .ensures j) (read-le642 .ensures j) (c .before .read-le32 .ensures j) (c .read-le322 .ensures j)
+    (words-at′ .ensures j) (bytes-at .ensures j) (bytes-at2 .ensures j) (bytes-at3 .ensures j) (many-longs-at .ensures j) (many-longs-at2 .ensures j)
+    (many-words-at .ensures j))
 
 pub decode-spec : {M : Type 1} → statement M
 decode-spec =

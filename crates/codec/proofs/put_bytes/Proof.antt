@@ -15,7 +15,8 @@ same-length c = search needs
 returns : tie.Need-returns
 returns c =
     let a = c .before .before .before .before .before .before .args in
-    c .before .before .copy-part .ensures ∙ ap (splice (a .dst .now) (a .at)) (sym (bytes-same (a .ns .now) (λ k h. omega (arith, c .before .before .before .before .shared-slice-known .given k))))
+    let shared-slice-known = c .before .before .before .before .shared-slice-known in
+    c .before .before .copy-part .ensures ∙ ap (splice (a .dst .now) (a .at)) (sym (bytes-same (a .ns .now) (λ k h. omega (arith, shared-slice-known .given k))))
 
 pub put-bytes-spec : {M : Type 1} → statement M
 put-bytes-spec = tie.close (tie.spec copy-part-requires same-length returns)

@@ -47,10 +47,13 @@ returns : tie.Need-returns
 unfolding writtenAll written stateSections sectionLen total
 returns c =
     let a = c .before .before .before .before .before .before .before .before .before .before .before .before .before .before .before .before .args in
+    let put-words = c .before .before .put-words in
+    let put-longs2 = c .before .before .before .before .before .before .before .put-longs2 in
+    let put-longs = c .before .before .before .before .before .before .before .before .before .before .before .before .put-longs in
     let at = 8 * a .i in
-    c .before .before .put-words .ensures
-    ∙ ap (λ (x : List ℕ). splice x (1106 + 4 * at) (flat (toLe 4) (a .offsets .now))) (c .before .before .before .before .before .before .before .put-longs2 .ensures
-    ∙ ap (λ (x : List ℕ). splice x (594 + 8 * at) (flat (toLe 8) (a .stamps .now))) (c .before .before .before .before .before .before .before .before .before .before .before .before .put-longs .ensures))
+    put-words .ensures
+    ∙ ap (λ (x : List ℕ). splice x (1106 + 4 * at) (flat (toLe 4) (a .offsets .now))) (put-longs2 .ensures
+    ∙ ap (λ (x : List ℕ). splice x (594 + 8 * at) (flat (toLe 8) (a .stamps .now))) (put-longs .ensures))
 
 pub put-cells-spec : {M : Type 1} → statement M
 put-cells-spec =

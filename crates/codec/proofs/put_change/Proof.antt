@@ -22,13 +22,24 @@ same-length c = search needs
 returns : tie.Need-returns
 returns c =
     let s = c .before .before .before .before .before .before in
-    change-front (s .args .dst .now) (s .pre) (λ k h. omega (arith, c .before .before .before .before .before .slice-known .given k)) (s .args .c) (c .before .before .before .put-counts .last .0) (c .before .before .before .put-counts .ensures) (c .if1 .taken)
+    let put-counts = c .before .before .before .put-counts in
+    let slice-known = c .before .before .before .before .before .slice-known in
+    change-front (s .args .dst .now) (s .pre) (λ k h. omega (arith, slice-known .given k)) (s .args .c) (put-counts .last .0) (put-counts .ensures) (c .if1 .taken)
 
 put-marks-requires : tie.Need-put-marks-requires
-put-marks-requires c κs = (omega (arith, c .before .before .before .before .before .if1 .left), omega (arith, state-len, c .before .before .before .before .before .before .before .before .put-counts .kept .0, c .before .before .before .before .before .before .before .before .before .before .before .pre))
+put-marks-requires c κs =
+    let if1 = c .before .before .before .before .before .if1 in
+    let put-counts = c .before .before .before .before .before .before .before .before .put-counts in
+    let pre = c .before .before .before .before .before .before .before .before .before .before .before .pre in
+    (omega (arith, if1 .left), omega (arith, state-len, put-counts .kept .0, pre))
 
 put-cells-requires : tie.Need-put-cells-requires
-put-cells-requires c κs = (omega (arith, c .before .before .before .before .before .before .before .before .before .before .before .before .if1 .left), omega (arith, state-len, c .before .before .before .before .before .before .put-marks .kept .0, c .before .before .before .before .before .before .before .before .before .before .before .before .before .before .before .put-counts .kept .0, c .before .before .before .before .before .before .before .before .before .before .before .before .before .before .before .before .before .before .pre))
+put-cells-requires c κs =
+    let put-marks = c .before .before .before .before .before .before .put-marks in
+    let if1 = c .before .before .before .before .before .before .before .before .before .before .before .before .if1 in
+    let put-counts = c .before .before .before .before .before .before .before .before .before .before .before .before .before .before .before .put-counts in
+    let pre = c .before .before .before .before .before .before .before .before .before .before .before .before .before .before .before .before .before .before .pre in
+    (omega (arith, if1 .left), omega (arith, state-len, put-marks .kept .0, put-counts .kept .0, pre))
 
 same-length-2 : tie.Need-same-length-2
 same-length-2 c = search needs
@@ -36,8 +47,13 @@ same-length-2 c = search needs
 returns-2 : tie.Need-returns-2
 returns-2 c =
     let s = c .before .before .before .before .before .before .before .before .before .before .before .before .before .before .before .before .before .before .before .before .before in
-    change-row (s .args .dst .now) (s .pre) (λ k h. omega (arith, c .before .before .before .before .before .before .before .before .before .before .before .before .before .before .before .before .before .before .before .before .slice-known .given k)) (s .args .c) (c .before .before .before .before .before .before .before .before .before .before .before .before .before .before .before .before .before .before .put-counts .last .0) (c .before .before .before .before .before .before .before .before .before .before .before .before .before .before .before .before .before .before .put-counts .ensures)
-    (omega (arith, c .before .before .before .before .before .before .before .before .before .before .before .before .before .before .before .if1 .left)) (row-sized s) (c .before .before .before .before .before .before .before .before .before .put-marks .last .0) (c .before .before .put-cells .last .0) (c .before .before .before .before .before .before .before .before .before .put-marks .ensures) (c .before .before .put-cells .ensures)
+    let put-cells = c .before .before .put-cells in
+    let put-marks = c .before .before .before .before .before .before .before .before .before .put-marks in
+    let if1 = c .before .before .before .before .before .before .before .before .before .before .before .before .before .before .before .if1 in
+    let put-counts = c .before .before .before .before .before .before .before .before .before .before .before .before .before .before .before .before .before .before .put-counts in
+    let slice-known = c .before .before .before .before .before .before .before .before .before .before .before .before .before .before .before .before .before .before .before .before .slice-known in
+    change-row (s .args .dst .now) (s .pre) (λ k h. omega (arith, slice-known .given k)) (s .args .c) (put-counts .last .0) (put-counts .ensures)
+    (omega (arith, if1 .left)) (row-sized s) (put-marks .last .0) (put-cells .last .0) (put-marks .ensures) (put-cells .ensures)
 
 pub put-change-spec : {M : Type 1} → statement M
 put-change-spec =

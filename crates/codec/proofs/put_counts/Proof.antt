@@ -30,10 +30,15 @@ returns : tie.Need-returns
 unfolding writtenAll written stateSections sectionLen total
 returns c =
     let a = c .before .before .before .before .before .before .before .before .before .before .before .before .before .before .before .before .before .args in
-    c .before .before .write-le322 .ensures
-    ∙ (λ j. splice ((c .before .before .before .before .before .before .write-le32 .ensures
-    ∙ (λ k. splice ((c .before .before .before .before .before .before .before .before .before .before .write-le642 .ensures
-    ∙ (λ m. splice ((c .before .before .before .before .before .before .before .before .before .before .before .before .before .before .write-le64 .ensures ∙ ap (splice (a .dst .now) 2) (number-written 8 (a .stamp))) m) 10 (number-written 8 (a .serial) m))) k) 18 (number-written 4 (a .opened) k))) j) 22 (number-written 4 (a .next) j))
+    let write-le322 = c .before .before .write-le322 in
+    let write-le32 = c .before .before .before .before .before .before .write-le32 in
+    let write-le642 = c .before .before .before .before .before .before .before .before .before .before .write-le642 in
+    let write-le64 = c .before .before .before .before .before .before .before .before .before .before .before .before .before .before .write-le64 in
+    write-le322 .ensures
+    ∙ (λ j. splice ((write-le32 .ensures
+    ∙ (λ k. splice ((write-le642 .ensures
+    ∙ (λ m. splice ((write-le64 .ensures ∙ ap (splice (a .dst .now) 2) (number-written 8 (a .stamp))) m) 10 (number-written 8 (a .serial) m))) k) 18
+    (number-written 4 (a .opened) k))) j) 22 (number-written 4 (a .next) j))
 
 pub put-counts-spec : {M : Type 1} → statement M
 put-counts-spec =

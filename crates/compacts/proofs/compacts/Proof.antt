@@ -37,8 +37,15 @@ loop-again c =
     let l = c .before .before .before .before .before .before .loop in
     let a = c .before .before .before .before .before .before .before .before .before .before .before .args in
     let q = c .before .before .before .before .before .before .before .before .before .before .before .pre in
-    let v : View = viewOf (a .p) (a .image .now) (a .pointers .now) in
-    (omega (arith, c .before .before .before .before .if1 .taken), c .before .before .rows .kept .1 .1 .1 .0 ∙ l .inv .1, drives-turn (a .p) v (a .gone) (l .d) (a .compact .now) (l .compact) (c .before .before .rows .last .1 .1 .1 .0) (c .before .before .before .before .if1 .taken) (q .1 .1 .0) (l .inv .2) (c .before .before .rows .ensures))
+    let rows = c .before .before .rows in
+    let if1 = c .before .before .before .before .if1 in
+    let v : View = viewOf (a .p) (a .image .now) (a .pointers .now) in (
+      omega (arith, if1 .taken),
+      rows .kept .1 .1 .1 .0
+          ∙ l .inv .1,
+      drives-turn (a .p) v (a .gone) (l .d) (a .compact .now) (l .compact) (rows .last .1 .1 .1 .0) (if1 .taken) (q .1 .1 .0)
+          (l .inv .2) (rows .ensures),
+    )
 
 same-length : tie.Need-same-length Inv-loop μ-loop
 same-length c = c .before .before .loop .inv .1
@@ -47,9 +54,10 @@ returns : tie.Need-returns Inv-loop μ-loop
 returns c =
     let l = c .before .before .loop in
     let a = c .before .before .before .before .before .before .before .args in
+    let pre = c .before .before .before .before .before .before .before .pre in
     let e : l .d ≡ a .p .N = omega (arith, c .if1 .left) in
     let v : View = viewOf (a .p) (a .image .now) (a .pointers .now) in
-    table-said (a .p) v (a .gone) (a .compact .now) (l .compact) (c .before .before .before .before .before .before .before .pre .1 .1 .0) (l .inv .2 ∙ ap (λ (x : ℕ). splice (a .compact .now) 0 (flat (driveSaid (a .p) v (a .gone)) (below x))) e)
+    table-said (a .p) v (a .gone) (a .compact .now) (l .compact) (pre .1 .1 .0) (l .inv .2 ∙ ap (λ (x : ℕ). splice (a .compact .now) 0 (flat (driveSaid (a .p) v (a .gone)) (below x))) e)
 
 pub compacts-spec : {M : Type 1} → statement M
 compacts-spec =

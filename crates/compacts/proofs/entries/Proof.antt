@@ -40,13 +40,21 @@ cast-entry-near : tie.Need-cast-entry-near Inv-loop μ-loop
 cast-entry-near c = omega arith
 
 entry-near-requires : tie.Need-entry-near-requires Inv-loop μ-loop
-entry-near-requires c κs = (c .before .before .before .before .before .before .before .pre .0, c .before .base-at .ensures .1)
+entry-near-requires c κs =
+    let pre = c .before .before .before .before .before .before .before .pre in
+    (pre .0, c .before .base-at .ensures .1)
 
 add-compact : tie.Need-add-compact Inv-loop μ-loop
-add-compact c = omega (arith, c .before .before .before .before .before .before .before .before .pre, c .before .before .before .before .loop-test)
+add-compact c =
+    let loop-test = c .before .before .before .before .loop-test in
+    let pre = c .before .before .before .before .before .before .before .before .pre in
+    omega (arith, pre, loop-test)
 
 slice-write-compact : tie.Need-slice-write-compact Inv-loop μ-loop
-slice-write-compact c = omega (arith, c .before .before .before .before .before .before .before .before .pre, c .before .before .before .before .loop-test)
+slice-write-compact c =
+    let loop-test = c .before .before .before .before .loop-test in
+    let pre = c .before .before .before .before .before .before .before .before .pre in
+    omega (arith, pre, loop-test)
 
 add-o : tie.Need-add-o Inv-loop μ-loop
 add-o c = omega arith
@@ -59,14 +67,19 @@ loop-again c =
     let l = c .before .before .before .before .before .loop in
     let a = c .before .before .before .before .before .before .before .before .args in
     let q = c .before .before .before .before .before .before .before .before .pre in
+    let base-at = c .before .before .base-at in
+    let record-in = c .before .before .before .record-in in
+    let loop-test = c .before .before .before .before .loop-test in
     let v : List ℕ → Zone = λ ps. zoneAt (viewOf (a .p) (a .image .now) ps) (a .drive) (a .zone) in
     let e : (ps : List ℕ) → length ps ≡ pointersLen (a .p) → c .entry-near .result ≡ entryOf (a .p) (a .full) (v ps) (l .o) =
-    λ ps h. c .entry-near .ensures ∙ entry-of (a .p) (a .full) (v ps) (l .o) (c .before .before .before .record-in .result .stripe) (ap (λ (x : Rec). x .stripe) (c .before .before .before .record-in .ensures ps h)) in (
+    λ ps h. c .entry-near .ensures ∙ entry-of (a .p) (a .full) (v ps) (l .o) (record-in .result .stripe) (ap (λ (x : Rec). x .stripe) (record-in .ensures ps h)) in (
       omega arith,
-      omega (arith, c .before .before .base-at .ensures .0),
-      c .before .before .base-at .ensures .1,
+      omega (arith, base-at .ensures .0),
+      base-at .ensures .1,
       simp length-set (l .inv .3),
-      λ ps h. ap (set (l .compact) (a .row + l .o)) (e ps h) ∙ entries-turn (a .p) (a .full) (v ps) (a .compact .now) (l .compact) (a .row) (l .o) (omega (arith, c .before .before .before .before .loop-test .taken, q .1 .3, q .1 .4)) (l .inv .4 ps h),
+      λ ps h. ap (set (l .compact) (a .row + l .o)) (e ps h)
+          ∙ entries-turn (a .p) (a .full) (v ps) (a .compact .now) (l .compact) (a .row) (l .o) (omega (arith, loop-test .taken, q .1 .3, q .1 .4))
+          (l .inv .4 ps h),
     )
 
 same-length : tie.Need-same-length Inv-loop μ-loop

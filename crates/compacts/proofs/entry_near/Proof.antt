@@ -20,8 +20,10 @@ cast-result c =
 returns-2 : tie.Need-returns-2
 returns-2 c =
     let a = c .before .before .before .args in
-    let r = ranged (a .p) (c .before .before .before .pre .0) in
-    near (a .p) (a .base) (a .s - a .base) (a .s) (omega (arith, r .group-low)) (c .before .before .before .pre .1) (c .if2 .taken) (omega (arith, c .before .before .if1 .left))
+    let if1 = c .before .before .if1 in
+    let pre = c .before .before .before .pre in
+    let r = ranged (a .p) (pre .0) in
+    near (a .p) (a .base) (a .s - a .base) (a .s) (omega (arith, r .group-low)) (pre .1) (c .if2 .taken) (omega (arith, if1 .left))
 
 compact-entry-requires-2 : tie.Need-compact-entry-requires-2
 compact-entry-requires-2 c κs = search needs

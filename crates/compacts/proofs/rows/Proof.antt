@@ -28,12 +28,14 @@ loop-holds c =
 shared-slice-read-row : tie.Need-shared-slice-read-row Inv-loop μ-loop
 shared-slice-read-row c =
     let q = c .before .before .before .before .before .before .before .before .before .pre in
-    omega (arith, c .before .before .if1 .taken, q .1 .1 .1 .0, ranged (c .before .before .before .before .before .before .before .before .before .args .p) (q .0) .zones-high)
+    let args = c .before .before .before .before .before .before .before .before .before .args in
+    omega (arith, c .before .before .if1 .taken, q .1 .1 .1 .0, ranged (args .p) (q .0) .zones-high)
 
 row-requires : tie.Need-row-requires Inv-loop μ-loop
 row-requires c κs =
     let q = c .before .before .before .before .before .before .before .before .before .pre in
-    (q .0, (q .1 .0, (c .before .before .before .before .loop .inv .1 ∙ q .1 .1 .0 .0, q .1 .1 .0 .1, c .before .before .if1 .taken)))
+    let loop = c .before .before .before .before .loop in
+    (q .0, (q .1 .0, (loop .inv .1 ∙ q .1 .1 .0 .0, q .1 .1 .0 .1, c .before .before .if1 .taken)))
 
 add-z : tie.Need-add-z Inv-loop μ-loop
 add-z c = omega arith
@@ -46,10 +48,19 @@ loop-again c =
     let l = c .before .before .before .before .before .before .before .loop in
     let a = c .before .before .before .before .before .before .before .before .before .before .before .before .args in
     let q = c .before .before .before .before .before .before .before .before .before .before .before .before .pre in
+    let row = c .before .before .row in
+    let if1 = c .before .before .before .before .before .if1 in
     let v : View = viewOf (a .p) (a .image .now) (a .pointers .now) in
-    let e : c .before .before .row .last .1 .1 .1 .0 ≡ splice (l .compact) (compactAt (a .p) (a .drive) (l .z) 0) (rowSaid (a .p) v (a .gone) (a .drive) (l .z)) =
-    c .before .before .row .ensures ∙ ap (splice (l .compact) (compactAt (a .p) (a .drive) (l .z) 0)) (row-of (a .p) v (a .gone) (a .drive) (l .z) (getD (a .kept .now) (l .z) false) (q .1 .1 .1 .1 (l .z) (c .before .before .before .before .before .if1 .taken))) in
-    (omega (arith, c .before .before .before .before .before .if1 .taken), c .before .before .row .kept .1 .1 .1 .0 ∙ l .inv .1, rows-turn (a .p) v (a .gone) (a .drive) (l .z) (a .compact .now) (l .compact) (c .before .before .row .last .1 .1 .1 .0) (q .1 .1 .0 .1) (c .before .before .before .before .before .if1 .taken) (q .1 .1 .0 .0) (l .inv .2) e)
+    let e : row .last .1 .1 .1 .0 ≡ splice (l .compact) (compactAt (a .p) (a .drive) (l .z) 0) (rowSaid (a .p) v (a .gone) (a .drive) (l .z)) =
+    row .ensures
+    ∙ ap (splice (l .compact) (compactAt (a .p) (a .drive) (l .z) 0))
+    (row-of (a .p) v (a .gone) (a .drive) (l .z) (getD (a .kept .now) (l .z) false) (q .1 .1 .1 .1 (l .z) (if1 .taken))) in (
+      omega (arith, if1 .taken),
+      row .kept .1 .1 .1 .0
+          ∙ l .inv .1,
+      rows-turn (a .p) v (a .gone) (a .drive) (l .z) (a .compact .now) (l .compact) (row .last .1 .1 .1 .0) (q .1 .1 .0 .1)
+          (if1 .taken) (q .1 .1 .0 .0) (l .inv .2) e,
+    )
 
 same-length : tie.Need-same-length Inv-loop μ-loop
 same-length c = c .before .before .loop .inv .1
@@ -60,7 +71,9 @@ returns c =
     let a = c .before .before .before .before .before .before .before .args in
     let e : l .z ≡ a .p .Z = omega (arith, c .if1 .left) in
     let v : View = viewOf (a .p) (a .image .now) (a .pointers .now) in
-    l .inv .2 ∙ ap (λ (x : ℕ). splice (a .compact .now) (compactAt (a .p) (a .drive) 0 0) (flat (rowSaid (a .p) v (a .gone) (a .drive)) (below x))) e ∙ ap (splice (a .compact .now) (compactAt (a .p) (a .drive) 0 0)) (rows-all (a .p) v (a .gone) (a .drive))
+    l .inv .2
+    ∙ ap (λ (x : ℕ). splice (a .compact .now) (compactAt (a .p) (a .drive) 0 0) (flat (rowSaid (a .p) v (a .gone) (a .drive)) (below x))) e
+    ∙ ap (splice (a .compact .now) (compactAt (a .p) (a .drive) 0 0)) (rows-all (a .p) v (a .gone) (a .drive))
 
 pub rows-spec : {M : Type 1} → statement M
 rows-spec =

@@ -22,32 +22,42 @@ buffer-long = length-replicate {A = ℕ} 4096 0
 
 record-of-requires : tie.Need-record-of-requires
 record-of-requires c κs =
-    let w = c .before .before .before .before .before .before .before .pre .0 in
-    (w .in-range, (w .whole, c .before .before .before .before .before .before .before .pre .1))
+    let pre = c .before .before .before .before .before .before .before .pre in
+    let w = pre .0 in
+    (w .in-range, (w .whole, pre .1))
 
 slice-aggregate-take-block : tie.Need-slice-aggregate-take-block
 slice-aggregate-take-block c = search needs
 
 take-block-requires : tie.Need-take-block-requires
 take-block-requires c κs =
-    let w = c .before .before .before .before .before .before .before .before .before .before .before .before .pre .0 in
-    let a = c .before .before .before .before .before .before .before .before .before .before .before .before .args in
-    (w .in-range, (w .whole .image-long, c .before .before .before .before .before .before .before .before .before .before .before .before .pre .1 .0, subst (λ (x : ℕ). a .p .B ≤ x) (sym buffer-long) (ranged (a .p) (w .in-range) .block-high)))
+    let entry = c .before .before .before .before .before .before .before .before .before .before .before .before in
+    let args = entry .args in
+    let pre = entry .pre in
+    let w = pre .0 in
+    let a = args in
+    (w .in-range, (w .whole .image-long, pre .1 .0, subst (λ (x : ℕ). a .p .B ≤ x) (sym buffer-long) (ranged (a .p) (w .in-range) .block-high)))
 
 array-share-prefix-block : tie.Need-array-share-prefix-block
-array-share-prefix-block c = omega (arith, ranged (c .before .before .before .before .before .before .before .before .before .before .before .before .before .before .before .before .before .before .before .args .p) (c .before .before .before .before .before .before .before .before .before .before .before .before .before .before .before .before .before .before .before .pre .0 .in-range) .block-high)
+array-share-prefix-block c =
+    let entry = c .before .before .before .before .before .before .before .before .before .before .before .before .before .before .before .before .before .before .before in
+    let args = entry .args in
+    let pre = entry .pre in
+    omega (arith, ranged (args .p) (pre .0 .in-range) .block-high)
 
 slice-aggregate-send-copy : tie.Need-slice-aggregate-send-copy
 slice-aggregate-send-copy c =
     let a = c .before .before .before .before .before .before .before .before .before .before .before .before .before .before .before .before .before .before .before .before .args in
     let t = c .before .before .before .before .before .before .before .take-block in
-    sym (length-take-le (a .p .B) (t .last .1 .1 .1 .0) (omega (arith, t .kept .1 .1 .1 .0 ∙ buffer-long, ranged (a .p) (c .before .before .before .before .before .before .before .before .before .before .before .before .before .before .before .before .before .before .before .before .pre .0 .in-range) .block-high)))
+    let pre = c .before .before .before .before .before .before .before .before .before .before .before .before .before .before .before .before .before .before .before .before .pre in
+    sym (length-take-le (a .p .B) (t .last .1 .1 .1 .0) (omega (arith, t .kept .1 .1 .1 .0 ∙ buffer-long, ranged (a .p) (pre .0 .in-range) .block-high)))
 
 send-copy-requires : tie.Need-send-copy-requires
 send-copy-requires c κs =
     let a = c .before .before .before .before .before .before .before .before .before .before .before .before .before .before .before .before .before .before .before .before .args in
     let t = c .before .before .before .before .before .before .before .take-block in
-    (c .before .before .before .before .before .before .before .before .before .before .before .before .before .before .before .before .before .before .before .before .pre .0, length-take-le (a .p .B) (t .last .1 .1 .1 .0) (omega (arith, t .kept .1 .1 .1 .0 ∙ buffer-long, ranged (a .p) (c .before .before .before .before .before .before .before .before .before .before .before .before .before .before .before .before .before .before .before .before .pre .0 .in-range) .block-high)))
+    let pre = c .before .before .before .before .before .before .before .before .before .before .before .before .before .before .before .before .before .before .before .before .pre in
+    (pre .0, length-take-le (a .p .B) (t .last .1 .1 .1 .0) (omega (arith, t .kept .1 .1 .1 .0 ∙ buffer-long, ranged (a .p) (pre .0 .in-range) .block-high)))
 
 same-length : tie.Need-same-length
 same-length c = search needs
@@ -67,16 +77,31 @@ same-length-5 c = search needs
 returns : tie.Need-returns
 unfolding part
 returns c =
-    let a = c .before .before .before .before .before .before .before .before .before .before .before .before .before .before .before .before .before .before .before .before .before .before .before .before .before .before .before .before .before .before .before .args in
+    let send-copy′ = c .before .before .before .before .before .before .before .before .before .before .send-copy in
+    let at = c .before .before .before .before .before .before .before .before .before .before .before .before .before .before .before .before .before in
+    let take-block′ = c .before .before .before .before .before .before .before .before .before .before .before .before .before .before .before .before .before .before .take-block in
+    let a =
+    at
+    .before .before .before .before .before .before .before .before .before .before .before .before .before .before .args in
+    let send-copy = send-copy′ in
+    let take-block = take-block′ in
+    let record-of =
+    at
+    .before .before .before .before .before .before .record-of in
+    let pre =
+    at
+    .before .before .before .before .before .before .before .before .before .before .before .before .before .before .pre in
     let k : Disk = mkDisk (a .image .now) (a .pointers .now) in
     let m : Memory = mkMemory (a .state) (a .addresses .now) (a .compact .now) (a .inflight .now) in
     let v = viewOf (a .p) (a .image .now) (a .pointers .now) in
-    let w = c .before .before .before .before .before .before .before .before .before .before .before .before .before .before .before .before .before .before .before .before .before .before .before .before .before .before .before .before .before .before .before .pre .0 in
-    let r = c .before .before .before .before .before .before .before .before .before .before .before .before .before .before .before .before .before .before .before .before .before .before .before .record-of in
-    let t = c .before .before .before .before .before .before .before .before .before .before .before .before .before .before .before .before .before .before .take-block in
-    let e = copy-sent (a .p) v m (a .q .0) (r .result .address .0) (r .result .stamp .0) (take (a .p .B) (t .last .1 .1 .1 .0)) (ap (λ (x : Rec). x .address) (r .ensures)) (ap (λ (x : Rec). x .stamp) (r .ensures))
-    (t .ensures ∙ sym (block-at (a .p) (ranged (a .p) (w .in-range)) k (w .whole) (a .q .0) (c .before .before .before .before .before .before .before .before .before .before .before .before .before .before .before .before .before .before .before .before .before .before .before .before .before .before .before .before .before .before .before .pre .1 .0))) in
-    c .before .before .before .before .before .before .before .before .before .before .send-copy .ensures ∙ ap (λ (x : Plan). outcome (a .p) (storeDisk (a .p)) (a .count) k m [] (due x)) e
+    let w = pre .0 in
+    let r = record-of in
+    let t = take-block in
+    let e =
+    copy-sent (a .p) v m (a .q .0) (r .result .address .0) (r .result .stamp .0) (take (a .p .B) (t .last .1 .1 .1 .0))
+    (ap (λ (x : Rec). x .address) (r .ensures)) (ap (λ (x : Rec). x .stamp) (r .ensures))
+    (t .ensures ∙ sym (block-at (a .p) (ranged (a .p) (w .in-range)) k (w .whole) (a .q .0) (pre .1 .0))) in
+    send-copy .ensures ∙ ap (λ (x : Plan). outcome (a .p) (storeDisk (a .p)) (a .count) k m [] (due x)) e
 
 pub copy-block-spec : {M : Type 1} → statement M
 copy-block-spec =

@@ -40,8 +40,13 @@ abbrev memory : (c : tie.Start) → Memory
 memory c = mkMemory (c .args .state) (c .args .addresses .now) (c .args .compact .now) (c .args .inflight .now)
 
 -- the aim is the state's
-aimed : (c : tie.After-aim-of) → c .aim-of .result ≡ aimOf (c .before .before .before .before .before .before .before .before .args .p) (c .before .before .before .before .before .before .before .before .args .state)
-aimed c = c .aim-of .ensures ∙ front-aim (c .before .before .before .before .before .before .before .before .args .p) (c .before .before .before .before .before .before .before .before .args .state) (c .before .front-of .result) (c .before .front-of .ensures)
+aimed :
+    (c : tie.After-aim-of)
+    → c .aim-of .result ≡ aimOf (c .before .before .before .before .before .before .before .before .args .p)
+    (c .before .before .before .before .before .before .before .before .args .state)
+aimed c =
+    let args = c .before .before .before .before .before .before .before .before .args in
+    c .aim-of .ensures ∙ front-aim (args .p) (args .state) (c .before .front-of .result) (c .before .front-of .ensures)
 
 front-of-requires : tie.Need-front-of-requires
 front-of-requires c κs = search needs
@@ -52,18 +57,21 @@ aim-of-requires c κs = search needs
 open-requires : tie.Need-open-requires
 open-requires c κs =
     let s = c .before .before .before .before .before .before .before .before .before .before in
+    let at = c .before .before in
+    let aim-of = c .before .before .aim-of in
+    let front-of = c .before .before .before .front-of in
     let r = s .pre .0 in
-    let f = c .before .before .before .front-of in (
+    let f = front-of in (
       r .in-range,
       (
         r .whole,
         (
-          ap (λ (x : Aim). x .opens) (c .before .before .aim-of .ensures),
+          ap (λ (x : Aim). x .opens) (aim-of .ensures),
           (
             λ e.
                 subst (λ (x : Front). x .serial .0 < lastCount) (sym (f .ensures))
-                (lt-of-le-ne (serial-fits s) (r .serial-left (ap (λ (x : Aim). x .opens) (sym (aimed (c .before .before))) ∙ e))),
-            λ e. r .empties (ap (λ (x : Aim). x .opens) (sym (aimed (c .before .before))) ∙ e),
+                (lt-of-le-ne (serial-fits s) (r .serial-left (ap (λ (x : Aim). x .opens) (sym (aimed (at))) ∙ e))),
+            λ e. r .empties (ap (λ (x : Aim). x .opens) (sym (aimed (at))) ∙ e),
           ),
         ),
       ),
@@ -87,29 +95,42 @@ same-length-4 c = search needs
 returns : tie.Need-returns
 returns c =
     let s = c .before .before .before .before .before .before .before .before .before .before .before .before .before .before .before .before .before .before .before .before .before .before .before in
+    let cut = c .before .before .before .before .cut in
+    let if1 = c .before .before .before .before .before .before .before .if1 in
+    let at = c .before .before .before .before .before .before .before .before .before .before .before .before in
+    let front-of = c .before .before .before .before .before .before .before .before .before .before .before .before .before .before .before .before .front-of in
     let a = s .args in
-    let o = c .before .before .before .before .before .before .before .before .before .before .before .before .«open» in
+    let o = at .«open» in
     let k′ : Disk = mkDisk (o .last .1 .0) (o .last .1 .1 .0) in
-    let h : Opening (a .p) (a .state) (a .count) (disk s) (o .result) k′ = opening-front (a .p) (a .state) (a .count) (disk s) (o .result) k′ (subst (λ (x : Front). Opening (a .p) (behind x) (a .count) (disk s) (o .result) k′) (c .before .before .before .before .before .before .before .before .before .before .before .before .before .before .before .before .front-of .ensures) (o .ensures)) in
-    let u = c .before .before .before .before .cut in
-    sent-cut (a .p) (disk s) (memory s) (a .address .0) (a .stamp .0) (a .block .now) (a .count) (s .pre .0) (o .result) k′ h (c .before .before .before .before .before .before .before .if1 .taken) (u .result) (u .last .0) (u .last .1 .0)
+    let h : Opening (a .p) (a .state) (a .count) (disk s) (o .result) k′ =
+    opening-front (a .p) (a .state) (a .count) (disk s) (o .result) k′
+    (subst (λ (x : Front). Opening (a .p) (behind x) (a .count) (disk s) (o .result) k′) (front-of .ensures) (o .ensures)) in
+    let u = cut in
+    sent-cut (a .p) (disk s) (memory s) (a .address .0) (a .stamp .0) (a .block .now) (a .count) (s .pre .0) (o .result) k′ h (if1 .taken) (u .result) (u .last .0) (u .last .1 .0)
     (ap (λ (x : Change). x .answer) (u .ensures .0)) (u .ensures .1 .0) (u .ensures .1 .1)
 
 row-of-requires : tie.Need-row-of-requires
 row-of-requires c κs =
     let s = c .before .before .before .before .before .before .before .before .before .before .before .before .before .before .before .before in
-    subst (λ (x : Aim). x .slot < 8) (sym (aimed (c .before .before .before .before .before .before .before .before))) (slot-lt (s .args .p) (s .args .state) (s .pre .0 .waits))
+    let at = c .before .before .before .before .before .before .before .before in
+    subst (λ (x : Aim). x .slot < 8) (sym (aimed (at))) (slot-lt (s .args .p) (s .args .state) (s .pre .0 .waits))
 
 send-requires : tie.Need-send-requires
 send-requires c κs =
     let s = c .before .before .before .before .before .before .before .before .before .before .before .before .before .before .before .before .before .before in
+    let at-7 = c .before .before .before .before .before .before .before in
+    let at-10 = c .before .before .before .before .before .before .before .before .before .before in
+    let aim-of = c .before .before .before .before .before .before .before .before .before .before .aim-of in
+    let front-of = c .before .before .before .before .before .before .before .before .before .before .before .front-of in
     let a = s .args in
     let r = s .pre .0 in
-    let o = c .before .before .before .before .before .before .before .«open» in
-    let f = c .before .before .before .before .before .before .before .before .before .before .before .front-of in
+    let o = at-7 .«open» in
+    let f = front-of in
     let k′ : Disk = mkDisk (o .last .1 .0) (o .last .1 .1 .0) in
-    let h : Opening (a .p) (a .state) (a .count) (disk s) (o .result) k′ = opening-front (a .p) (a .state) (a .count) (disk s) (o .result) k′ (subst (λ (x : Front). Opening (a .p) (behind x) (a .count) (disk s) (o .result) k′) (f .ensures) (o .ensures)) in
-    let q = sent-asks (a .p) (disk s) (memory s) (a .address .0) (a .stamp .0) (a .block .now) (a .count) r (o .result) k′ h (f .result) (f .ensures) (c .before .before .before .before .before .before .before .before .before .before .aim-of .result) (aimed (c .before .before .before .before .before .before .before .before .before .before))
+    let h : Opening (a .p) (a .state) (a .count) (disk s) (o .result) k′ =
+    opening-front (a .p) (a .state) (a .count) (disk s) (o .result) k′
+    (subst (λ (x : Front). Opening (a .p) (behind x) (a .count) (disk s) (o .result) k′) (f .ensures) (o .ensures)) in
+    let q = sent-asks (a .p) (disk s) (memory s) (a .address .0) (a .stamp .0) (a .block .now) (a .count) r (o .result) k′ h (f .result) (f .ensures) (aim-of .result) (aimed (at-10))
     (c .before .row-of .result) (c .before .row-of .ensures) in
     (r .in-range, (q .0, q .1, q .2, r .inflight-long, s .pre .1))
 
@@ -127,16 +148,34 @@ same-length-7 c = search needs
 
 returns-2 : tie.Need-returns-2
 returns-2 c =
-    let s = c .before .before .before .before .before .before .before .before .before .before .before .before .before .before .before .before .before .before .before .before .before .before .before .before .before in
+    let send′ = c .before .before .before .before .before .before .send in
+    let row-of′ = c .before .before .before .before .before .before .before .before .row-of in
+    let if1′ = c .before .before .before .before .before .before .before .before .before .if1 in
+    let at-14′ = c .before .before .before .before .before .before .before .before .before .before .before .before .before .before in
+    let at-17′ = c .before .before .before .before .before .before .before .before .before .before .before .before .before .before .before .before .before in
+    let aim-of′ = c .before .before .before .before .before .before .before .before .before .before .before .before .before .before .before .before .before .aim-of in
+    let front-of′ = c .before .before .before .before .before .before .before .before .before .before .before .before .before .before .before .before .before .before .front-of in
+    let s =
+    at-17′
+    .before .before .before .before .before .before .before .before in
+    let send = send′ in
+    let row-of = row-of′ in
+    let if1 = if1′ in
+    let at-14 = at-14′ in
+    let at-17 = at-17′ in
+    let aim-of = aim-of′ in
+    let front-of = front-of′ in
     let a = s .args in
-    let o = c .before .before .before .before .before .before .before .before .before .before .before .before .before .before .«open» in
-    let f = c .before .before .before .before .before .before .before .before .before .before .before .before .before .before .before .before .before .before .front-of in
-    let g = c .before .before .before .before .before .before .before .before .before .before .before .before .before .before .before .before .before .aim-of .result in
+    let o = at-14 .«open» in
+    let f = front-of in
+    let g = aim-of .result in
     let k′ : Disk = mkDisk (o .last .1 .0) (o .last .1 .1 .0) in
-    let h : Opening (a .p) (a .state) (a .count) (disk s) (o .result) k′ = opening-front (a .p) (a .state) (a .count) (disk s) (o .result) k′ (subst (λ (x : Front). Opening (a .p) (behind x) (a .count) (disk s) (o .result) k′) (f .ensures) (o .ensures)) in
-    let q = c .before .before .before .before .before .before .send in
-    sent-done (a .p) (disk s) (memory s) (a .address .0) (a .stamp .0) (a .block .now) (a .count) (s .pre .0) (o .result) k′ h (f .result) (f .ensures) g (aimed (c .before .before .before .before .before .before .before .before .before .before .before .before .before .before .before .before .before))
-    (c .before .before .before .before .before .before .before .before .row-of .result) (c .before .before .before .before .before .before .before .before .row-of .ensures) (sized s) (c .before .before .before .before .before .before .before .before .before .if1 .left) _ (q .last .1 .0) (λ j. copiedAs (f .result) g (o .result) (a .stamp .0) (q .ensures j)) (λ j. q .ensures j .inflight)
+    let h : Opening (a .p) (a .state) (a .count) (disk s) (o .result) k′ =
+    opening-front (a .p) (a .state) (a .count) (disk s) (o .result) k′
+    (subst (λ (x : Front). Opening (a .p) (behind x) (a .count) (disk s) (o .result) k′) (f .ensures) (o .ensures)) in
+    let q = send in
+    sent-done (a .p) (disk s) (memory s) (a .address .0) (a .stamp .0) (a .block .now) (a .count) (s .pre .0) (o .result) k′ h (f .result) (f .ensures) g (aimed (at-17))
+    (row-of .result) (row-of .ensures) (sized s) (if1 .left) _ (q .last .1 .0) (λ j. copiedAs (f .result) g (o .result) (a .stamp .0) (q .ensures j)) (λ j. q .ensures j .inflight)
 
 pub send-copy-spec : {M : Type 1} → statement M
 send-copy-spec =

@@ -27,7 +27,9 @@ part-copy-part-end : tie.Need-part-copy-part-end
 unfolding unitLen
 part-copy-part-end c =
     let a = c .before .before .before .before .before .args in
-    omega (arith, c .before .before .place-byte .ensures .0, place-within (a .p) (a .q .0) (c .before .before .before .before .before .pre .1 .1), c .before .before .before .before .before .pre .1 .0)
+    let place-byte = c .before .before .place-byte in
+    let pre = c .before .before .before .before .before .pre in
+    omega (arith, place-byte .ensures .0, place-within (a .p) (a .q .0) (pre .1 .1), pre .1 .0)
 
 copy-part-requires : tie.Need-copy-part-requires
 copy-part-requires c κs = search needs
@@ -39,10 +41,13 @@ returns : tie.Need-returns
 unfolding unitLen
 returns c =
     let a = c .before .before .before .before .before .before .before .before .before .args in
-    let at = c .before .before .before .before .before .before .place-byte .result in
-    let e = c .before .before .before .before .before .before .place-byte .ensures .0 in
-    front-part (a .block .now) (c .before .before .copy-part .last .0) (a .image .now) (take (at + a .p .B - at) (drop at (a .image .now))) at (a .p .B) (c .before .before .copy-part .ensures) (part-lent at (a .p .B) (a .image .now))
-    (omega (arith, e, place-within (a .p) (a .q .0) (c .before .before .before .before .before .before .before .before .before .pre .1 .1), c .before .before .before .before .before .before .before .before .before .pre .1 .0)) (c .before .before .before .before .before .before .before .before .before .pre .1 .2)
+    let copy-part = c .before .before .copy-part in
+    let place-byte = c .before .before .before .before .before .before .place-byte in
+    let pre = c .before .before .before .before .before .before .before .before .before .pre in
+    let at = place-byte .result in
+    let e = place-byte .ensures .0 in
+    front-part (a .block .now) (copy-part .last .0) (a .image .now) (take (at + a .p .B - at) (drop at (a .image .now))) at (a .p .B) (copy-part .ensures) (part-lent at (a .p .B) (a .image .now))
+    (omega (arith, e, place-within (a .p) (a .q .0) (pre .1 .1), pre .1 .0)) (pre .1 .2)
     ∙ ap (λ (x : ℕ). part x (a .p .B) (a .image .now)) e
 
 pub take-block-spec : {M : Type 1} → statement M

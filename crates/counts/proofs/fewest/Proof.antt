@@ -48,8 +48,9 @@ loop-again : tie.Need-loop-again Inv-loop μ-loop
 loop-again c =
     let a = c .before .before .before .before .before .before .args in
     let l = c .before .before .before .loop in
+    let pre = c .before .before .before .before .before .before .pre in
     let t = c .before .if1 .taken in
-    let r = ranged (a .p) (c .before .before .before .before .before .before .pre .0) in
+    let r = ranged (a .p) (pre .0) in
     let v : List ℕ → View = λ im. viewOf (a .p) im (a .pointers .now) in
     let e = c .better .ensures in (
       omega (arith, t),

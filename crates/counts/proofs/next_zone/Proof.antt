@@ -14,17 +14,20 @@ add-if1 c = search needs
 
 returns : tie.Need-returns
 returns c =
-    let z = c .before .before .args .z in
-    let n = c .before .before .args .p .Z in
-    (ap (λ (x : Bool). cond x 0 (z + 1)) (sym (eq-eqb (z + 1) n (c .if1 .taken))), omega (arith, ranged (c .before .before .args .p) (c .before .before .pre .0) .zones-low))
+    let args = c .before .before .args in
+    let pre = c .before .before .pre in
+    let z = args .z in
+    let n = args .p .Z in
+    (ap (λ (x : Bool). cond x 0 (z + 1)) (sym (eq-eqb (z + 1) n (c .if1 .taken))), omega (arith, ranged (args .p) (pre .0) .zones-low))
 
 add-result : tie.Need-add-result
 add-result c = search needs
 
 returns-2 : tie.Need-returns-2
 returns-2 c =
-    let z = c .before .before .args .z in
-    let n = c .before .before .args .p .Z in
+    let args = c .before .before .args in
+    let z = args .z in
+    let n = args .p .Z in
     (ap (λ (x : Bool). cond x 0 (z + 1)) (sym (ne-eqb (z + 1) n (c .if1 .left))), lt-of-le-ne (omega (arith, c .before .before .pre .1)) (c .if1 .left))
 
 pub next-zone-spec : {M : Type 1} → statement M

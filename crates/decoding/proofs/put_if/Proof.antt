@@ -21,11 +21,16 @@ use Rattle.decoding.proofs.put_if.Tie as tie
 
 few : (c : tie.After-shared-slice-known) → c .before .before .before .args .k < 256
 few c =
-    let p = c .before .before .before .args .p in
-    omega (arith, c .before .before .before .pre .1 .1 .1 .0 .3, group-len-le p (c .before .before .before .args .w .base), ranged p (c .before .before .before .pre .0) .group-high)
+    let entry = c .before .before .before in
+    let args = entry .args in
+    let pre = entry .pre in
+    let p = args .p in
+    omega (arith, pre .1 .1 .1 .0 .3, group-len-le p (args .w .base), ranged p (pre .0) .group-high)
 
 counts-requires : tie.Need-counts-requires
-counts-requires c κs = (c .before .before .before .pre .0, (c .before .before .before .pre .1 .1 .1 .0 .0, few c))
+counts-requires c κs =
+    let pre = c .before .before .before .pre in
+    (pre .0, (pre .1 .1 .1 .0 .0, few c))
 
 returns : tie.Need-returns
 returns c =
@@ -38,12 +43,23 @@ returns c =
     (sym (lost-miss (a .p) (a .w .gone) (a .drive) g (a .w .base + a .k) (sym e ∙ not-true (c .before .counts .result) (c .if1 .taken)))) (storing-none (a .p) (a .count) k)
 
 -- the stripe counts
-it-counts : (c : tie.After-put-lost-arg2) → counts (c .before .before .before .before .before .before .before .args .p) (c .before .before .before .before .before .before .before .args .w .gone) (segmentIn (c .before .before .before .before .before .before .before .args .p) (c .before .before .before .before .before .before .before .args .image .now) (c .before .before .before .before .before .before .before .args .pointers .now) (c .before .before .before .before .before .before .before .args .w)) (c .before .before .before .before .before .before .before .args .w .base + c .before .before .before .before .before .before .before .args .k) ≡ true
+it-counts :
+    (c : tie.After-put-lost-arg2)
+    → counts (c .before .before .before .before .before .before .before .args .p)
+    (c .before .before .before .before .before .before .before .args .w .gone)
+    (segmentIn (c .before .before .before .before .before .before .before .args .p)
+    (c .before .before .before .before .before .before .before .args .image .now)
+    (c .before .before .before .before .before .before .before .args .pointers .now)
+    (c .before .before .before .before .before .before .before .args .w))
+    (c .before .before .before .before .before .before .before .args .w .base + c .before .before .before .before .before .before .before .args .k)
+    ≡ true
 it-counts c =
     let a = c .before .before .before .before .before .before .before .args in
     let q = c .before .before .before .before .before .before .before .pre in
+    let if1 = c .before .before .if1 in
+    let counts′ = c .before .before .before .counts in
     let g = segmentIn (a .p) (a .image .now) (a .pointers .now) (a .w) in
-    sym (c .before .before .before .counts .ensures g (a .w .base) (q .1 .1 .1 .1 .0 .indexed) (q .1 .1 .1 .0 .3)) ∙ not-false (c .before .before .before .counts .result) (c .before .before .if1 .left)
+    sym (counts′ .ensures g (a .w .base) (q .1 .1 .1 .1 .0 .indexed) (q .1 .1 .1 .0 .3)) ∙ not-false (counts′ .result) (if1 .left)
 
 put-lost-requires : tie.Need-put-lost-requires
 put-lost-requires c κs =
@@ -73,10 +89,12 @@ same-length-2 c = search needs
 returns-2 : tie.Need-returns-2
 returns-2 c =
     let a = c .before .before .before .before .before .before .before .before .before .before .before .before .args in
+    let put-lost = c .before .before .before .before .put-lost in
+    let at = c .before .before .before .before .before in
     let k = mkDisk (a .image .now) (a .pointers .now) in
-    let k′ = mkDisk (c .before .before .before .before .put-lost .last .1 .0) (c .before .before .before .before .put-lost .last .1 .1 .0) in
+    let k′ = mkDisk (put-lost .last .1 .0) (put-lost .last .1 .1 .0) in
     let g = segmentIn (a .p) (a .image .now) (a .pointers .now) (a .w) in
-    subst (λ (l : List Store). Storing (a .p) (a .count) l k (c .before .before .before .before .put-lost .result) k′) (sym (lost-hit (a .p) (a .w .gone) (a .drive) g (a .w .base + a .k) (it-counts (c .before .before .before .before .before)))) (c .before .before .before .before .put-lost .ensures)
+    subst (λ (l : List Store). Storing (a .p) (a .count) l k (put-lost .result) k′) (sym (lost-hit (a .p) (a .w .gone) (a .drive) g (a .w .base + a .k) (it-counts (at)))) (put-lost .ensures)
 
 pub put-if-spec : {M : Type 1} → statement M
 put-if-spec = tie.close (tie.spec counts-requires returns put-lost-requires same-length same-length-2 returns-2)

@@ -18,10 +18,15 @@ use Rattle.decoding.proofs.put_lost_with.Statement.{statement}
 use Rattle.decoding.proofs.put_lost_with.Tie as tie
 
 -- every present drive has the chunk
-entered : (c : tie.After-lost-block-arg2) → AllEntered (c .before .before .before .before .before .before .args .p) (c .before .before .before .before .before .before .args .w .gone) (c .before .before .before .before .before .before .args .w .base) (c .before .before .before .before .before .before .args .at .now) (c .before .before .before .before .before .before .args .k)
+entered :
+    (c : tie.After-lost-block-arg2)
+    → AllEntered (c .before .before .before .before .before .before .args .p) (c .before .before .before .before .before .before .args .w .gone)
+    (c .before .before .before .before .before .before .args .w .base) (c .before .before .before .before .before .before .args .at .now)
+    (c .before .before .before .before .before .before .args .k)
 entered c =
     let a = c .before .before .before .before .before .before .args in
-    let q = c .before .before .before .before .before .before .pre .1 .1 .1 in
+    let pre = c .before .before .before .before .before .before .pre in
+    let q = pre .1 .1 .1 in
     counts-entered (a .p) (a .w .gone) (segmentIn (a .p) (a .image .now) (a .pointers .now) (a .w)) (a .w .base) (a .at .now) (a .k) (q .1 .0 .indexed) (q .0 .4) (q .1 .1)
 
 lost-block-requires : tie.Need-lost-block-requires
@@ -33,8 +38,9 @@ lost-block-requires c κs =
 lost-rec-requires : tie.Need-lost-rec-requires
 lost-rec-requires c κs =
     let q = c .before .before .before .before .before .before .before .before .before .before .pre in
+    let at = c .before .before .before .before in
     let h = q .1 .1 .1 .0 in
-    (q .0, ((q .1 .0 .image-long, h .1, h .2, h .3, h .4), entered (c .before .before .before .before)))
+    (q .0, ((q .1 .0 .image-long, h .1, h .2, h .3, h .4), entered (at)))
 
 slice-aggregate-write-record : tie.Need-slice-aggregate-write-record
 slice-aggregate-write-record c = search needs
@@ -52,8 +58,11 @@ put-limited-requires : tie.Need-put-limited-requires
 put-limited-requires c κs =
     let a = c .before .before .before .before .before .before .before .before .before .before .before .before .before .before .before .before .before .before .before .args in
     let q = c .before .before .before .before .before .before .before .before .before .before .before .before .before .before .before .before .before .before .before .pre in
+    let zone-on = c .before .before .before .before .zone-on in
+    let write-record = c .before .before .before .before .before .before .write-record in
+    let lost-block = c .before .before .before .before .before .before .before .before .before .before .before .before .lost-block in
     let h = q .1 .1 .1 .0 in
-    let z = c .before .before .before .before .zone-on .ensures in (
+    let z = zone-on .ensures in (
       q .0,
       (
         q .1 .0,
@@ -63,7 +72,7 @@ put-limited-requires c κs =
             subst (λ (x : ℕ). x < a .p .Z) (sym z) (zone-on-lt (a .p) (a .w .seg) (a .drive) (h .2)),
             subst (λ (x : ℕ). pointerOf (a .p) (a .pointers .now) (a .drive) x < capacity (a .p)) (sym z) (h .5),
           ),
-          (c .before .before .before .before .before .before .before .before .before .before .before .before .lost-block .kept .1 .1 .1 .1 .1 .0 ∙ h .0, c .before .before .before .before .before .before .write-record .kept .0),
+          (lost-block .kept .1 .1 .1 .1 .1 .0 ∙ h .0, write-record .kept .0),
         ),
       ),
     )
@@ -79,18 +88,37 @@ same-length-3 c = search needs
 
 returns : tie.Need-returns
 returns c =
-    let a = c .before .before .before .before .before .before .before .before .before .before .before .before .before .before .before .before .before .before .before .before .before .before .before .before .args in
-    let q = c .before .before .before .before .before .before .before .before .before .before .before .before .before .before .before .before .before .before .before .before .before .before .before .before .pre in
+    let put-limited′ = c .before .before .before .before .put-limited in
+    let zone-on′ = c .before .before .before .before .before .before .before .before .before .zone-on in
+    let write-record′ = c .before .before .before .before .before .before .before .before .before .before .before .write-record in
+    let lost-rec′ = c .before .before .before .before .before .before .before .before .before .before .before .before .before .lost-rec in
+    let at = c .before .before .before .before .before .before .before .before .before .before .before .before .before .before .before .before .before in
+    let lost-block′ = c .before .before .before .before .before .before .before .before .before .before .before .before .before .before .before .before .before .lost-block in
+    let a =
+    at
+    .before .before .before .before .before .before .before .args in
+    let q =
+    at
+    .before .before .before .before .before .before .before .pre in
+    let put-limited = put-limited′ in
+    let zone-on = zone-on′ in
+    let write-record = write-record′ in
+    let lost-rec = lost-rec′ in
+    let lost-block = lost-block′ in
     let k = mkDisk (a .image .now) (a .pointers .now) in
-    let k′ = mkDisk (c .before .before .before .before .put-limited .last .1 .0) (c .before .before .before .before .put-limited .last .1 .1 .0) in
-    let m = c .before .before .before .before .put-limited .result in
+    let k′ = mkDisk (put-limited .last .1 .0) (put-limited .last .1 .1 .0) in
+    let m = put-limited .result in
     let rd = q .1 .1 .1 .1 .0 in
-    let b = c .before .before .before .before .before .before .before .before .before .before .before .before .before .before .before .before .before .lost-block .ensures (a .pointers .now) rd in
-    let x = c .before .before .before .before .before .before .before .before .before .before .before .before .before .lost-rec .ensures (a .pointers .now) rd in
-    let e = lost-store-is (a .p) (viewOf (a .p) (a .image .now) (a .pointers .now)) (a .w .gone) (a .w .seg) (a .drive) (a .w .base + a .k) (c .before .before .before .before .before .before .before .before .before .before .before .before .before .before .before .before .before .lost-block .last .1 .1 .1 .1 .1 .0) (recVal (c .before .before .before .before .before .before .before .before .before .before .before .before .before .lost-rec .result)) (q .1 .1 .0 .lost) b x in
+    let b = lost-block .ensures (a .pointers .now) rd in
+    let x = lost-rec .ensures (a .pointers .now) rd in
+    let e =
+    lost-store-is (a .p) (viewOf (a .p) (a .image .now) (a .pointers .now)) (a .w .gone) (a .w .seg) (a .drive) (a .w .base + a .k)
+    (lost-block .last .1 .1 .1 .1 .1 .0) (recVal (lost-rec .result)) (q .1 .1 .0 .lost) b x in
     subst (λ (s : Store). Storing (a .p) (a .count) (s ∷ []) k m k′) e
-    (subst (λ (z : ℕ). Storing (a .p) (a .count) (put (a .drive) z (c .before .before .before .before .before .before .before .before .before .before .before .before .before .before .before .before .before .lost-block .last .1 .1 .1 .1 .1 .0) (recordBytes (recVal (c .before .before .before .before .before .before .before .before .before .before .before .before .before .lost-rec .result))) ∷ []) k m k′) (c .before .before .before .before .before .before .before .before .before .zone-on .ensures)
-    (subst (λ (y : List ℕ). Storing (a .p) (a .count) (put (a .drive) (c .before .before .before .before .before .before .before .before .before .zone-on .result) (c .before .before .before .before .before .before .before .before .before .before .before .before .before .before .before .before .before .lost-block .last .1 .1 .1 .1 .1 .0) y ∷ []) k m k′) (c .before .before .before .before .before .before .before .before .before .before .before .write-record .ensures) (c .before .before .before .before .put-limited .ensures)))
+    (subst (λ (z : ℕ). Storing (a .p) (a .count) (put (a .drive) z (lost-block .last .1 .1 .1 .1 .1 .0) (recordBytes (recVal (lost-rec .result))) ∷ []) k m k′) (zone-on .ensures)
+    (subst (λ (y : List ℕ). Storing (a .p) (a .count) (put (a .drive) (zone-on .result) (lost-block .last .1 .1 .1 .1 .1 .0) y ∷ []) k m k′) (write-record .ensures) (put-limited .ensures)))
 
 pub put-lost-with-spec : {M : Type 1} → statement M
-put-lost-with-spec = tie.close (tie.spec lost-block-requires lost-rec-requires slice-aggregate-write-record write-record-requires zone-on-requires slice-aggregate-put-limited put-limited-requires same-length same-length-2 same-length-3 returns)
+put-lost-with-spec =
+    tie.close (tie.spec lost-block-requires lost-rec-requires slice-aggregate-write-record write-record-requires zone-on-requires
+    slice-aggregate-put-limited put-limited-requires same-length same-length-2 same-length-3 returns)

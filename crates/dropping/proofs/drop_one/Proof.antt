@@ -13,7 +13,11 @@ shared-slice-read-if1 : tie.Need-shared-slice-read-if1
 shared-slice-read-if1 c = search needs
 
 returns : tie.Need-returns
-returns c = λ im. subst (λ (l : List Store). Storing (c .before .before .before .before .args .p) (c .before .before .before .before .args .count) l (mkDisk im (c .before .before .before .before .args .pointers .now)) (record { left = c .before .before .before .before .args .count; cut = false }) (mkDisk im (c .before .before .before .before .args .pointers .now))) (sym (one-kept (c .before .before .before .before .args .p) (c .before .before .before .before .args .kept .now) (c .before .before .before .before .args .segment) (c .if1 .taken))) (storing-none (c .before .before .before .before .args .p) (c .before .before .before .before .args .count) (mkDisk im (c .before .before .before .before .args .pointers .now)))
+returns c =
+    let args = c .before .before .before .before .args in
+    λ im. subst (λ (l : List Store). Storing (args .p) (args .count) l (mkDisk im (args .pointers .now)) (record { left = args .count; cut = false })
+    (mkDisk im (args .pointers .now))) (sym (one-kept (args .p) (args .kept .now) (args .segment) (c .if1 .taken)))
+    (storing-none (args .p) (args .count) (mkDisk im (args .pointers .now)))
 
 reset-stores-requires : tie.Need-reset-stores-requires
 reset-stores-requires c κs = search needs
@@ -22,7 +26,12 @@ same-length : tie.Need-same-length
 same-length c = search needs
 
 returns-2 : tie.Need-returns-2
-returns-2 c = λ im. subst (λ (l : List Store). Storing (c .before .before .before .before .before .before .before .before .args .p) (c .before .before .before .before .before .before .before .before .args .count) l (mkDisk im (c .before .before .before .before .before .before .before .before .args .pointers .now)) (c .before .before .reset-stores .result) (mkDisk im (c .before .before .reset-stores .last .1 .0))) (sym (one-dropped (c .before .before .before .before .before .before .before .before .args .p) (c .before .before .before .before .before .before .before .before .args .kept .now) (c .before .before .before .before .before .before .before .before .args .segment) (c .before .before .before .before .if1 .left))) (c .before .before .reset-stores .ensures im)
+returns-2 c =
+    let reset-stores = c .before .before .reset-stores in
+    let if1 = c .before .before .before .before .if1 in
+    let args = c .before .before .before .before .before .before .before .before .args in
+    λ im. subst (λ (l : List Store). Storing (args .p) (args .count) l (mkDisk im (args .pointers .now)) (reset-stores .result)
+    (mkDisk im (reset-stores .last .1 .0))) (sym (one-dropped (args .p) (args .kept .now) (args .segment) (if1 .left))) (reset-stores .ensures im)
 
 pub drop-one-spec : {M : Type 1} → statement M
 drop-one-spec =

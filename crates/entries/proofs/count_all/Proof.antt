@@ -58,11 +58,12 @@ add-entry-requires c κs =
     let c6 = c .before .before .before .before .before .before in
     let c7 = c .before .before .before .before .before .before .before in
     let o = c .before .before .before .before .before .before .before .before .before .before .before in
+    let place-at = c .before .before .place-at in
     let a = o .args in
     let p = a .p in
     let r = ranged p (o .pre .0) in
     let h = o .pre .1 in
-    let q = c .before .before .place-at .result .0 in
+    let q = place-at .result .0 in
     let ec = c6 .capacity .ensures in
     let ea = c7 .places .ensures .0 in
     let cap = c6 .capacity .result in
@@ -94,6 +95,7 @@ loop-again c =
     let c9 = c .before .before .before .before .before .before .before .before .before in
     let c10 = c .before .before .before .before .before .before .before .before .before .before in
     let o = c .before .before .before .before .before .before .before .before .before .before .before .before .before .before in
+    let add-entry = c .before .before .add-entry in
     let a = o .args in
     let p = a .p in
     let r = ranged p (o .pre .0) in
@@ -106,10 +108,10 @@ loop-again c =
     let eq = c5 .place-at .ensures in
     let ec = c9 .capacity .ensures .0 in
     let ea = c10 .places .ensures .0 in
-    let told = c .before .before .add-entry .ensures ∙ (λ j. cond (ltb (eq j) (ea j)) (set u (getD sg (eq j / ec j) 0) (getD u (getD sg (eq j / ec j) 0) 0 + 1)) u) in
-    let now′ = c .before .before .add-entry .last .1 .0 in
+    let told = add-entry .ensures ∙ (λ j. cond (ltb (eq j) (ea j)) (set u (getD sg (eq j / ec j) 0) (getD u (getD sg (eq j / ec j) 0) 0 + 1)) u) in
+    let now′ = add-entry .last .1 .0 in
     let more = entered-more p (a .addresses .now) (l .a) u (i .2) r sg (h .1 .0) (omega (arith, i .1, h .0 .2)) now′ told in
-    (omega (arith, c6 .if1 .taken), c .before .before .add-entry .kept .1 .0 ∙ i .1, more)
+    (omega (arith, c6 .if1 .taken), add-entry .kept .1 .0 ∙ i .1, more)
 
 same-length : tie.Need-same-length Inv-loop μ-loop
 same-length c = c .before .before .loop .inv .1

@@ -18,7 +18,9 @@ abbrev μ-loop : tie.MeasureT-loop
 μ-loop p segments₀ n z₀ t₀ segments z t = n - t
 
 mul-n : tie.Need-mul-n Inv-loop μ-loop
-mul-n c = record { fits = omega (arith, zones-all (c .before .before .args .p) (ranged (c .before .before .args .p) (c .before .before .pre .0))) }
+mul-n c =
+    let args = c .before .before .args in
+    record { fits = omega (arith, zones-all (args .p) (ranged (args .p) (c .before .before .pre .0))) }
 
 loop-holds : tie.Need-loop-holds Inv-loop μ-loop
 loop-holds c =

@@ -22,7 +22,8 @@ add-t9 c = search needs
 
 returns-2 : tie.Need-returns-2
 returns-2 c =
-    sym (added-open _ _ _ (c .before .before .before .before .before .before .if1 .left))
+    let if1 = c .before .before .before .before .before .before .if1 in
+    sym (added-open _ _ _ (if1 .left))
 
 pub exam-good-spec : {M : Type 1} → statement M
 exam-good-spec = tie.close (tie.spec add-loose returns add-t7 add-t8 add-t9 returns-2)

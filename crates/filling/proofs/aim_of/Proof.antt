@@ -22,7 +22,10 @@ free-slot-requires c κs = search needs
 returns-2 : tie.Need-returns-2
 returns-2 c =
     let a = c .before .before .before .before .args in
-    aim-begins (a .p) (behind (a .f)) (c .before .before .before .filling-slot .result) (c .before .before .before .filling-slot .ensures) (omega (arith, c .before .before .if1 .left)) (c .before .must-open .result) (c .free-slot .result) (c .before .must-open .ensures) (c .free-slot .ensures)
+    let if1 = c .before .before .if1 in
+    let filling-slot = c .before .before .before .filling-slot in
+    aim-begins (a .p) (behind (a .f)) (filling-slot .result) (filling-slot .ensures) (omega (arith, if1 .left)) (c .before .must-open .result)
+    (c .free-slot .result) (c .before .must-open .ensures) (c .free-slot .ensures)
 
 pub aim-of-spec : {M : Type 1} → statement M
 aim-of-spec =

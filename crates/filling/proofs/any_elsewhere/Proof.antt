@@ -18,7 +18,12 @@ abbrev μ-loop : tie.MeasureT-loop
 
 loop-holds : tie.Need-loop-holds Inv-loop μ-loop
 unfolding inFlight slots slotCount
-loop-holds c = let a = c .args in (omega arith, any-start (λ k. not (isFree (behind (a .f)) k) && otherGroup (a .p) (behind (a .f)) k) 8 ∙ sym (any-keep (λ k. not (isFree (behind (a .f)) k)) (otherGroup (a .p) (behind (a .f))) (below 8)))
+loop-holds c =
+    let a = c .args in (
+      omega arith,
+      any-start (λ k. not (isFree (behind (a .f)) k) && otherGroup (a .p) (behind (a .f)) k) 8
+          ∙ sym (any-keep (λ k. not (isFree (behind (a .f)) k)) (otherGroup (a .p) (behind (a .f))) (below 8)),
+    )
 
 is-elsewhere-requires : tie.Need-is-elsewhere-requires Inv-loop μ-loop
 is-elsewhere-requires c κs = (c .before .before .pre, omega arith)
@@ -38,8 +43,12 @@ loop-less c = omega arith
 loop-again : tie.Need-loop-again Inv-loop μ-loop
 loop-again c =
     let a = c .before .before .before .before .args in
-    let l = c .before .before .before .loop in
-    (omega arith, sym (any-passed (λ k. not (isFree (behind (a .f)) k) && otherGroup (a .p) (behind (a .f)) k) (l .i) 8 (omega arith) (sym (c .before .is-elsewhere .ensures) ∙ c .if1 .left)) ∙ l .inv .1)
+    let l = c .before .before .before .loop in (
+      omega arith,
+      sym (any-passed (λ k. not (isFree (behind (a .f)) k) && otherGroup (a .p) (behind (a .f)) k) (l .i) 8 (omega arith)
+          (sym (c .before .is-elsewhere .ensures) ∙ c .if1 .left))
+          ∙ l .inv .1,
+    )
 
 returns-2 : tie.Need-returns-2 Inv-loop μ-loop
 returns-2 c =

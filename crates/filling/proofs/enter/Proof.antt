@@ -35,10 +35,14 @@ unfolding entered addedRow
 returns c =
     let a = c .before .before .before .before .before .before .before .before .before .args in
     let h = c .before .before .before .before .before .before .has-room in
-    let f : h .result ≡ not (leb (dataCount (a .p)) (suc (a .row .filled))) = h .ensures ∙ ap (λ (x : Row). not (leb (dataCount (a .p)) (x .filled))) (c .before .before .before .before .before .before .before .added .ensures) in
-    let e : leb (dataCount (a .p)) (suc (a .row .filled)) ≡ true = not-false (leb (dataCount (a .p)) (suc (a .row .filled))) (sym f ∙ not-true (h .result) (c .before .before .before .before .before .if1 .taken)) in (
-      c .before .before .before .before .before .before .before .added .ensures,
-      c .before .before .slot-parity .ensures ∙ ap (setSlotParity (a .p) (a .inflight .now) (a .i)) (c .before .before .before .before .whole .ensures)
+    let slot-parity = c .before .before .slot-parity in
+    let whole = c .before .before .before .before .whole in
+    let if1 = c .before .before .before .before .before .if1 in
+    let added = c .before .before .before .before .before .before .before .added in
+    let f : h .result ≡ not (leb (dataCount (a .p)) (suc (a .row .filled))) = h .ensures ∙ ap (λ (x : Row). not (leb (dataCount (a .p)) (x .filled))) (added .ensures) in
+    let e : leb (dataCount (a .p)) (suc (a .row .filled)) ≡ true = not-false (leb (dataCount (a .p)) (suc (a .row .filled))) (sym f ∙ not-true (h .result) (if1 .taken)) in (
+      added .ensures,
+      slot-parity .ensures ∙ ap (setSlotParity (a .p) (a .inflight .now) (a .i)) (whole .ensures)
           ∙ ap (λ (x : Bool). cond x (setSlotParity (a .p) (a .inflight .now) (a .i) (a .row .number)) (a .inflight .now)) (sym e),
     )
 
@@ -47,9 +51,10 @@ unfolding entered addedRow
 returns-2 c =
     let a = c .before .before .before .before .args in
     let h = c .before .has-room in
-    let f : h .result ≡ not (leb (dataCount (a .p)) (suc (a .row .filled))) = h .ensures ∙ ap (λ (x : Row). not (leb (dataCount (a .p)) (x .filled))) (c .before .before .added .ensures) in
+    let added = c .before .before .added in
+    let f : h .result ≡ not (leb (dataCount (a .p)) (suc (a .row .filled))) = h .ensures ∙ ap (λ (x : Row). not (leb (dataCount (a .p)) (x .filled))) (added .ensures) in
     let e : leb (dataCount (a .p)) (suc (a .row .filled)) ≡ false = not-true (leb (dataCount (a .p)) (suc (a .row .filled))) (sym f ∙ not-false (h .result) (c .if1 .left)) in
-    (c .before .before .added .ensures, ap (λ (x : Bool). cond x (setSlotParity (a .p) (a .inflight .now) (a .i) (a .row .number)) (a .inflight .now)) (sym e))
+    (added .ensures, ap (λ (x : Bool). cond x (setSlotParity (a .p) (a .inflight .now) (a .i) (a .row .number)) (a .inflight .now)) (sym e))
 
 pub enter-spec : {M : Type 1} → statement M
 enter-spec =

@@ -35,7 +35,8 @@ loop-less c = omega arith
 
 loop-again : tie.Need-loop-again Inv-loop μ-loop
 loop-again c =
-    let s = behind (c .before .before .before .before .args .f) in
+    let args = c .before .before .before .before .args in
+    let s = behind (args .f) in
     let l = c .before .before .before .loop in
     let f : ℕ → Bool = λ k. not (isFree s k) in
     let r : c .if1 .n + length (keep f (upFrom (l .i + 1) (8 - (l .i + 1)))) ≡ l .n + length (keep f (upFrom (l .i) (8 - l .i))) =

@@ -39,9 +39,13 @@ returns-2 : tie.Need-returns-2
 unfolding otherGroup stripeIn
 returns-2 c =
     let a = c .before .before .before .before .before .before .before .args in
-    let e : c .before .group .result ≡ group (a .p) (stripeIn (behind (a .f)) (a .i)) = c .before .group .ensures .0 ∙ ap (group (a .p)) (c .before .before .before .whole .ensures) in
-    let f : c .group2 .result ≡ group (a .p) (a .f .next) = c .group2 .ensures .0 ∙ ap (group (a .p)) (c .before .before .whole2 .ensures) in
-    λ j. not ((sym (c .before .before .before .before .before .if1 .left) ∙ c .before .before .before .before .before .before .is-free .ensures) j) && not (eqb (e j) (f j))
+    let whole2 = c .before .before .whole2 in
+    let whole = c .before .before .before .whole in
+    let if1 = c .before .before .before .before .before .if1 in
+    let is-free = c .before .before .before .before .before .before .is-free in
+    let e : c .before .group .result ≡ group (a .p) (stripeIn (behind (a .f)) (a .i)) = c .before .group .ensures .0 ∙ ap (group (a .p)) (whole .ensures) in
+    let f : c .group2 .result ≡ group (a .p) (a .f .next) = c .group2 .ensures .0 ∙ ap (group (a .p)) (whole2 .ensures) in
+    λ j. not ((sym (if1 .left) ∙ is-free .ensures) j) && not (eqb (e j) (f j))
 
 pub is-elsewhere-spec : {M : Type 1} → statement M
 is-elsewhere-spec =

@@ -53,13 +53,15 @@ returns-3 : tie.Need-returns-3
 unfolding mustWait slotCount
 returns-3 c =
     let s = c .before .before .before .before .before in
+    let in-flight = c .before .before .in-flight in
+    let if1 = c .before .before .before .if1 in
     let a = s .args in
     let st = behind (a .f) in
-    let h = filling-not s (c .before .before .before .if1 .left) in
-    let e : leb 8 (length (inFlight st)) ≡ false = lt-leb 8 (length (inFlight st)) (omega (arith, c .before .if2 .left, c .before .before .in-flight .ensures)) in
-    let m : mustOpen (a .p) st ≡ true = opens-is s (c .before .before .before .if1 .left) ∙ c .if3 .taken in
-    let n : eqb (c .before .before .in-flight .result) 0 ≡ isNil (inFlight st) = ap (λ (x : ℕ). eqb x 0) (c .before .before .in-flight .ensures) ∙ sym (isNil-length (inFlight st)) in
-    sym (or-false (not (eqb (c .before .before .in-flight .result) 0)))
+    let h = filling-not s (if1 .left) in
+    let e : leb 8 (length (inFlight st)) ≡ false = lt-leb 8 (length (inFlight st)) (omega (arith, c .before .if2 .left, in-flight .ensures)) in
+    let m : mustOpen (a .p) st ≡ true = opens-is s (if1 .left) ∙ c .if3 .taken in
+    let n : eqb (in-flight .result) 0 ≡ isNil (inFlight st) = ap (λ (x : ℕ). eqb x 0) (in-flight .ensures) ∙ sym (isNil-length (inFlight st)) in
+    sym (or-false (not (eqb (in-flight .result) 0)))
     ∙ (λ j. not (sym h j) && (sym e j || (sym m j && not (n j)) || (not (sym m j) && any (otherGroup (a .p) st) (inFlight st))))
 
 any-elsewhere-requires : tie.Need-any-elsewhere-requires
@@ -69,11 +71,14 @@ returns-4 : tie.Need-returns-4
 unfolding mustWait slotCount
 returns-4 c =
     let s = c .before .before .before .before .before .before in
+    let if2 = c .before .before .if2 in
+    let in-flight = c .before .before .before .in-flight in
+    let if1 = c .before .before .before .before .if1 in
     let a = s .args in
     let st = behind (a .f) in
-    let h = filling-not s (c .before .before .before .before .if1 .left) in
-    let e : leb 8 (length (inFlight st)) ≡ false = lt-leb 8 (length (inFlight st)) (omega (arith, c .before .before .if2 .left, c .before .before .before .in-flight .ensures)) in
-    let m : mustOpen (a .p) st ≡ false = opens-is s (c .before .before .before .before .if1 .left) ∙ c .before .if3 .left in
+    let h = filling-not s (if1 .left) in
+    let e : leb 8 (length (inFlight st)) ≡ false = lt-leb 8 (length (inFlight st)) (omega (arith, if2 .left, in-flight .ensures)) in
+    let m : mustOpen (a .p) st ≡ false = opens-is s (if1 .left) ∙ c .before .if3 .left in
     λ j. not (sym h j) && (sym e j || (sym m j && not (isNil (inFlight st))) || (not (sym m j) && c .any-elsewhere .ensures j))
 
 pub must-wait-spec : {M : Type 1} → statement M

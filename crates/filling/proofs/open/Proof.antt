@@ -32,8 +32,9 @@ add-t14 c =
 header-stores-requires : tie.Need-header-stores-requires
 header-stores-requires c κs =
     let s = c .before .before .before .before .before .before .before .before .before .before in
+    let if1 = c .before .before .before .before .before .if1 in
     let a = s .args in
-    let e : a .a .opens ≡ true = not-false (a .a .opens) (c .before .before .before .before .before .if1 .left) in
+    let e : a .a .opens ≡ true = not-false (a .a .opens) (if1 .left) in
     let l = c .before .before .before .lowest-empty in
     let g : l .result ≡ firstOr 0 (emptyZones (a .p) (viewOf (a .p) (a .image .now) (a .pointers .now))) = l .ensures .0 (a .image .now) (s .pre .1 .0 .image-long) in (
       s .pre .0,
@@ -54,7 +55,8 @@ add-t20 c = search needs
 cast-t21 : tie.Need-cast-t21
 cast-t21 c =
     let s = c .before .before .before .before .before .before .before .before .before .before .before .before .before .before .before in
-    omega (arith, c .before .before .before .before .before .before .before .before .lowest-empty .ensures .1, ranged (s .args .p) (s .pre .0) .zones-high)
+    let lowest-empty = c .before .before .before .before .before .before .before .before .lowest-empty in
+    omega (arith, lowest-empty .ensures .1, ranged (s .args .p) (s .pre .0) .zones-high)
 
 same-length : tie.Need-same-length
 same-length c = search needs
@@ -65,12 +67,15 @@ same-length-2 c = search needs
 returns-2 : tie.Need-returns-2
 returns-2 c =
     let s = c .before .before .before .before .before .before .before .before .before .before .before .before .before .before .before in
+    let header-stores = c .before .before .before .before .header-stores in
+    let lowest-empty = c .before .before .before .before .before .before .before .before .lowest-empty in
+    let if1 = c .before .before .before .before .before .before .before .before .before .before .if1 in
     let a = s .args in
     let k = mkDisk (a .image .now) (a .pointers .now) in
-    let l = c .before .before .before .before .before .before .before .before .lowest-empty in
-    let m = c .before .before .before .before .header-stores in
+    let l = lowest-empty in
+    let m = header-stores in
     let g : l .result ≡ firstOr 0 (emptyZones (a .p) (seen (a .p) k)) = l .ensures .0 (a .image .now) (s .pre .1 .0 .image-long) in
-    opening-made (a .p) (behind (a .f)) (a .count) k (sym (s .pre .1 .1 .0) ∙ not-false (a .a .opens) (c .before .before .before .before .before .before .before .before .before .before .if1 .left)) (l .result) (a .f .serial .0 + 1) g (add-one (a .f .serial .0))
+    opening-made (a .p) (behind (a .f)) (a .count) k (sym (s .pre .1 .1 .0) ∙ not-false (a .a .opens) (if1 .left)) (l .result) (a .f .serial .0 + 1) g (add-one (a .f .serial .0))
     (m .result) (mkDisk (m .last .1 .0) (m .last .1 .1 .0)) (m .ensures)
 
 pub open-spec : {M : Type 1} → statement M

@@ -31,10 +31,15 @@ returns : tie.Need-returns
 unfolding sentRow
 returns c =
     let a = c .before .before .before .before .before .before .before .before .before .args in
+    let place = c .before .before .before .place in
+    let begun = c .before .before .before .before .before .begun in
+    let if1 = c .before .before .before .before .before .before .if1 in
     let w : ℕ = cond (a .write) 1 0 in
-    let q = c .before .before .before .place .ensures ∙ ap (λ (x : Row). placedRow (a .p) x (a .inflight .now) (a .a .slot) (a .address .0) (a .stamp .0) w (a .block .now)) (c .before .before .before .before .before .begun .ensures) in
+    let q = place .ensures ∙ ap (λ (x : Row). placedRow (a .p) x (a .inflight .now) (a .a .slot) (a .address .0) (a .stamp .0) w (a .block .now)) (begun .ensures) in
     ap₂ mkSentRow (add-one (a .next)) q
-    ∙ ap (λ (x : Bool). mkSentRow (cond x (suc (a .next)) (a .next)) (placedRow (a .p) (cond x (begunRow (a .row) (a .next)) (a .row)) (a .inflight .now) (a .a .slot) (a .address .0) (a .stamp .0) w (a .block .now))) (sym (c .before .before .before .before .before .before .if1 .taken))
+    ∙ ap (λ (x : Bool). mkSentRow (cond x (suc (a .next)) (a .next))
+    (placedRow (a .p) (cond x (begunRow (a .row) (a .next)) (a .row)) (a .inflight .now) (a .a .slot) (a .address .0) (a .stamp .0) w
+    (a .block .now))) (sym (if1 .taken))
 
 place-requires-2 : tie.Need-place-requires-2
 place-requires-2 c κs =
@@ -48,9 +53,12 @@ returns-2 : tie.Need-returns-2
 unfolding sentRow
 returns-2 c =
     let a = c .before .before .before .before .before .before .before .before .args in
+    let if1 = c .before .before .before .before .before .if1 in
     let w : ℕ = cond (a .write) 1 0 in
     ap (mkSentRow (a .next)) (c .before .before .before .place2 .ensures)
-    ∙ ap (λ (x : Bool). mkSentRow (cond x (suc (a .next)) (a .next)) (placedRow (a .p) (cond x (begunRow (a .row) (a .next)) (a .row)) (a .inflight .now) (a .a .slot) (a .address .0) (a .stamp .0) w (a .block .now))) (sym (c .before .before .before .before .before .if1 .left))
+    ∙ ap (λ (x : Bool). mkSentRow (cond x (suc (a .next)) (a .next))
+    (placedRow (a .p) (cond x (begunRow (a .row) (a .next)) (a .row)) (a .inflight .now) (a .a .slot) (a .address .0) (a .stamp .0) w
+    (a .block .now))) (sym (if1 .left))
 
 pub send-spec : {M : Type 1} → statement M
 send-spec =

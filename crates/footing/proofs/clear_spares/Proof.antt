@@ -23,9 +23,10 @@ loop-holds c =
 add-spare-byte : tie.Need-add-spare-byte Inv-loop μ-loop
 add-spare-byte c =
     let a = c .before .before .before .args in
+    let pre = c .before .before .before .pre in
     let p = a .p in
-    let r = ranged p (c .before .before .before .pre .0) in
-    let h = c .before .before .before .pre .1 in
+    let r = ranged p (pre .0) in
+    let h = pre .1 in
     let l = c .before .loop in
     let t = c .loop-test .taken in
     omega (arith, h .3, t, capacity-high p r)
@@ -33,21 +34,25 @@ add-spare-byte c =
 spare-byte-requires : tie.Need-spare-byte-requires Inv-loop μ-loop
 spare-byte-requires c κs =
     let a = c .before .before .before .args in
+    let pre = c .before .before .before .pre in
     let p = a .p in
-    let r = ranged p (c .before .before .before .pre .0) in
-    let h = c .before .before .before .pre .1 in
+    let r = ranged p (pre .0) in
+    let h = pre .1 in
     let l = c .before .loop in
     let t = c .loop-test .taken in
-    (c .before .before .before .pre .0, (h .1, h .2, omega (arith, h .3, t)))
+    (pre .0, (h .1, h .2, omega (arith, h .3, t)))
 
 clear-part-requires : tie.Need-clear-part-requires Inv-loop μ-loop
 clear-part-requires c κs =
     let a = c .before .before .before .before .before .args in
+    let loop-test = c .before .before .loop-test in
+    let loop = c .before .before .before .loop in
+    let pre = c .before .before .before .before .before .pre in
     let p = a .p in
-    let r = ranged p (c .before .before .before .before .before .pre .0) in
-    let h = c .before .before .before .before .before .pre .1 in
-    let l = c .before .before .before .loop in
-    let t = c .before .before .loop-test .taken in
+    let r = ranged p (pre .0) in
+    let h = pre .1 in
+    let l = loop in
+    let t = loop-test .taken in
     omega (arith, c .before .spare-byte .ensures .1, l .inv .long)
 
 add-i : tie.Need-add-i Inv-loop μ-loop
@@ -60,29 +65,36 @@ loop-again : tie.Need-loop-again Inv-loop μ-loop
 unfolding zeroSpare
 loop-again c =
     let a = c .before .before .before .before .before .before .before .before .args in
+    let clear-part = c .before .before .clear-part in
+    let spare-byte = c .before .before .before .before .spare-byte in
+    let loop-test = c .before .before .before .before .before .loop-test in
+    let loop = c .before .before .before .before .before .before .loop in
+    let pre = c .before .before .before .before .before .before .before .before .pre in
     let p = a .p in
-    let r = ranged p (c .before .before .before .before .before .before .before .before .pre .0) in
-    let h = c .before .before .before .before .before .before .before .before .pre .1 in
-    let l = c .before .before .before .before .before .before .loop in
-    let t = c .before .before .before .before .before .loop-test .taken in
-    clearing-turn p (a .drive) (a .zone) (a .at) (a .n) (a .image .now) (l .i) (l .image) (c .before .before .clear-part .last .0) (h .1) (h .2) (h .3) t
-    (c .before .before .clear-part .ensures ∙ ap₂ (λ (x y : ℕ). splice (l .image) x (replicate y 0)) (c .before .before .before .before .spare-byte .ensures .0) (sym spare-len)) (l .inv)
+    let r = ranged p (pre .0) in
+    let h = pre .1 in
+    let l = loop in
+    let t = loop-test .taken in
+    clearing-turn p (a .drive) (a .zone) (a .at) (a .n) (a .image .now) (l .i) (l .image) (clear-part .last .0) (h .1) (h .2) (h .3) t
+    (clear-part .ensures ∙ ap₂ (λ (x y : ℕ). splice (l .image) x (replicate y 0)) (spare-byte .ensures .0) (sym spare-len)) (l .inv)
 
 same-length : tie.Need-same-length Inv-loop μ-loop
 same-length c =
     let a = c .before .before .before .args in
+    let pre = c .before .before .before .pre in
     let p = a .p in
-    let r = ranged p (c .before .before .before .pre .0) in
-    let h = c .before .before .before .pre .1 in
+    let r = ranged p (pre .0) in
+    let h = pre .1 in
     let l = c .before .loop in
     l .inv .long ∙ sym (h .0)
 
 returns : tie.Need-returns Inv-loop μ-loop
 returns c =
     let a = c .before .before .before .args in
+    let pre = c .before .before .before .pre in
     let p = a .p in
-    let r = ranged p (c .before .before .before .pre .0) in
-    let h = c .before .before .before .pre .1 in
+    let r = ranged p (pre .0) in
+    let h = pre .1 in
     let l = c .before .loop in
     clearing-done p (a .drive) (a .zone) (a .at) (a .n) (a .image .now) (l .i) (l .image) (omega (arith, c .loop-test .left)) (l .inv)
 

@@ -18,12 +18,14 @@ returns : tie.Need-returns
 unfolding madeOf
 returns c =
     let a = c .before .before .before .before .before .args in
+    let allowed = c .before .before .allowed in
+    let pre = c .before .before .before .before .before .pre in
     let p = a .p in
     let k = mkDisk (a .image .now) (a .pointers .now) in
     let q = zoneAt (viewOf p (a .image .now) (a .pointers .now)) (a .drive) (a .zone) in
-    let w = c .before .before .before .before .before .pre .1 .0 in
-    let h = c .before .before .before .before .before .pre .1 .1 in
-    let m = c .before .before .allowed .ensures in
+    let w = pre .1 .0 in
+    let h = pre .1 .1 in
+    let m = allowed .ensures in
     record {
       made = c .made .ensures ∙ ap (madeOf (a .count)) (sym (feet-count p (a .drive) (a .zone) q (a .first) (a .n)));
       disk = sym (feet-none p (a .drive) (a .zone) q (a .first) (a .n) (a .count) k (sym m ∙ c .before .if1 .taken));
@@ -32,13 +34,16 @@ returns c =
 store-footers-requires : tie.Need-store-footers-requires
 store-footers-requires c κs =
     let a = c .before .before .before .before .before .before .args in
+    let if1 = c .before .before .if1 in
+    let allowed = c .before .before .before .allowed in
+    let pre = c .before .before .before .before .before .before .pre in
     let p = a .p in
     let k = mkDisk (a .image .now) (a .pointers .now) in
     let q = zoneAt (viewOf p (a .image .now) (a .pointers .now)) (a .drive) (a .zone) in
-    let w = c .before .before .before .before .before .before .pre .1 .0 in
-    let h = c .before .before .before .before .before .before .pre .1 .1 in
-    let m = c .before .before .before .allowed .ensures in
-    (c .before .before .before .before .before .before .pre .0, (w, (h .0, h .1, omega (arith, c .before .before .if1 .left), omega (arith, m, h .2), omega (arith, m, h .3))))
+    let w = pre .1 .0 in
+    let h = pre .1 .1 in
+    let m = allowed .ensures in
+    (pre .0, (w, (h .0, h .1, omega (arith, if1 .left), omega (arith, m, h .2), omega (arith, m, h .3))))
 
 made-requires-2 : tie.Need-made-requires-2
 made-requires-2 c κs = search needs
@@ -52,15 +57,18 @@ same-length-2 c = search needs
 returns-2 : tie.Need-returns-2
 returns-2 c =
     let a = c .before .before .before .before .before .before .before .before .before .before .before .before .args in
+    let store-footers = c .before .before .before .before .before .store-footers in
+    let allowed = c .before .before .before .before .before .before .before .before .before .allowed in
+    let pre = c .before .before .before .before .before .before .before .before .before .before .before .before .pre in
     let p = a .p in
     let k = mkDisk (a .image .now) (a .pointers .now) in
     let q = zoneAt (viewOf p (a .image .now) (a .pointers .now)) (a .drive) (a .zone) in
-    let w = c .before .before .before .before .before .before .before .before .before .before .before .before .pre .1 .0 in
-    let h = c .before .before .before .before .before .before .before .before .before .before .before .before .pre .1 .1 in
-    let m = c .before .before .before .before .before .before .before .before .before .allowed .ensures in
+    let w = pre .1 .0 in
+    let h = pre .1 .1 in
+    let m = allowed .ensures in
     record {
       made = c .made2 .ensures ∙ ap (madeOf (a .count)) (sym (feet-count p (a .drive) (a .zone) q (a .first) (a .n)));
-      disk = c .before .before .before .before .before .store-footers .ensures ∙ sym (ap (λ (x : List Store). storeAll (storeDisk p) x k) (feet-taken p (a .drive) (a .zone) q (a .first) (a .n) (a .count) (c .before .before .before .before .before .before .before .before .before .allowed .result) m));
+      disk = store-footers .ensures ∙ sym (ap (λ (x : List Store). storeAll (storeDisk p) x k) (feet-taken p (a .drive) (a .zone) q (a .first) (a .n) (a .count) (allowed .result) m));
     }
 
 pub footer-stores-spec : {M : Type 1} → statement M

@@ -24,10 +24,12 @@ mul-rest c =
 
 sub-rest : tie.Need-sub-rest
 sub-rest c =
-    let p = c .before .before .args .p in
-    let i = c .before .before .args .i in
-    let r = ranged p (c .before .before .pre .0) in
-    let h = c .before .before .pre .1 in
+    let args = c .before .before .args in
+    let pre = c .before .before .pre in
+    let p = args .p in
+    let i = args .i in
+    let r = ranged p (pre .0) in
+    let h = pre .1 in
     let k : c .before .per-footer .result ≡ perFooter p = c .before .per-footer .ensures .0 in
     let s = footer-start p r i h in
     let e : i * c .before .per-footer .result ≡ i * perFooter p = ap (λ (x : ℕ). i * x) k in
@@ -35,25 +37,33 @@ sub-rest c =
 
 returns : tie.Need-returns
 returns c =
-    let p = c .before .before .before .args .p in
-    let i = c .before .before .before .args .i in
-    let r = ranged p (c .before .before .before .pre .0) in
-    let h = c .before .before .before .pre .1 in
-    let k : c .before .before .per-footer .result ≡ perFooter p = c .before .before .per-footer .ensures .0 in
+    let per-footer = c .before .before .per-footer in
+    let entry = c .before .before .before in
+    let args = entry .args in
+    let pre = entry .pre in
+    let p = args .p in
+    let i = args .i in
+    let r = ranged p (pre .0) in
+    let h = pre .1 in
+    let k : per-footer .result ≡ perFooter p = per-footer .ensures .0 in
     let s = footer-start p r i h in
-    let e : i * c .before .before .per-footer .result ≡ i * perFooter p = ap (λ (x : ℕ). i * x) k in
-    (omega (arith, e, k, s, c .if1 .taken), omega (arith, e, s), omega (arith, c .if1 .taken, c .before .before .per-footer .ensures .2))
+    let e : i * per-footer .result ≡ i * perFooter p = ap (λ (x : ℕ). i * x) k in
+    (omega (arith, e, k, s, c .if1 .taken), omega (arith, e, s), omega (arith, c .if1 .taken, per-footer .ensures .2))
 
 returns-2 : tie.Need-returns-2
 returns-2 c =
-    let p = c .before .before .before .args .p in
-    let i = c .before .before .before .args .i in
-    let r = ranged p (c .before .before .before .pre .0) in
-    let h = c .before .before .before .pre .1 in
-    let k : c .before .before .per-footer .result ≡ perFooter p = c .before .before .per-footer .ensures .0 in
+    let per-footer = c .before .before .per-footer in
+    let entry = c .before .before .before in
+    let args = entry .args in
+    let pre = entry .pre in
+    let p = args .p in
+    let i = args .i in
+    let r = ranged p (pre .0) in
+    let h = pre .1 in
+    let k : per-footer .result ≡ perFooter p = per-footer .ensures .0 in
     let s = footer-start p r i h in
-    let e : i * c .before .before .per-footer .result ≡ i * perFooter p = ap (λ (x : ℕ). i * x) k in
-    (omega (arith, e, k, s, c .if1 .left), omega (arith, e, k, s, c .if1 .left), c .before .before .per-footer .ensures .2)
+    let e : i * per-footer .result ≡ i * perFooter p = ap (λ (x : ℕ). i * x) k in
+    (omega (arith, e, k, s, c .if1 .left), omega (arith, e, k, s, c .if1 .left), per-footer .ensures .2)
 
 pub records-of-spec : {M : Type 1} → statement M
 records-of-spec =

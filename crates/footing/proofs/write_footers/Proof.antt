@@ -16,19 +16,23 @@ array-borrow-prefix-block c =
 
 slice-aggregate-write-with : tie.Need-slice-aggregate-write-with
 slice-aggregate-write-with c =
+    let pre = c .before .before .before .pre in
     let p = c .before .before .before .args .p in
-    let r = ranged p (c .before .before .before .pre .0) in
-    let h = c .before .before .before .pre .1 in
+    let r = ranged p (pre .0) in
+    let h = pre .1 in
     let s : List ℕ = replicate 4096 0 in
     sym (length-take-le (p .B) s (r .block-high))
 
 write-with-requires : tie.Need-write-with-requires
 write-with-requires c κs =
-    let p = c .before .before .before .args .p in
-    let r = ranged p (c .before .before .before .pre .0) in
-    let h = c .before .before .before .pre .1 in
+    let entry = c .before .before .before in
+    let args = entry .args in
+    let pre = entry .pre in
+    let p = args .p in
+    let r = ranged p (pre .0) in
+    let h = pre .1 in
     let s : List ℕ = replicate 4096 0 in
-    (c .before .before .before .pre .0, (h .0, length-take-le (p .B) s (r .block-high), h .1, h .2, h .3, h .4))
+    (pre .0, (h .0, length-take-le (p .B) s (r .block-high), h .1, h .2, h .3, h .4))
 
 same-length : tie.Need-same-length
 same-length c = search needs

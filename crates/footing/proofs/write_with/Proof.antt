@@ -25,53 +25,69 @@ loop-holds c =
 add-make-footer : tie.Need-add-make-footer Inv-loop μ-loop
 add-make-footer c =
     let a = c .before .before .before .before .before .args in
+    let loop = c .before .before .loop in
+    let pre = c .before .before .before .before .before .pre in
     let p = a .p in
-    let r = ranged p (c .before .before .before .before .before .pre .0) in
-    let h = c .before .before .before .before .before .pre .1 in
-    let l = c .before .before .loop in
+    let r = ranged p (pre .0) in
+    let h = pre .1 in
+    let l = loop in
     let t = c .before .loop-test .taken in
     omega (arith, h .4, t, footers-high p r)
 
 make-footer-requires : tie.Need-make-footer-requires Inv-loop μ-loop
 make-footer-requires c κs =
     let a = c .before .before .before .before .before .before .args in
+    let loop-test = c .before .before .loop-test in
+    let loop = c .before .before .before .loop in
+    let pre = c .before .before .before .before .before .before .pre in
     let p = a .p in
-    let r = ranged p (c .before .before .before .before .before .before .pre .0) in
-    let h = c .before .before .before .before .before .before .pre .1 in
-    let l = c .before .before .before .loop in
-    let t = c .before .before .loop-test .taken in
-    (c .before .before .before .before .before .before .pre .0, (l .inv .1 .long, h .2, h .3, omega (arith, h .4, t), l .inv .0 ∙ h .1))
+    let r = ranged p (pre .0) in
+    let h = pre .1 in
+    let l = loop in
+    let t = loop-test .taken in
+    (pre .0, (l .inv .1 .long, h .2, h .3, omega (arith, h .4, t), l .inv .0 ∙ h .1))
 
 add-block-byte : tie.Need-add-block-byte Inv-loop μ-loop
 add-block-byte c =
     let a = c .before .before .before .before .before .before .before .before .before .args in
+    let loop-test = c .before .before .before .before .before .loop-test in
+    let loop = c .before .before .before .before .before .before .loop in
+    let pre = c .before .before .before .before .before .before .before .before .before .pre in
     let p = a .p in
-    let r = ranged p (c .before .before .before .before .before .before .before .before .before .pre .0) in
-    let h = c .before .before .before .before .before .before .before .before .before .pre .1 in
-    let l = c .before .before .before .before .before .before .loop in
-    let t = c .before .before .before .before .before .loop-test .taken in
+    let r = ranged p (pre .0) in
+    let h = pre .1 in
+    let l = loop in
+    let t = loop-test .taken in
     omega (arith, h .5, t, capacity-high p r)
 
 block-byte-requires : tie.Need-block-byte-requires Inv-loop μ-loop
 block-byte-requires c κs =
     let a = c .before .before .before .before .before .before .before .before .before .args in
+    let loop-test = c .before .before .before .before .before .loop-test in
+    let loop = c .before .before .before .before .before .before .loop in
+    let pre = c .before .before .before .before .before .before .before .before .before .pre in
     let p = a .p in
-    let r = ranged p (c .before .before .before .before .before .before .before .before .before .pre .0) in
-    let h = c .before .before .before .before .before .before .before .before .before .pre .1 in
-    let l = c .before .before .before .before .before .before .loop in
-    let t = c .before .before .before .before .before .loop-test .taken in
-    (c .before .before .before .before .before .before .before .before .before .pre .0, (h .2, h .3, omega (arith, h .5, t)))
+    let r = ranged p (pre .0) in
+    let h = pre .1 in
+    let l = loop in
+    let t = loop-test .taken in
+    (pre .0, (h .2, h .3, omega (arith, h .5, t)))
 
 copy-part-requires : tie.Need-copy-part-requires Inv-loop μ-loop
 unfolding unitLen
 copy-part-requires c κs =
     let a = c .before .before .before .before .before .before .before .before .before .before .before .before .args in
+    let block-byte = c .before .before .block-byte in
+    let make-footer = c .before .before .before .before .before .make-footer in
+    let loop-test = c .before .before .before .before .before .before .before .before .loop-test in
+    let loop = c .before .before .before .before .before .before .before .before .before .loop in
+    let pre = c .before .before .before .before .before .before .before .before .before .before .before .before .pre in
     let p = a .p in
-    let r = ranged p (c .before .before .before .before .before .before .before .before .before .before .before .before .pre .0) in
-    let h = c .before .before .before .before .before .before .before .before .before .before .before .before .pre .1 in
-    let l = c .before .before .before .before .before .before .before .before .before .loop in
-    let t = c .before .before .before .before .before .before .before .before .loop-test .taken in
-    omega (arith, c .before .before .block-byte .ensures .1, l .inv .1 .long, c .before .before .before .before .before .make-footer .kept .1 .1 .1 .1 .1 .0, l .inv .0, h .1)
+    let r = ranged p (pre .0) in
+    let h = pre .1 in
+    let l = loop in
+    let t = loop-test .taken in
+    omega (arith, block-byte .ensures .1, l .inv .1 .long, make-footer .kept .1 .1 .1 .1 .1 .0, l .inv .0, h .1)
 
 add-i : tie.Need-add-i Inv-loop μ-loop
 add-i c = omega arith
@@ -82,43 +98,53 @@ loop-less c = omega arith
 loop-again : tie.Need-loop-again Inv-loop μ-loop
 loop-again c =
     let a = c .before .before .before .before .before .before .before .before .before .before .before .before .before .before .before .args in
+    let copy-part = c .before .before .copy-part in
+    let block-byte = c .before .before .before .before .before .block-byte in
+    let make-footer = c .before .before .before .before .before .before .before .before .make-footer in
+    let loop-test = c .before .before .before .before .before .before .before .before .before .before .before .loop-test in
+    let loop = c .before .before .before .before .before .before .before .before .before .before .before .before .loop in
+    let pre = c .before .before .before .before .before .before .before .before .before .before .before .before .before .before .before .pre in
     let p = a .p in
-    let r = ranged p (c .before .before .before .before .before .before .before .before .before .before .before .before .before .before .before .pre .0) in
-    let h = c .before .before .before .before .before .before .before .before .before .before .before .before .before .before .before .pre .1 in
-    let l = c .before .before .before .before .before .before .before .before .before .before .before .before .loop in
-    let t = c .before .before .before .before .before .before .before .before .before .before .before .loop-test .taken in
-    let s = c .before .before .before .before .before .before .before .before .make-footer .last .1 .1 .1 .1 .1 .0 in
-    let ls : length s ≡ p .B = c .before .before .before .before .before .before .before .before .make-footer .kept .1 .1 .1 .1 .1 .0 ∙ l .inv .0 ∙ h .1 in
-    let q : s ≡ footerBlock p (sparesBy p (l .image) (a .drive) (a .zone)) (a .first + l .i) = footer-by p r (a .drive) (a .zone) (h .2) (h .3) (l .image) (l .inv .1 .long) s (a .first + l .i) (c .before .before .before .before .before .before .before .before .make-footer .ensures) in (
-      c .before .before .before .before .before .before .before .before .make-footer .kept .1 .1 .1 .1 .1 .0 ∙ l .inv .0,
-      writing-turn p (a .drive) (a .zone) (a .at) (a .first) (a .n) (a .image .now) (l .i) (l .image) (c .before .before .copy-part .last .0) s r (h .2) (h .3) (h .5) t ls q
-          (c .before .before .copy-part .ensures ∙ ap (λ (x : ℕ). splice (l .image) x s) (c .before .before .before .before .before .block-byte .ensures .0)) (l .inv .1),
+    let r = ranged p (pre .0) in
+    let h = pre .1 in
+    let l = loop in
+    let t = loop-test .taken in
+    let s = make-footer .last .1 .1 .1 .1 .1 .0 in
+    let ls : length s ≡ p .B = make-footer .kept .1 .1 .1 .1 .1 .0 ∙ l .inv .0 ∙ h .1 in
+    let q : s ≡ footerBlock p (sparesBy p (l .image) (a .drive) (a .zone)) (a .first + l .i) =
+    footer-by p r (a .drive) (a .zone) (h .2) (h .3) (l .image) (l .inv .1 .long) s (a .first + l .i) (make-footer .ensures) in (
+      make-footer .kept .1 .1 .1 .1 .1 .0 ∙ l .inv .0,
+      writing-turn p (a .drive) (a .zone) (a .at) (a .first) (a .n) (a .image .now) (l .i) (l .image) (copy-part .last .0) s r (h .2) (h .3) (h .5) t ls q
+          (copy-part .ensures ∙ ap (λ (x : ℕ). splice (l .image) x s) (block-byte .ensures .0)) (l .inv .1),
     )
 
 same-length : tie.Need-same-length Inv-loop μ-loop
 same-length c =
     let a = c .before .before .before .before .args in
+    let pre = c .before .before .before .before .pre in
     let p = a .p in
-    let r = ranged p (c .before .before .before .before .pre .0) in
-    let h = c .before .before .before .before .pre .1 in
+    let r = ranged p (pre .0) in
+    let h = pre .1 in
     let l = c .before .loop in
     l .inv .1 .long ∙ sym (h .0)
 
 same-length-2 : tie.Need-same-length-2 Inv-loop μ-loop
 same-length-2 c =
     let a = c .before .before .before .before .args in
+    let pre = c .before .before .before .before .pre in
     let p = a .p in
-    let r = ranged p (c .before .before .before .before .pre .0) in
-    let h = c .before .before .before .before .pre .1 in
+    let r = ranged p (pre .0) in
+    let h = pre .1 in
     let l = c .before .loop in
     l .inv .0
 
 returns : tie.Need-returns Inv-loop μ-loop
 returns c =
     let a = c .before .before .before .before .args in
+    let pre = c .before .before .before .before .pre in
     let p = a .p in
-    let r = ranged p (c .before .before .before .before .pre .0) in
-    let h = c .before .before .before .before .pre .1 in
+    let r = ranged p (pre .0) in
+    let h = pre .1 in
     let l = c .before .loop in
     writing-done p (a .drive) (a .zone) (a .at) (a .first) (a .n) (a .image .now) (l .i) (l .image) (omega (arith, c .loop-test .left)) (l .inv .1)
 

@@ -12,7 +12,10 @@ use Rattle.fronts.proofs.any_above.Statement.{statement}
 use Rattle.fronts.proofs.any_above.Tie as tie
 
 abbrev Inv-loop : tie.InvT-loop
-Inv-loop p pointers gone zone d₀ d = (d ≤ p .N) × (any (λ e. not (isIn gone e) && ltb (capacity p) (pointerOf p pointers e zone)) (upFrom d (p .N - d)) ≡ any (λ e. not (isIn gone e) && ltb (capacity p) (pointerOf p pointers e zone)) (below (p .N)))
+Inv-loop p pointers gone zone d₀ d =
+    (d ≤ p .N)
+    × (any (λ e. not (isIn gone e) && ltb (capacity p) (pointerOf p pointers e zone)) (upFrom d (p .N - d))
+    ≡ any (λ e. not (isIn gone e) && ltb (capacity p) (pointerOf p pointers e zone)) (below (p .N)))
 
 abbrev μ-loop : tie.MeasureT-loop
 μ-loop p pointers gone zone d₀ d = p .N - d
@@ -25,14 +28,16 @@ loop-holds c =
 is-above-requires : tie.Need-is-above-requires Inv-loop μ-loop
 is-above-requires c κs =
     let a = c .before .before .before .before .args in
-    (c .before .before .before .before .pre .0, (c .before .before .before .before .pre .1 .0, c .if1 .taken, c .before .before .before .before .pre .1 .1))
+    let pre = c .before .before .before .before .pre in
+    (pre .0, (pre .1 .0, c .if1 .taken, pre .1 .1))
 
 returns : tie.Need-returns Inv-loop μ-loop
 returns c =
     let a = c .before .before .before .before .before .before .args in
     let l = c .before .before .before .before .loop in
     let f : ℕ → Bool = λ e. not (isIn (a .gone) e) && ltb (capacity (a .p)) (pointerOf (a .p) (a .pointers .now) e (a .zone)) in
-    (sym (any-found f (l .d) (a .p .N) (c .before .before .if1 .taken) (sym (c .before .is-above .ensures) ∙ c .if2 .taken)) ∙ l .inv .1) ∙ sym (above-any (a .p) (a .pointers .now) (a .gone) (a .zone))
+    (sym (any-found f (l .d) (a .p .N) (c .before .before .if1 .taken) (sym (c .before .is-above .ensures) ∙ c .if2 .taken)) ∙ l .inv .1)
+    ∙ sym (above-any (a .p) (a .pointers .now) (a .gone) (a .zone))
 
 add-d : tie.Need-add-d Inv-loop μ-loop
 add-d c = omega arith
@@ -44,8 +49,9 @@ loop-again : tie.Need-loop-again Inv-loop μ-loop
 loop-again c =
     let a = c .before .before .before .before .before .before .args in
     let l = c .before .before .before .before .loop in
+    let if1 = c .before .before .if1 in
     let f : ℕ → Bool = λ e. not (isIn (a .gone) e) && ltb (capacity (a .p)) (pointerOf (a .p) (a .pointers .now) e (a .zone)) in
-    (omega (arith, c .before .before .if1 .taken), sym (any-passed f (l .d) (a .p .N) (c .before .before .if1 .taken) (sym (c .before .is-above .ensures) ∙ c .if2 .left)) ∙ l .inv .1)
+    (omega (arith, if1 .taken), sym (any-passed f (l .d) (a .p .N) (if1 .taken) (sym (c .before .is-above .ensures) ∙ c .if2 .left)) ∙ l .inv .1)
 
 returns-2 : tie.Need-returns-2 Inv-loop μ-loop
 returns-2 c =

@@ -11,7 +11,10 @@ use Rattle.fronts.proofs.footer_fault.Statement.{statement}
 use Rattle.fronts.proofs.footer_fault.Tie as tie
 
 abbrev Inv-loop : tie.InvT-loop
-Inv-loop p image pointers gone segment d₀ d = (d ≤ p .N) × (any (λ e. not (isIn gone e) && footerFaultIn p (zoneAt (viewOf p image pointers) e (zoneOn segment e))) (upFrom d (p .N - d)) ≡ any (λ e. not (isIn gone e) && footerFaultIn p (zoneAt (viewOf p image pointers) e (zoneOn segment e))) (below (p .N)))
+Inv-loop p image pointers gone segment d₀ d =
+    (d ≤ p .N)
+    × (any (λ e. not (isIn gone e) && footerFaultIn p (zoneAt (viewOf p image pointers) e (zoneOn segment e))) (upFrom d (p .N - d))
+    ≡ any (λ e. not (isIn gone e) && footerFaultIn p (zoneAt (viewOf p image pointers) e (zoneOn segment e))) (below (p .N)))
 
 abbrev μ-loop : tie.MeasureT-loop
 μ-loop p image pointers gone segment d₀ d = p .N - d
@@ -24,14 +27,18 @@ loop-holds c =
 drive-footer-fault-requires : tie.Need-drive-footer-fault-requires Inv-loop μ-loop
 drive-footer-fault-requires c κs =
     let a = c .before .before .before .before .before .args in
-    (c .before .before .before .before .before .pre .0, (c .before .before .before .before .before .pre .1 .0, (c .if1 .taken, c .before .before .before .before .before .pre .1 .1)))
+    let pre = c .before .before .before .before .before .pre in
+    (pre .0, (pre .1 .0, (c .if1 .taken, pre .1 .1)))
 
 returns : tie.Need-returns Inv-loop μ-loop
 returns c =
     let a = c .before .before .before .before .before .before .before .args in
     let l = c .before .before .before .before .loop in
+    let if1 = c .before .before .if1 in
+    let pre = c .before .before .before .before .before .before .before .pre in
     let f : ℕ → Bool = λ e. not (isIn (a .gone) e) && footerFaultIn (a .p) (zoneAt (viewOf (a .p) (a .image .now) (a .pointers .now)) e (zoneOn (a .segment) e)) in
-    (sym (any-found f (l .d) (a .p .N) (c .before .before .if1 .taken) (sym (c .before .drive-footer-fault .ensures) ∙ c .if2 .taken)) ∙ l .inv .1) ∙ sym (footer-list (a .p) (a .image .now) (a .pointers .now) (c .before .before .before .before .before .before .before .pre .1 .0 .image-long) (c .before .before .before .before .before .before .before .pre .1 .0 .pointers-long) (a .gone) (a .segment))
+    (sym (any-found f (l .d) (a .p .N) (if1 .taken) (sym (c .before .drive-footer-fault .ensures) ∙ c .if2 .taken)) ∙ l .inv .1)
+    ∙ sym (footer-list (a .p) (a .image .now) (a .pointers .now) (pre .1 .0 .image-long) (pre .1 .0 .pointers-long) (a .gone) (a .segment))
 
 add-d : tie.Need-add-d Inv-loop μ-loop
 add-d c = omega arith
@@ -43,15 +50,18 @@ loop-again : tie.Need-loop-again Inv-loop μ-loop
 loop-again c =
     let a = c .before .before .before .before .before .before .before .args in
     let l = c .before .before .before .before .loop in
+    let if1 = c .before .before .if1 in
     let f : ℕ → Bool = λ e. not (isIn (a .gone) e) && footerFaultIn (a .p) (zoneAt (viewOf (a .p) (a .image .now) (a .pointers .now)) e (zoneOn (a .segment) e)) in
-    (omega (arith, c .before .before .if1 .taken), sym (any-passed f (l .d) (a .p .N) (c .before .before .if1 .taken) (sym (c .before .drive-footer-fault .ensures) ∙ c .if2 .left)) ∙ l .inv .1)
+    (omega (arith, if1 .taken), sym (any-passed f (l .d) (a .p .N) (if1 .taken) (sym (c .before .drive-footer-fault .ensures) ∙ c .if2 .left)) ∙ l .inv .1)
 
 returns-2 : tie.Need-returns-2 Inv-loop μ-loop
 returns-2 c =
     let a = c .before .before .before .before .before .args in
     let l = c .before .before .loop in
+    let pre = c .before .before .before .before .before .pre in
     let f : ℕ → Bool = λ e. not (isIn (a .gone) e) && footerFaultIn (a .p) (zoneAt (viewOf (a .p) (a .image .now) (a .pointers .now)) e (zoneOn (a .segment) e)) in
-    (sym (any-ended f (l .d) (a .p .N) (omega (arith, c .if1 .left))) ∙ l .inv .1) ∙ sym (footer-list (a .p) (a .image .now) (a .pointers .now) (c .before .before .before .before .before .pre .1 .0 .image-long) (c .before .before .before .before .before .pre .1 .0 .pointers-long) (a .gone) (a .segment))
+    (sym (any-ended f (l .d) (a .p .N) (omega (arith, c .if1 .left))) ∙ l .inv .1)
+    ∙ sym (footer-list (a .p) (a .image .now) (a .pointers .now) (pre .1 .0 .image-long) (pre .1 .0 .pointers-long) (a .gone) (a .segment))
 
 pub footer-fault-spec : {M : Type 1} → statement M
 footer-fault-spec =

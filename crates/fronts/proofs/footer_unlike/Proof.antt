@@ -40,12 +40,18 @@ make-footer-requires c κs =
 
 add-block-byte : tie.Need-add-block-byte
 add-block-byte c =
-    omega (arith, ranged (c .before .before .before .before .before .before .before .args .p) (c .before .before .before .before .before .before .before .pre .0) .stripes-high)
+    let entry = c .before .before .before .before .before .before .before in
+    let args = entry .args in
+    let pre = entry .pre in
+    omega (arith, ranged (args .p) (pre .0) .stripes-high)
 
 add-block-byte-2 : tie.Need-add-block-byte-2
 add-block-byte-2 c =
-    let r = ranged (c .before .before .before .before .before .before .before .args .p) (c .before .before .before .before .before .before .before .pre .0) in
-    omega (arith, r .stripes-high, footers-high (c .before .before .before .before .before .before .before .args .p) r, c .before .before .before .before .before .before .before .pre .1 .4)
+    let entry = c .before .before .before .before .before .before .before in
+    let args = entry .args in
+    let pre = entry .pre in
+    let r = ranged (args .p) (pre .0) in
+    omega (arith, r .stripes-high, footers-high (args .p) r, pre .1 .4)
 
 block-byte-requires : tie.Need-block-byte-requires
 unfolding capacity
@@ -74,12 +80,14 @@ slice-reshare-prefix-same c = search needs
 slice-aggregate-same : tie.Need-slice-aggregate-same
 slice-aggregate-same c =
     let a = c .before .before .before .before .before .before .before .before .before .before .args in
+    let make-footer = c .before .before .before .before .before .before .make-footer in
+    let pre = c .before .before .before .before .before .before .before .before .before .before .pre in
     let p = a .p in
     let s = a .scratch .now in
-    let h = c .before .before .before .before .before .before .before .before .before .before .pre in
+    let h = pre in
     let t : length (take (p .B) s) ≡ p .B = length-take-le (p .B) s (h .1 .1) in
-    let w = c .before .before .before .before .before .before .make-footer .last .1 .1 .1 .1 .1 .0 in
-    let k : length w ≡ p .B = c .before .before .before .before .before .before .make-footer .kept .1 .1 .1 .1 .1 .0 ∙ t in
+    let w = make-footer .last .1 .1 .1 .1 .1 .0 in
+    let k : length w ≡ p .B = make-footer .kept .1 .1 .1 .1 .1 .0 ∙ t in
     let e : take (p .B) (w ++ drop (p .B) s) ≡ w = take-at w (drop (p .B) s) (p .B) k in
     sym (ap length e ∙ k)
 
@@ -93,21 +101,24 @@ returns : tie.Need-returns
 unfolding footerOff chunkAt capacity
 returns c =
     let a = c .before .before .before .before .before .before .before .before .before .before .before .args in
+    let block-byte = c .before .before .before .block-byte in
+    let make-footer = c .before .before .before .before .before .before .before .make-footer in
+    let pre = c .before .before .before .before .before .before .before .before .before .before .before .pre in
     let p = a .p in
     let s = a .scratch .now in
-    let h = c .before .before .before .before .before .before .before .before .before .before .before .pre in
+    let h = pre in
     let t : length (take (p .B) s) ≡ p .B = length-take-le (p .B) s (h .1 .1) in
-    let w = c .before .before .before .before .before .before .before .make-footer .last .1 .1 .1 .1 .1 .0 in
-    let k : length w ≡ p .B = c .before .before .before .before .before .before .before .make-footer .kept .1 .1 .1 .1 .1 .0 ∙ t in
+    let w = make-footer .last .1 .1 .1 .1 .1 .0 in
+    let k : length w ≡ p .B = make-footer .kept .1 .1 .1 .1 .1 .0 ∙ t in
     let e : take (p .B) (w ++ drop (p .B) s) ≡ w = take-at w (drop (p .B) s) (p .B) k in
     let im = a .image .now in
-    let y = c .before .before .before .block-byte in
+    let y = block-byte in
     λ ps long.
     let x = 1 + p .S + a .i in
     let f : take (y .result + p .B - y .result) (drop (y .result) im) ≡ chunkAt (viewOf p im ps) (a .drive) (a .zone) x .block =
     part-lent (y .result) (p .B) im ∙ ap (λ (o : ℕ). part o (p .B) im) (y .ensures .0)
     ∙ sym (block-view p (mkDisk im ps) (a .drive) (a .zone) (h .1 .2) (h .1 .3) (record { image-long = h .1 .0; pointers-long = long }) x (omega (arith, h .1 .4))) in
-    ap not (c .same .ensures ∙ ap₂ sameList f (e ∙ c .before .before .before .before .before .before .before .make-footer .ensures ps long))
+    ap not (c .same .ensures ∙ ap₂ sameList f (e ∙ make-footer .ensures ps long))
 
 pub footer-unlike-spec : {M : Type 1} → statement M
 footer-unlike-spec =

@@ -32,17 +32,20 @@ header-fault-requires c κs = search needs
 returns : tie.Need-returns
 returns c =
     let a = c .before .before .before .before .before .before .before .before .args in
+    let copied-on = c .before .before .copied-on in
+    let low-drive = c .before .before .before .low-drive in
+    let pre = c .before .before .before .before .before .before .before .before .pre in
     let p = a .p in
     let im = a .image .now in
     let gone = a .gone in
     let g = a .g in
     let f = c .before .header-fault in
-    let low = c .before .before .before .low-drive in
-    let k = c .before .before .copied-on in
+    let low = low-drive in
+    let k = copied-on in
     λ ps long hk hs.
     let v = viewOf p im ps in
     let x = segmentOf p v gone g in
-    let hg = c .before .before .before .before .before .before .before .before .pre .1 .3 in
+    let hg = pre .1 .3 in
     let es : getD (a .serials .now) g 0 ≡ x .serial = hs .1 g hg ∙ sym (seg-serial p v gone g) in
     let ec : k .result .0 ≡ x .copied = k .ensures ps long ∙ ap (λ (d : ℕ). headerCopied (headerAt v d g)) (low .ensures .0) ∙ sym (seg-copied p v gone g) in
     front-header (headerFault p gone x) (serialFault (segments p v gone) x) (sym (f .ensures ps long es ec) ∙ c .if1 .taken)
@@ -50,21 +53,27 @@ returns c =
 returns-2 : tie.Need-returns-2
 returns-2 c =
     let a = c .before .before .before .before .before .before .before .before .before .before .before .args in
+    let if1 = c .before .before .before .if1 in
+    let header-fault = c .before .before .before .before .header-fault in
+    let copied-on = c .before .before .before .before .before .copied-on in
+    let low-drive = c .before .before .before .before .before .before .low-drive in
+    let pre = c .before .before .before .before .before .before .before .before .before .before .before .pre in
     let p = a .p in
     let im = a .image .now in
     let gone = a .gone in
     let g = a .g in
-    let f = c .before .before .before .before .header-fault in
-    let low = c .before .before .before .before .before .before .low-drive in
-    let k = c .before .before .before .before .before .copied-on in
+    let f = header-fault in
+    let low = low-drive in
+    let k = copied-on in
     λ ps long hk hs.
     let v = viewOf p im ps in
     let x = segmentOf p v gone g in
-    let hg = c .before .before .before .before .before .before .before .before .before .before .before .pre .1 .3 in
+    let hg = pre .1 .3 in
     let es : getD (a .serials .now) g 0 ≡ x .serial = hs .1 g hg ∙ sym (seg-serial p v gone g) in
     let ec : k .result .0 ≡ x .copied = k .ensures ps long ∙ ap (λ (d : ℕ). headerCopied (headerAt v d g)) (low .ensures .0) ∙ sym (seg-copied p v gone g) in
-    front-serial (headerFault p gone x) (serialFault (segments p v gone) x) (leb (getD (a .serials .now) g 0) (x .copied)) (otherSerial (p .Z) (a .kept .now) (a .serials .now) g (getD (a .serials .now) g 0))
-    (sym (f .ensures ps long es ec) ∙ c .before .before .before .if1 .left) (serial-list p v gone g (a .kept .now) (a .serials .now) hg hk hs)
+    front-serial (headerFault p gone x) (serialFault (segments p v gone) x) (leb (getD (a .serials .now) g 0) (x .copied))
+    (otherSerial (p .Z) (a .kept .now) (a .serials .now) g (getD (a .serials .now) g 0))
+    (sym (f .ensures ps long es ec) ∙ if1 .left) (serial-list p v gone g (a .kept .now) (a .serials .now) hg hk hs)
     (ap (leb (getD (a .serials .now) g 0)) (sym ec) ∙ le-leb (getD (a .serials .now) g 0) (k .result .0) (c .if2 .taken))
 
 is-serial-of-other-requires : tie.Need-is-serial-of-other-requires
@@ -73,21 +82,27 @@ is-serial-of-other-requires c κs = search needs
 returns-3 : tie.Need-returns-3
 returns-3 c =
     let a = c .before .before .before .before .before .before .before .before .before .before .before .before .args in
+    let if1 = c .before .before .before .before .if1 in
+    let header-fault = c .before .before .before .before .before .header-fault in
+    let copied-on = c .before .before .before .before .before .before .copied-on in
+    let low-drive = c .before .before .before .before .before .before .before .low-drive in
+    let pre = c .before .before .before .before .before .before .before .before .before .before .before .before .pre in
     let p = a .p in
     let im = a .image .now in
     let gone = a .gone in
     let g = a .g in
-    let f = c .before .before .before .before .before .header-fault in
-    let low = c .before .before .before .before .before .before .before .low-drive in
-    let k = c .before .before .before .before .before .before .copied-on in
+    let f = header-fault in
+    let low = low-drive in
+    let k = copied-on in
     λ ps long hk hs.
     let v = viewOf p im ps in
     let x = segmentOf p v gone g in
-    let hg = c .before .before .before .before .before .before .before .before .before .before .before .before .pre .1 .3 in
+    let hg = pre .1 .3 in
     let es : getD (a .serials .now) g 0 ≡ x .serial = hs .1 g hg ∙ sym (seg-serial p v gone g) in
     let ec : k .result .0 ≡ x .copied = k .ensures ps long ∙ ap (λ (d : ℕ). headerCopied (headerAt v d g)) (low .ensures .0) ∙ sym (seg-copied p v gone g) in
-    front-other (headerFault p gone x) (serialFault (segments p v gone) x) (leb (getD (a .serials .now) g 0) (x .copied)) (otherSerial (p .Z) (a .kept .now) (a .serials .now) g (getD (a .serials .now) g 0)) (c .is-serial-of-other .result)
-    (sym (f .ensures ps long es ec) ∙ c .before .before .before .before .if1 .left) (serial-list p v gone g (a .kept .now) (a .serials .now) hg hk hs)
+    front-other (headerFault p gone x) (serialFault (segments p v gone) x) (leb (getD (a .serials .now) g 0) (x .copied))
+    (otherSerial (p .Z) (a .kept .now) (a .serials .now) g (getD (a .serials .now) g 0)) (c .is-serial-of-other .result)
+    (sym (f .ensures ps long es ec) ∙ if1 .left) (serial-list p v gone g (a .kept .now) (a .serials .now) hg hk hs)
     (ap (leb (getD (a .serials .now) g 0)) (sym ec) ∙ lt-leb (getD (a .serials .now) g 0) (k .result .0) (omega (arith, c .before .if2 .left)))
     (c .is-serial-of-other .ensures)
 

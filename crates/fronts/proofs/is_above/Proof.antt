@@ -28,7 +28,8 @@ returns-2 : tie.Need-returns-2
 returns-2 c =
     let a = c .before .before .before .before .before .args in
     ap₂ ltb (c .before .capacity .ensures .0) (c .pointer .ensures)
-    ∙ sym (ap (λ (b : Bool). not b && ltb (capacity (a .p)) (pointerOf (a .p) (a .pointers .now) (a .drive) (a .zone))) (sym (c .before .before .before .has-drive .ensures) ∙ c .before .before .if1 .left))
+    ∙ sym (ap (λ (b : Bool). not b && ltb (capacity (a .p)) (pointerOf (a .p) (a .pointers .now) (a .drive) (a .zone)))
+    (sym (c .before .before .before .has-drive .ensures) ∙ c .before .before .if1 .left))
 
 pub is-above-spec : {M : Type 1} → statement M
 is-above-spec =

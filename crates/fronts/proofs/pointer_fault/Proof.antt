@@ -20,16 +20,25 @@ loop-holds c =
     (omega arith, lowest-start (aboveBy (a .p) (a .pointers .now) (a .gone)) (a .p .Z) (a .p .Z))
 
 any-above-requires : tie.Need-any-above-requires Inv-loop μ-loop
-any-above-requires c κs = (c .before .before .before .before .pre .0, (c .before .before .before .before .pre .1, c .if1 .taken))
+any-above-requires c κs =
+    let pre = c .before .before .before .before .pre in
+    (pre .0, (pre .1, c .if1 .taken))
 
 returns : tie.Need-returns Inv-loop μ-loop
 returns c =
     let a = c .before .before .before .before .before .before .args in
+    let if1 = c .before .before .if1 in
+    let loop = c .before .before .before .before .loop in
+    let pre = c .before .before .before .before .before .before .pre in
     let p = a .p in
     let ps = a .pointers .now in
-    let l = c .before .before .before .before .loop in
-    let f = aboveBy p ps (a .gone) in
-    (omega (arith, c .before .before .if1 .taken), λ im h. (sym (lowest-turn f (p .Z) (l .z) (p .Z) (c .before .before .if1 .taken) (sym (c .before .any-above .ensures) ∙ c .if2 .taken)) ∙ l .inv .1) ∙ ap (firstOr (p .Z)) (sym (pointer-list p im ps h (c .before .before .before .before .before .before .pre .1) (a .gone))))
+    let l = loop in
+    let f = aboveBy p ps (a .gone) in (
+      omega (arith, if1 .taken),
+      λ im h.
+          (sym (lowest-turn f (p .Z) (l .z) (p .Z) (if1 .taken) (sym (c .before .any-above .ensures) ∙ c .if2 .taken)) ∙ l .inv .1)
+          ∙ ap (firstOr (p .Z)) (sym (pointer-list p im ps h (pre .1) (a .gone))),
+    )
 
 add-z : tie.Need-add-z Inv-loop μ-loop
 add-z c = omega arith
@@ -40,20 +49,23 @@ loop-less c = omega arith
 loop-again : tie.Need-loop-again Inv-loop μ-loop
 loop-again c =
     let a = c .before .before .before .before .before .before .args in
+    let if1 = c .before .before .if1 in
+    let loop = c .before .before .before .before .loop in
     let p = a .p in
     let ps = a .pointers .now in
-    let l = c .before .before .before .before .loop in
+    let l = loop in
     let f = aboveBy p ps (a .gone) in
-    (omega (arith, c .before .before .if1 .taken), sym (lowest-pass f (p .Z) (l .z) (p .Z) (c .before .before .if1 .taken) (sym (c .before .any-above .ensures) ∙ c .if2 .left)) ∙ l .inv .1)
+    (omega (arith, if1 .taken), sym (lowest-pass f (p .Z) (l .z) (p .Z) (if1 .taken) (sym (c .before .any-above .ensures) ∙ c .if2 .left)) ∙ l .inv .1)
 
 returns-2 : tie.Need-returns-2 Inv-loop μ-loop
 returns-2 c =
     let a = c .before .before .before .before .args in
+    let pre = c .before .before .before .before .pre in
     let p = a .p in
     let ps = a .pointers .now in
     let l = c .before .before .loop in
     let f = aboveBy p ps (a .gone) in
-    (omega arith, λ im h. (sym (lowest-end f (p .Z) (l .z) (p .Z) (omega (arith, c .if1 .left))) ∙ l .inv .1) ∙ ap (firstOr (p .Z)) (sym (pointer-list p im ps h (c .before .before .before .before .pre .1) (a .gone))))
+    (omega arith, λ im h. (sym (lowest-end f (p .Z) (l .z) (p .Z) (omega (arith, c .if1 .left))) ∙ l .inv .1) ∙ ap (firstOr (p .Z)) (sym (pointer-list p im ps h (pre .1) (a .gone))))
 
 pub pointer-fault-spec : {M : Type 1} → statement M
 pointer-fault-spec =

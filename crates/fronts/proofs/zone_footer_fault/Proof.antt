@@ -35,11 +35,14 @@ returns : tie.Need-returns Inv-loop μ-loop
 returns c =
     let a = c .before .before .before .before .before .before .before .args in
     let h = c .before .before .before .before .before .before .before .pre in
+    let loop-test = c .before .before .loop-test in
+    let loop = c .before .before .before .loop in
+    let footers-stored = c .before .before .before .before .footers-stored in
     let q = zoneAt (viewOf (a .p) (a .image .now) (a .pointers .now)) (a .drive) (a .zone) in
     let f = footerOff (a .p) q in
-    let l = c .before .before .before .loop in
-    sym (any-found f (l .i) (c .before .before .before .before .footers-stored .result) (c .before .before .loop-test .taken) (sym (c .before .footer-differs .ensures (a .pointers .now) (h .1 .0 .pointers-long)) ∙ c .if1 .taken)) ∙ l .inv .1
-    ∙ ap (λ (x : ℕ). any f (below x)) (c .before .before .before .before .footers-stored .ensures .0 (a .image .now) (h .1 .0 .image-long))
+    let l = loop in
+    sym (any-found f (l .i) (footers-stored .result) (loop-test .taken) (sym (c .before .footer-differs .ensures (a .pointers .now) (h .1 .0 .pointers-long)) ∙ c .if1 .taken)) ∙ l .inv .1
+    ∙ ap (λ (x : ℕ). any f (below x)) (footers-stored .ensures .0 (a .image .now) (h .1 .0 .image-long))
     ∙ sym (footer-any (a .p) q (blocks-long (a .p) (mkDisk (a .image .now) (a .pointers .now)) (a .drive) (a .zone) (h .1 .1 .0) (h .1 .1 .1) (h .1 .0)))
 
 add-i : tie.Need-add-i Inv-loop μ-loop
@@ -52,20 +55,28 @@ loop-again : tie.Need-loop-again Inv-loop μ-loop
 loop-again c =
     let a = c .before .before .before .before .before .before .before .args in
     let h = c .before .before .before .before .before .before .before .pre in
+    let loop-test = c .before .before .loop-test in
+    let loop = c .before .before .before .loop in
+    let footers-stored = c .before .before .before .before .footers-stored in
     let q = zoneAt (viewOf (a .p) (a .image .now) (a .pointers .now)) (a .drive) (a .zone) in
     let f = footerOff (a .p) q in
-    let l = c .before .before .before .loop in
-    (omega (arith, c .before .before .loop-test .taken), sym (any-passed f (l .i) (c .before .before .before .before .footers-stored .result) (c .before .before .loop-test .taken) (sym (c .before .footer-differs .ensures (a .pointers .now) (h .1 .0 .pointers-long)) ∙ c .if1 .left)) ∙ l .inv .1)
+    let l = loop in (
+      omega (arith, loop-test .taken),
+      sym (any-passed f (l .i) (footers-stored .result) (loop-test .taken)
+          (sym (c .before .footer-differs .ensures (a .pointers .now) (h .1 .0 .pointers-long)) ∙ c .if1 .left))
+          ∙ l .inv .1,
+    )
 
 returns-2 : tie.Need-returns-2 Inv-loop μ-loop
 returns-2 c =
     let a = c .before .before .before .before .before .args in
     let h = c .before .before .before .before .before .pre in
+    let footers-stored = c .before .before .footers-stored in
     let q = zoneAt (viewOf (a .p) (a .image .now) (a .pointers .now)) (a .drive) (a .zone) in
     let f = footerOff (a .p) q in
     let l = c .before .loop in
-    sym (any-ended f (l .i) (c .before .before .footers-stored .result) (omega (arith, c .loop-test .left))) ∙ l .inv .1
-    ∙ ap (λ (x : ℕ). any f (below x)) (c .before .before .footers-stored .ensures .0 (a .image .now) (h .1 .0 .image-long))
+    sym (any-ended f (l .i) (footers-stored .result) (omega (arith, c .loop-test .left))) ∙ l .inv .1
+    ∙ ap (λ (x : ℕ). any f (below x)) (footers-stored .ensures .0 (a .image .now) (h .1 .0 .image-long))
     ∙ sym (footer-any (a .p) q (blocks-long (a .p) (mkDisk (a .image .now) (a .pointers .now)) (a .drive) (a .zone) (h .1 .1 .0) (h .1 .1 .1) (h .1 .0)))
 
 pub zone-footer-fault-spec : {M : Type 1} → statement M

@@ -17,10 +17,18 @@ has-drive-requires : tie.Need-has-drive-requires
 has-drive-requires c κs = search needs
 
 returns : tie.Need-returns
-returns c = λ ps x. sym (cond-true (isIn (c .before .before .before .before .args .w .gone) (c .before .before .before .before .args .drive)) (recVal (c .before .before .before .before .args .r)) (addRec (recVal (c .before .before .before .before .args .r)) (storedRec (segmentIn (c .before .before .before .before .args .p) (c .before .before .before .before .args .image .now) ps (c .before .before .before .before .args .w)) (c .before .before .before .before .args .w .base + c .before .before .before .before .args .k) (c .before .before .before .before .args .drive))) (sym (c .before .has-drive .ensures) ∙ c .if1 .taken))
+returns c =
+    let args = c .before .before .before .before .args in
+    λ ps x. sym (cond-true (isIn (args .w .gone) (args .drive)) (recVal (args .r))
+    (addRec (recVal (args .r)) (storedRec (segmentIn (args .p) (args .image .now) ps (args .w)) (args .w .base + args .k) (args .drive)))
+    (sym (c .before .has-drive .ensures) ∙ c .if1 .taken))
 
 stored-rec-requires : tie.Need-stored-rec-requires
-stored-rec-requires c κs = (c .before .before .before .before .pre .0, (c .before .before .before .before .pre .1 .0, c .before .before .before .before .pre .1 .1 (c .before .before .before .before .args .drive) (c .before .before .before .before .pre .1 .0 .4) (sym (c .before .has-drive .ensures) ∙ c .if1 .left)))
+stored-rec-requires c κs =
+    let entry = c .before .before .before .before in
+    let args = entry .args in
+    let pre = entry .pre in
+    (pre .0, (pre .1 .0, pre .1 .1 (args .drive) (pre .1 .0 .4) (sym (c .before .has-drive .ensures) ∙ c .if1 .left)))
 
 xor-rec-requires : tie.Need-xor-rec-requires
 xor-rec-requires c κs = search needs
@@ -30,7 +38,9 @@ returns-2 c =
     let a = c .before .before .before .before .before .before .args in
     λ ps x. (λ j. mkRec (c .xor-rec .ensures .0 j) (c .xor-rec .ensures .1 j) (c .xor-rec .ensures .2 j))
     ∙ ap (addRec (recVal (a .r))) (c .before .stored-rec .ensures ps x)
-    ∙ sym (cond-false (isIn (a .w .gone) (a .drive)) (recVal (a .r)) (addRec (recVal (a .r)) (storedRec (segmentIn (a .p) (a .image .now) ps (a .w)) (a .w .base + a .k) (a .drive))) (sym (c .before .before .before .has-drive .ensures) ∙ c .before .before .if1 .left))
+    ∙ sym (cond-false (isIn (a .w .gone) (a .drive)) (recVal (a .r))
+    (addRec (recVal (a .r)) (storedRec (segmentIn (a .p) (a .image .now) ps (a .w)) (a .w .base + a .k) (a .drive)))
+    (sym (c .before .before .before .has-drive .ensures) ∙ c .before .before .if1 .left))
 
 pub add-rec-spec : {M : Type 1} → statement M
 add-rec-spec =

@@ -7,10 +7,14 @@ use Rattle.groups.proofs.bad_rec.Statement.{statement}
 use Rattle.groups.proofs.bad_rec.Tie as tie
 
 returns : tie.Need-returns
-returns c = sym (bad-low (c .before .before .before .args .p) (recVal (c .before .before .before .args .r)) (c .before .if1 .taken))
+returns c =
+    let args = c .before .before .before .args in
+    sym (bad-low (args .p) (recVal (args .r)) (c .before .if1 .taken))
 
 returns-2 : tie.Need-returns-2
-returns-2 c = sym (bad-high (c .before .before .before .before .args .p) (recVal (c .before .before .before .before .args .r)) (omega (arith, c .before .before .if1 .left)))
+returns-2 c =
+    let args = c .before .before .before .before .args in
+    sym (bad-high (args .p) (recVal (args .r)) (omega (arith, c .before .before .if1 .left)))
 
 pub bad-rec-spec : {M : Type 1} → statement M
 bad-rec-spec = tie.close (tie.spec returns returns-2)

@@ -19,16 +19,36 @@ loop-holds : tie.Need-loop-holds Inv-loop μ-loop
 loop-holds c = (omega arith, c .pre .1 .0, (λ i h. absurd (let q : ⊥ = omega (arith, h) in q)), λ j h. refl)
 
 mul-j : tie.Need-mul-j Inv-loop μ-loop
-mul-j c = omega (arith, ranged (c .before .before .before .args .p) (c .before .before .before .pre .0) .drives-high, ranged (c .before .before .before .args .p) (c .before .before .before .pre .0) .group-high, c .before .before .before .pre .1 .1, c .if1 .taken, c .before .before .loop .inv .1)
+mul-j c =
+    let loop = c .before .before .loop in
+    let entry = c .before .before .before in
+    let args = entry .args in
+    let pre = entry .pre in
+    omega (arith, ranged (args .p) (pre .0) .drives-high, ranged (args .p) (pre .0) .group-high, pre .1 .1, c .if1 .taken, loop .inv .1)
 
 add-j : tie.Need-add-j Inv-loop μ-loop
-add-j c = omega (arith, ranged (c .before .before .before .args .p) (c .before .before .before .pre .0) .drives-high, ranged (c .before .before .before .args .p) (c .before .before .before .pre .0) .group-high, c .before .before .before .pre .1 .1, c .if1 .taken, c .before .before .loop .inv .1)
+add-j c =
+    let loop = c .before .before .loop in
+    let entry = c .before .before .before in
+    let args = entry .args in
+    let pre = entry .pre in
+    omega (arith, ranged (args .p) (pre .0) .drives-high, ranged (args .p) (pre .0) .group-high, pre .1 .1, c .if1 .taken, loop .inv .1)
 
 mul-at : tie.Need-mul-at Inv-loop μ-loop
-mul-at c = omega (arith, ranged (c .before .before .before .args .p) (c .before .before .before .pre .0) .drives-high, ranged (c .before .before .before .args .p) (c .before .before .before .pre .0) .group-high, c .before .before .before .pre .1 .1, c .if1 .taken, c .before .before .loop .inv .1)
+mul-at c =
+    let loop = c .before .before .loop in
+    let entry = c .before .before .before in
+    let args = entry .args in
+    let pre = entry .pre in
+    omega (arith, ranged (args .p) (pre .0) .drives-high, ranged (args .p) (pre .0) .group-high, pre .1 .1, c .if1 .taken, loop .inv .1)
 
 slice-write-at : tie.Need-slice-write-at Inv-loop μ-loop
-slice-write-at c = omega (arith, ranged (c .before .before .before .args .p) (c .before .before .before .pre .0) .drives-high, ranged (c .before .before .before .args .p) (c .before .before .before .pre .0) .group-high, c .before .before .before .pre .1 .1, c .if1 .taken, c .before .before .loop .inv .1)
+slice-write-at c =
+    let loop = c .before .before .loop in
+    let entry = c .before .before .before in
+    let args = entry .args in
+    let pre = entry .pre in
+    omega (arith, ranged (args .p) (pre .0) .drives-high, ranged (args .p) (pre .0) .group-high, pre .1 .1, c .if1 .taken, loop .inv .1)
 
 add-k : tie.Need-add-k Inv-loop μ-loop
 add-k c = omega arith
@@ -37,18 +57,26 @@ loop-less : tie.Need-loop-less Inv-loop μ-loop
 loop-less c = omega arith
 
 loop-again : tie.Need-loop-again Inv-loop μ-loop
-loop-again c = (
-  omega (arith, c .if1 .taken),
-  length-set (c .before .before .loop .at) (256 * c .before .before .before .args .drive + c .before .before .loop .k) 0 ∙ c .before .before .loop .inv .1,
-  clear-next (c .before .before .before .args .drive) (c .before .before .loop .k) (c .before .before .loop .at) (omega (arith, ranged (c .before .before .before .args .p) (c .before .before .before .pre .0) .drives-high, ranged (c .before .before .before .args .p) (c .before .before .before .pre .0) .group-high, c .before .before .before .pre .1 .1, c .if1 .taken, c .before .before .loop .inv .1)) (c .before .before .loop .inv .2),
-  below-set (c .before .before .before .args .drive) (c .before .before .before .args .at .now) (c .before .before .loop .at) (256 * c .before .before .before .args .drive + c .before .before .loop .k) 0 (c .before .before .loop .inv .3) (omega arith),
-)
+loop-again c =
+    let loop = c .before .before .loop in
+    let entry = c .before .before .before in
+    let args = entry .args in
+    let pre = entry .pre in (
+      omega (arith, c .if1 .taken),
+      length-set (loop .at) (256 * args .drive + loop .k) 0 ∙ loop .inv .1,
+      clear-next (args .drive) (loop .k) (loop .at)
+          (omega (arith, ranged (args .p) (pre .0) .drives-high, ranged (args .p) (pre .0) .group-high, pre .1 .1, c .if1 .taken, loop .inv .1))
+          (loop .inv .2),
+      below-set (args .drive) (args .at .now) (loop .at) (256 * args .drive + loop .k) 0 (loop .inv .3) (omega arith),
+    )
 
 same-length : tie.Need-same-length Inv-loop μ-loop
 same-length c = c .before .before .loop .inv .1 ∙ sym (c .before .before .before .pre .1 .0)
 
 returns : tie.Need-returns Inv-loop μ-loop
-returns c = ((λ k h. c .before .before .loop .inv .2 k (omega (arith, h, c .if1 .left))), c .before .before .loop .inv .3)
+returns c =
+    let loop = c .before .before .loop in
+    ((λ k h. loop .inv .2 k (omega (arith, h, c .if1 .left))), loop .inv .3)
 
 pub clear-row-spec : {M : Type 1} → statement M
 clear-row-spec =

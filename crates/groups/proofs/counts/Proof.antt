@@ -16,7 +16,12 @@ use Rattle.groups.proofs.counts.Statement.{statement}
 use Rattle.groups.proofs.counts.Tie as tie
 
 abbrev Inv-loop : tie.InvT-loop
-Inv-loop p gone at k d₀ d = (d ≤ p .N) × ((g : Segment) (base : ℕ) → Indexed p g base at → k < groupLen p base → all (λ e. isIn gone e || hasChunk g (base + k) e) (upFrom d (p .N - d)) ≡ all (λ e. isIn gone e || hasChunk g (base + k) e) (below (p .N)))
+Inv-loop p gone at k d₀ d =
+    (d ≤ p .N)
+    × ((g : Segment) (base : ℕ)
+    → Indexed p g base at
+    → k < groupLen p base
+    → all (λ e. isIn gone e || hasChunk g (base + k) e) (upFrom d (p .N - d)) ≡ all (λ e. isIn gone e || hasChunk g (base + k) e) (below (p .N)))
 
 abbrev μ-loop : tie.MeasureT-loop
 μ-loop p gone at k d₀ d = p .N - d
@@ -29,15 +34,26 @@ loop-holds c =
     (omega arith, λ g base x hk. all-start (f g base) (p .N))
 
 is-there-requires : tie.Need-is-there-requires Inv-loop μ-loop
-is-there-requires c κs = (c .before .before .before .before .pre .1 .0, omega (arith, c .if1 .taken, ranged (c .before .before .before .before .args .p) (c .before .before .before .before .pre .0) .drives-high), c .before .before .before .before .pre .1 .1)
+is-there-requires c κs =
+    let entry = c .before .before .before .before in
+    let args = entry .args in
+    let pre = entry .pre in
+    (pre .1 .0, omega (arith, c .if1 .taken, ranged (args .p) (pre .0) .drives-high), pre .1 .1)
 
 returns : tie.Need-returns Inv-loop μ-loop
 unfolding counts present drivesOf
 returns c =
     let a = c .before .before .before .before .before .before .args in
+    let if1 = c .before .before .if1 in
+    let loop = c .before .before .before .before .loop in
     let p = a .p in
     let f : Segment → ℕ → ℕ → Bool = λ g base e. isIn (a .gone) e || hasChunk g (base + a .k) e in
-    λ g base x hk. (sym (all-broken (f g base) (c .before .before .before .before .loop .d) (p .N) (c .before .before .if1 .taken) (sym (c .before .is-there .ensures ∙ ap (λ (b : Bool). isIn (a .gone) (c .before .before .before .before .loop .d) || b) (chunk-is p g base (a .at .now) x (c .before .before .before .before .loop .d) (a .k) (c .before .before .if1 .taken) hk)) ∙ not-true (c .before .is-there .result) (c .if2 .taken))) ∙ c .before .before .before .before .loop .inv .1 g base x hk) ∙ sym (all-keep (hasChunk g (base + a .k)) (isIn (a .gone)) (below (p .N)))
+    λ g base x hk. (sym (all-broken (f g base) (loop .d) (p .N) (if1 .taken)
+    (sym (c .before .is-there .ensures
+    ∙ ap (λ (b : Bool). isIn (a .gone) (loop .d) || b) (chunk-is p g base (a .at .now) x (loop .d) (a .k) (if1 .taken) hk))
+    ∙ not-true (c .before .is-there .result) (c .if2 .taken)))
+    ∙ loop .inv .1 g base x hk)
+    ∙ sym (all-keep (hasChunk g (base + a .k)) (isIn (a .gone)) (below (p .N)))
 
 add-d : tie.Need-add-d Inv-loop μ-loop
 add-d c = omega arith
@@ -48,17 +64,26 @@ loop-less c = omega arith
 loop-again : tie.Need-loop-again Inv-loop μ-loop
 loop-again c =
     let a = c .before .before .before .before .before .before .args in
+    let if1 = c .before .before .if1 in
+    let loop = c .before .before .before .before .loop in
     let p = a .p in
-    let f : Segment → ℕ → ℕ → Bool = λ g base e. isIn (a .gone) e || hasChunk g (base + a .k) e in
-    (omega (arith, c .before .before .if1 .taken), λ g base x hk. sym (all-passed (f g base) (c .before .before .before .before .loop .d) (p .N) (c .before .before .if1 .taken) (sym (c .before .is-there .ensures ∙ ap (λ (b : Bool). isIn (a .gone) (c .before .before .before .before .loop .d) || b) (chunk-is p g base (a .at .now) x (c .before .before .before .before .loop .d) (a .k) (c .before .before .if1 .taken) hk)) ∙ not-false (c .before .is-there .result) (c .if2 .left))) ∙ c .before .before .before .before .loop .inv .1 g base x hk)
+    let f : Segment → ℕ → ℕ → Bool = λ g base e. isIn (a .gone) e || hasChunk g (base + a .k) e in (
+      omega (arith, if1 .taken),
+      λ g base x hk. sym (all-passed (f g base) (loop .d) (p .N) (if1 .taken)
+          (sym (c .before .is-there .ensures
+          ∙ ap (λ (b : Bool). isIn (a .gone) (loop .d) || b) (chunk-is p g base (a .at .now) x (loop .d) (a .k) (if1 .taken) hk))
+          ∙ not-false (c .before .is-there .result) (c .if2 .left)))
+          ∙ loop .inv .1 g base x hk,
+    )
 
 returns-2 : tie.Need-returns-2 Inv-loop μ-loop
 unfolding counts present drivesOf
 returns-2 c =
     let a = c .before .before .before .before .args in
+    let loop = c .before .before .loop in
     let p = a .p in
     let f : Segment → ℕ → ℕ → Bool = λ g base e. isIn (a .gone) e || hasChunk g (base + a .k) e in
-    λ g base x hk. (sym (all-ended (f g base) (c .before .before .loop .d) (p .N) (omega (arith, c .if1 .left))) ∙ c .before .before .loop .inv .1 g base x hk) ∙ sym (all-keep (hasChunk g (base + a .k)) (isIn (a .gone)) (below (p .N)))
+    λ g base x hk. (sym (all-ended (f g base) (loop .d) (p .N) (omega (arith, c .if1 .left))) ∙ loop .inv .1 g base x hk) ∙ sym (all-keep (hasChunk g (base + a .k)) (isIn (a .gone)) (below (p .N)))
 
 pub counts-spec : {M : Type 1} → statement M
 counts-spec =

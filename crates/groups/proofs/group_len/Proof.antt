@@ -15,11 +15,23 @@ sub-result c = search needs
 
 returns : tie.Need-returns
 unfolding groupLen
-returns c = (omega (arith, c .before .if1 .taken), omega (arith, c .before .before .before .before .pre .1), omega (arith, c .before .if1 .taken, ranged (c .before .before .before .before .args .p) (c .before .before .before .before .pre .0) .group-high), omega (arith, c .before .before .before .before .pre .1))
+returns c =
+    let entry = c .before .before .before .before in
+    let args = entry .args in
+    let pre = entry .pre in
+    (omega (arith, c .before .if1 .taken), omega (arith, pre .1), omega (arith, c .before .if1 .taken, ranged (args .p) (pre .0) .group-high), omega (arith, pre .1))
 
 returns-2 : tie.Need-returns-2
 unfolding groupLen
-returns-2 c = (omega (arith, c .if1 .left), omega (arith, ranged (c .before .before .before .args .p) (c .before .before .before .pre .0) .group-low), omega (arith, ranged (c .before .before .before .args .p) (c .before .before .before .pre .0) .group-high), omega (arith, c .if1 .left, c .before .before .before .pre .1, ranged (c .before .before .before .args .p) (c .before .before .before .pre .0) .group-low))
+returns-2 c =
+    let entry = c .before .before .before in
+    let args = entry .args in
+    let pre = entry .pre in (
+      omega (arith, c .if1 .left),
+      omega (arith, ranged (args .p) (pre .0) .group-low),
+      omega (arith, ranged (args .p) (pre .0) .group-high),
+      omega (arith, c .if1 .left, pre .1, ranged (args .p) (pre .0) .group-low),
+    )
 
 pub group-len-spec : {M : Type 1} → statement M
 group-len-spec = tie.close (tie.spec sub-if1 sub-result returns returns-2)

@@ -20,7 +20,12 @@ use Rattle.groups.proofs.index_group.Statement.{statement}
 use Rattle.groups.proofs.index_group.Tie as tie
 
 abbrev Inv-loop : tie.InvT-loop
-Inv-loop p image pointers w at₀ d₀ at d = (d ≤ p .N) × (length at ≡ 2048) × ((e : ℕ) → e < d → Row p (w .base) (groupRecs p (w .base) (recsOn (segmentIn p image pointers w) e)) e at) × (any (driveBad p (w .gone) (segmentIn p image pointers w) (w .base)) (upFrom d (p .N - d)) ≡ any (driveBad p (w .gone) (segmentIn p image pointers w) (w .base)) (below (p .N)))
+Inv-loop p image pointers w at₀ d₀ at d =
+    (d ≤ p .N)
+    × (length at ≡ 2048)
+    × ((e : ℕ) → e < d → Row p (w .base) (groupRecs p (w .base) (recsOn (segmentIn p image pointers w) e)) e at)
+    × (any (driveBad p (w .gone) (segmentIn p image pointers w) (w .base)) (upFrom d (p .N - d))
+    ≡ any (driveBad p (w .gone) (segmentIn p image pointers w) (w .base)) (below (p .N)))
 
 abbrev μ-loop : tie.MeasureT-loop
 μ-loop p image pointers w at₀ d₀ at d = p .N - d
@@ -39,23 +44,39 @@ loop-holds c =
     (omega arith, q .0, (λ e h. absurd (let z : ⊥ = omega (arith, h) in z)), any-start F (p .N))
 
 index-any-requires : tie.Need-index-any-requires Inv-loop μ-loop
-index-any-requires c κs = (c .before .before .before .before .before .before .before .pre .0, (c .before .before .before .before .before .before .before .pre .1 .0, ((c .before .before .before .loop .inv .1, c .before .if1 .taken, c .before .before .before .before .before .before .before .pre .1 .1 .0 .1, c .before .before .before .before .before .before .before .pre .1 .1 .0 .2, c .before .before .before .before .before .before .before .pre .1 .1 .0 .3), c .before .before .before .before .before .before .before .pre .1 .1 .1)))
+index-any-requires c κs =
+    let loop = c .before .before .before .loop in
+    let pre = c .before .before .before .before .before .before .before .pre in
+    (pre .0, (pre .1 .0, ((loop .inv .1, c .before .if1 .taken, pre .1 .1 .0 .1, pre .1 .1 .0 .2, pre .1 .1 .0 .3), pre .1 .1 .1)))
 
 same-length : tie.Need-same-length Inv-loop μ-loop
-same-length c = c .before .before .before .index-any .kept .1 .1 .1 .1 .1 .0 ∙ c .before .before .before .before .before .before .before .loop .inv .1 ∙ sym (c .before .before .before .before .before .before .before .before .before .before .before .pre .1 .1 .0 .0)
+same-length c =
+    let loop = c .before .before .before .before .before .before .before .loop in
+    let pre = c .before .before .before .before .before .before .before .before .before .before .before .pre in
+    c .before .before .before .index-any .kept .1 .1 .1 .1 .1 .0 ∙ loop .inv .1 ∙ sym (pre .1 .1 .0 .0)
 
 returns : tie.Need-returns Inv-loop μ-loop
 returns c =
     let a = c .before .before .before .before .before .before .before .before .before .before .before .args in
+    let index-any = c .before .before .before .index-any in
+    let if1 = c .before .before .before .before .before .if1 in
+    let loop = c .before .before .before .before .before .before .before .loop in
+    let pre = c .before .before .before .before .before .before .before .before .before .before .before .pre in
     let p = a .p in
     let w = a .w in
     let im = a .image .now in
     let ps = a .pointers .now in
     let v = viewOf p im ps in
-    let q = c .before .before .before .before .before .before .before .before .before .before .before .pre .1 .1 .0 in
+    let q = pre .1 .1 .0 in
     let g = segmentIn p im ps w in
     let F = driveBad p (w .gone) g (w .base) in
-    let b : groupFault p (w .gone) g (w .base) ≡ true = fault-list p (w .gone) g (w .base) ∙ sym (c .before .before .before .before .before .before .before .loop .inv .3) ∙ any-found F (c .before .before .before .before .before .before .before .loop .d) (p .N) (c .before .before .before .before .before .if1 .taken) (bad-or (isIn (w .gone) (c .before .before .before .before .before .before .before .loop .d)) (recsBad p (c .before .before .before .before .before .before .before .loop .d) (w .base) (groupRecs p (w .base) (recsOn g (c .before .before .before .before .before .before .before .loop .d)))) ∙ ap not (sym (c .before .before .before .index-any .ensures .0)) ∙ c .if2 .taken) in
+    let b : groupFault p (w .gone) g (w .base) ≡ true =
+    fault-list p (w .gone) g (w .base)
+    ∙ sym (loop .inv .3)
+    ∙ any-found F (loop .d) (p .N) (if1 .taken)
+    (bad-or (isIn (w .gone) (loop .d)) (recsBad p (loop .d) (w .base) (groupRecs p (w .base) (recsOn g (loop .d))))
+    ∙ ap not (sym (index-any .ensures .0))
+    ∙ c .if2 .taken) in
     (sym (ap not b), λ h. absurd (not-both (groupFault p (w .gone) g (w .base)) b (no-group-fault p (w .gone) g (w .base) h)))
 
 add-d : tie.Need-add-d Inv-loop μ-loop
@@ -67,37 +88,54 @@ loop-less c = omega arith
 loop-again : tie.Need-loop-again Inv-loop μ-loop
 loop-again c =
     let a = c .before .before .before .before .before .before .before .before .before .before .before .args in
+    let index-any = c .before .before .before .index-any in
+    let if1 = c .before .before .before .before .before .if1 in
+    let loop = c .before .before .before .before .before .before .before .loop in
+    let pre = c .before .before .before .before .before .before .before .before .before .before .before .pre in
     let p = a .p in
     let w = a .w in
     let im = a .image .now in
     let ps = a .pointers .now in
     let v = viewOf p im ps in
-    let q = c .before .before .before .before .before .before .before .before .before .before .before .pre .1 .1 .0 in
+    let q = pre .1 .1 .0 in
     let g = segmentIn p im ps w in
     let F = driveBad p (w .gone) g (w .base) in
     let f = group-len-le p (w .base) in (
-      omega (arith, c .before .before .before .before .before .if1 .taken),
-      c .before .before .before .index-any .kept .1 .1 .1 .1 .1 .0 ∙ c .before .before .before .before .before .before .before .loop .inv .1,
-      rows-next p (w .base) (c .before .before .before .before .before .before .before .loop .d) (λ e. groupRecs p (w .base) (recsOn g e)) (c .before .before .before .before .before .before .before .loop .at) (c .before .before .before .index-any .last .1 .1 .1 .1 .1 .0) (omega (arith, f, ranged (c .before .before .before .before .before .before .before .before .before .before .before .args .p) (c .before .before .before .before .before .before .before .before .before .before .before .pre .0) .group-high)) (c .before .before .before .before .before .before .before .loop .inv .2) (c .before .before .before .index-any .ensures .1 .0) (c .before .before .before .index-any .ensures .1 .1 (not-false (c .before .before .before .index-any .result) (c .if2 .left))),
-      sym (any-passed F (c .before .before .before .before .before .before .before .loop .d) (p .N) (c .before .before .before .before .before .if1 .taken) (bad-or (isIn (w .gone) (c .before .before .before .before .before .before .before .loop .d)) (recsBad p (c .before .before .before .before .before .before .before .loop .d) (w .base) (groupRecs p (w .base) (recsOn g (c .before .before .before .before .before .before .before .loop .d)))) ∙ ap not (sym (c .before .before .before .index-any .ensures .0)) ∙ c .if2 .left)) ∙ c .before .before .before .before .before .before .before .loop .inv .3,
+      omega (arith, if1 .taken),
+      index-any .kept .1 .1 .1 .1 .1 .0 ∙ loop .inv .1,
+      rows-next p (w .base) (loop .d) (λ e. groupRecs p (w .base) (recsOn g e)) (loop .at) (index-any .last .1 .1 .1 .1 .1 .0)
+          (omega (arith, f, ranged (a .p) (pre .0) .group-high)) (loop .inv .2) (index-any .ensures .1 .0)
+          (index-any .ensures .1 .1 (not-false (index-any .result) (c .if2 .left))),
+      sym (any-passed F (loop .d) (p .N) (if1 .taken)
+          (bad-or (isIn (w .gone) (loop .d)) (recsBad p (loop .d) (w .base) (groupRecs p (w .base) (recsOn g (loop .d))))
+          ∙ ap not (sym (index-any .ensures .0))
+          ∙ c .if2 .left))
+          ∙ loop .inv .3,
     )
 
 same-length-2 : tie.Need-same-length-2 Inv-loop μ-loop
-same-length-2 c = c .before .before .loop .inv .1 ∙ sym (c .before .before .before .before .before .before .pre .1 .1 .0 .0)
+same-length-2 c =
+    let pre = c .before .before .before .before .before .before .pre in
+    c .before .before .loop .inv .1 ∙ sym (pre .1 .1 .0 .0)
 
 returns-2 : tie.Need-returns-2 Inv-loop μ-loop
 returns-2 c =
     let a = c .before .before .before .before .before .before .args in
+    let loop = c .before .before .loop in
+    let pre = c .before .before .before .before .before .before .pre in
     let p = a .p in
     let w = a .w in
     let im = a .image .now in
     let ps = a .pointers .now in
     let v = viewOf p im ps in
-    let q = c .before .before .before .before .before .before .pre .1 .1 .0 in
+    let q = pre .1 .1 .0 in
     let g = segmentIn p im ps w in
     let F = driveBad p (w .gone) g (w .base) in
-    let b : groupFault p (w .gone) g (w .base) ≡ false = fault-list p (w .gone) g (w .base) ∙ sym (c .before .before .loop .inv .3) ∙ any-ended F (c .before .before .loop .d) (p .N) (omega (arith, c .if1 .left)) in
-    (sym (ap not b), λ h. indexed-of p v (w .gone) (w .seg) (w .base) (c .before .before .loop .at) (omega (arith, ranged (c .before .before .before .before .before .before .args .p) (c .before .before .before .before .before .before .pre .0) .group-low)) (q .2) (q .3) h (λ e he. c .before .before .loop .inv .2 e (omega (arith, he, c .if1 .left))))
+    let b : groupFault p (w .gone) g (w .base) ≡ false = fault-list p (w .gone) g (w .base) ∙ sym (loop .inv .3) ∙ any-ended F (loop .d) (p .N) (omega (arith, c .if1 .left)) in (
+      sym (ap not b),
+      λ h. indexed-of p v (w .gone) (w .seg) (w .base) (loop .at) (omega (arith, ranged (a .p) (pre .0) .group-low)) (q .2) (q .3) h
+          (λ e he. loop .inv .2 e (omega (arith, he, c .if1 .left))),
+    )
 
 pub index-group-spec : {M : Type 1} → statement M
 index-group-spec =

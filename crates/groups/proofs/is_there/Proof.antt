@@ -14,13 +14,18 @@ has-drive-requires : tie.Need-has-drive-requires
 has-drive-requires c κs = search needs
 
 returns : tie.Need-returns
-returns c = sym (ap (λ (b : Bool). b || not (eqb (getD (c .before .before .before .args .at .now) (256 * c .before .before .before .args .drive + c .before .before .before .args .k) 0) 0)) (sym (c .before .has-drive .ensures) ∙ c .if1 .taken))
+returns c =
+    let args = c .before .before .before .args in
+    sym (ap (λ (b : Bool). b || not (eqb (getD (args .at .now) (256 * args .drive + args .k) 0) 0)) (sym (c .before .has-drive .ensures) ∙ c .if1 .taken))
 
 has-chunk-requires : tie.Need-has-chunk-requires
 has-chunk-requires c κs = search needs
 
 returns-2 : tie.Need-returns-2
-returns-2 c = c .has-chunk .ensures .0 ∙ sym (ap (λ (b : Bool). b || not (eqb (getD (c .before .before .before .before .args .at .now) (256 * c .before .before .before .before .args .drive + c .before .before .before .before .args .k) 0) 0)) (sym (c .before .before .has-drive .ensures) ∙ c .before .if1 .left))
+returns-2 c =
+    let has-drive = c .before .before .has-drive in
+    let args = c .before .before .before .before .args in
+    c .has-chunk .ensures .0 ∙ sym (ap (λ (b : Bool). b || not (eqb (getD (args .at .now) (256 * args .drive + args .k) 0) 0)) (sym (has-drive .ensures) ∙ c .before .if1 .left))
 
 pub is-there-spec : {M : Type 1} → statement M
 is-there-spec = tie.close (tie.spec has-drive-requires returns has-chunk-requires returns-2)

@@ -17,14 +17,25 @@ add-result c = search needs
 
 returns : tie.Need-returns
 unfolding offsetOf
-returns c = λ p g x hd hk. sym (cond-true (isIn (c .before .before .before .before .args .w .gone) (c .before .before .before .before .args .drive)) (c .before .before .before .before .args .w .base + c .before .before .before .before .args .k) (offsetOn g (c .before .before .before .before .args .drive) (c .before .before .before .before .args .w .base + c .before .before .before .before .args .k)) (sym (c .before .before .has-drive .ensures) ∙ c .before .if1 .taken))
+returns c =
+    let has-drive = c .before .before .has-drive in
+    let args = c .before .before .before .before .args in
+    λ p g x hd hk. sym (cond-true (isIn (args .w .gone) (args .drive)) (args .w .base + args .k) (offsetOn g (args .drive) (args .w .base + args .k))
+    (sym (has-drive .ensures) ∙ c .before .if1 .taken))
 
 offset-on-requires : tie.Need-offset-on-requires
-offset-on-requires c κs = (c .before .before .before .pre .0 .0, c .before .before .before .pre .0 .1, c .before .before .before .pre .0 .2, c .before .before .before .pre .0 .3, c .before .before .before .pre .1 (sym (c .before .has-drive .ensures) ∙ c .if1 .left))
+offset-on-requires c κs =
+    let pre = c .before .before .before .pre in
+    (pre .0 .0, pre .0 .1, pre .0 .2, pre .0 .3, pre .1 (sym (c .before .has-drive .ensures) ∙ c .if1 .left))
 
 returns-2 : tie.Need-returns-2
 unfolding offsetOf
-returns-2 c = λ p g x hd hk. c .offset-on .ensures .1 p g x hd hk ∙ sym (cond-false (isIn (c .before .before .before .before .args .w .gone) (c .before .before .before .before .args .drive)) (c .before .before .before .before .args .w .base + c .before .before .before .before .args .k) (offsetOn g (c .before .before .before .before .args .drive) (c .before .before .before .before .args .w .base + c .before .before .before .before .args .k)) (sym (c .before .before .has-drive .ensures) ∙ c .before .if1 .left))
+returns-2 c =
+    let has-drive = c .before .before .has-drive in
+    let args = c .before .before .before .before .args in
+    λ p g x hd hk. c .offset-on .ensures .1 p g x hd hk
+    ∙ sym (cond-false (isIn (args .w .gone) (args .drive)) (args .w .base + args .k) (offsetOn g (args .drive) (args .w .base + args .k))
+    (sym (has-drive .ensures) ∙ c .before .if1 .left))
 
 pub offset-of-spec : {M : Type 1} → statement M
 offset-of-spec =

@@ -24,13 +24,18 @@ cast-result : tie.Need-cast-result
 cast-result c = omega (arith, c .shared-slice-known .given (256 * c .before .args .drive + c .before .args .k))
 
 add-result : tie.Need-add-result
-add-result c = omega (arith, c .before .before .pre .3, c .before .shared-slice-known .given (256 * c .before .before .args .drive + c .before .before .args .k))
+add-result c =
+    let args = c .before .before .args in
+    omega (arith, c .before .before .pre .3, c .before .shared-slice-known .given (256 * args .drive + args .k))
 
 sub-result : tie.Need-sub-result
 sub-result c = search needs
 
 returns : tie.Need-returns
-returns c = (refl, λ p g x hd hk. entered-chunk p g (c .before .before .args .w .base) (c .before .before .args .at .now) x (c .before .before .args .drive) (c .before .before .args .k) hd hk (c .before .before .pre .4) .1)
+returns c =
+    let args = c .before .before .args in
+    let pre = c .before .before .pre in
+    (refl, λ p g x hd hk. entered-chunk p g (args .w .base) (args .at .now) x (args .drive) (args .k) hd hk (pre .4) .1)
 
 pub offset-on-spec : {M : Type 1} → statement M
 offset-on-spec =

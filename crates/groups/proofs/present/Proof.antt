@@ -34,16 +34,41 @@ loop-less c = omega arith
 
 loop-again : tie.Need-loop-again Inv-loop μ-loop
 loop-again c =
-    let b : (c .before .before .before .before .loop .d + 1 ≤ c .before .before .before .before .before .args .p .N) × (c .if2 .n ≤ c .before .before .before .before .loop .d + 1) × (c .if2 .n + length (keep (λ x. not (isIn (c .before .before .before .before .before .args .gone) x)) (upFrom (c .before .before .before .before .loop .d + 1) (c .before .before .before .before .before .args .p .N - (c .before .before .before .before .loop .d + 1)))) ≡ length (keep (λ x. not (isIn (c .before .before .before .before .before .args .gone) x)) (below (c .before .before .before .before .before .args .p .N)))) =
+    let if1 = c .before .before .if1 in
+    let loop = c .before .before .before .before .loop in
+    let args = c .before .before .before .before .before .args in
+    let b : (loop .d + 1 ≤ args .p .N)
+    × (c .if2 .n ≤ loop .d + 1)
+    × (c .if2 .n + length (keep (λ x. not (isIn (args .gone) x)) (upFrom (loop .d + 1) (args .p .N - (loop .d + 1))))
+    ≡ length (keep (λ x. not (isIn (args .gone) x)) (below (args .p .N)))) =
     ⊎-elim
-    (λ w. (omega (arith, c .before .before .if1 .taken), omega (arith, w .1), ap (λ (y : ℕ). y + length (keep (λ x. not (isIn (c .before .before .before .before .before .args .gone) x)) (upFrom (c .before .before .before .before .loop .d + 1) (c .before .before .before .before .before .args .p .N - (c .before .before .before .before .loop .d + 1))))) (w .1) ∙ sym (kept-one (λ x. not (isIn (c .before .before .before .before .before .args .gone) x)) (c .before .before .before .before .loop .d) (c .before .before .before .before .before .args .p .N) (c .before .before .before .before .loop .n) (c .before .before .if1 .taken) (ap not (sym (c .before .has-drive .ensures)) ∙ w .0 .taken)) ∙ c .before .before .before .before .loop .inv .2))
-    (λ w. (omega (arith, c .before .before .if1 .taken), omega (arith, w .1), ap (λ (y : ℕ). y + length (keep (λ x. not (isIn (c .before .before .before .before .before .args .gone) x)) (upFrom (c .before .before .before .before .loop .d + 1) (c .before .before .before .before .before .args .p .N - (c .before .before .before .before .loop .d + 1))))) (w .1) ∙ sym (kept-none (λ x. not (isIn (c .before .before .before .before .before .args .gone) x)) (c .before .before .before .before .loop .d) (c .before .before .before .before .before .args .p .N) (c .before .before .before .before .loop .n) (c .before .before .if1 .taken) (ap not (sym (c .before .has-drive .ensures)) ∙ w .0 .left)) ∙ c .before .before .before .before .loop .inv .2))
+    (λ w. (
+      omega (arith, if1 .taken),
+      omega (arith, w .1),
+      ap
+          (λ (y : ℕ). y + length (keep (λ x. not (isIn (args .gone) x)) (upFrom (loop .d + 1) (args .p .N - (loop .d + 1))))) (w .1)
+          ∙ sym (kept-one (λ x. not (isIn (args .gone) x)) (loop .d) (args .p .N) (loop .n) (if1 .taken)
+          (ap not (sym (c .before .has-drive .ensures)) ∙ w .0 .taken))
+          ∙ loop .inv .2,
+    ))
+    (λ w. (
+      omega (arith, if1 .taken),
+      omega (arith, w .1),
+      ap
+          (λ (y : ℕ). y + length (keep (λ x. not (isIn (args .gone) x)) (upFrom (loop .d + 1) (args .p .N - (loop .d + 1))))) (w .1)
+          ∙ sym (kept-none (λ x. not (isIn (args .gone) x)) (loop .d) (args .p .N) (loop .n) (if1 .taken)
+          (ap not (sym (c .before .has-drive .ensures)) ∙ w .0 .left))
+          ∙ loop .inv .2,
+    ))
     (c .if2 .came) in
     b
 
 returns : tie.Need-returns Inv-loop μ-loop
 unfolding present drivesOf
-returns c = (sym (kept-ended (λ x. not (isIn (c .before .before .before .args .gone) x)) (c .before .before .loop .d) (c .before .before .before .args .p .N) (c .before .before .loop .n) (omega (arith, c .if1 .left))) ∙ c .before .before .loop .inv .2, omega (arith, c .before .before .loop .inv .1, c .before .before .loop .inv .0))
+returns c =
+    let loop = c .before .before .loop in
+    let args = c .before .before .before .args in
+    (sym (kept-ended (λ x. not (isIn (args .gone) x)) (loop .d) (args .p .N) (loop .n) (omega (arith, c .if1 .left))) ∙ loop .inv .2, omega (arith, loop .inv .1, loop .inv .0))
 
 pub present-spec : {M : Type 1} → statement M
 present-spec =

@@ -17,7 +17,9 @@ has-drive-requires : tie.Need-has-drive-requires
 has-drive-requires c κs = search needs
 
 lost-rec-requires : tie.Need-lost-rec-requires
-lost-rec-requires c κs = (c .before .before .before .before .pre .0, ((c .before .before .before .before .pre .1 .0 .0, c .before .before .before .before .pre .1 .0 .1, c .before .before .before .before .pre .1 .0 .2, c .before .before .before .before .pre .1 .0 .3, c .before .before .before .before .pre .1 .0 .5), c .before .before .before .before .pre .1 .1))
+lost-rec-requires c κs =
+    let pre = c .before .before .before .before .pre in
+    (pre .0, ((pre .1 .0 .0, pre .1 .0 .1, pre .1 .0 .2, pre .1 .0 .3, pre .1 .0 .5), pre .1 .1))
 
 returns : tie.Need-returns
 unfolding recOf
@@ -26,10 +28,17 @@ returns c =
     let p = a .p in
     let w = a .w in
     let im = a .image .now in
-    λ ps x. c .lost-rec .ensures ps x ∙ sym (cond-true (isIn (w .gone) (a .drive)) (parityRec (w .base + a .k) (map (storedRec (segmentIn p im ps w) (w .base + a .k)) (present p (w .gone)))) (storedRec (segmentIn p im ps w) (w .base + a .k) (a .drive)) (sym (c .before .before .has-drive .ensures) ∙ c .before .if1 .taken))
+    λ ps x. c .lost-rec .ensures ps x
+    ∙ sym (cond-true (isIn (w .gone) (a .drive))
+    (parityRec (w .base + a .k) (map (storedRec (segmentIn p im ps w) (w .base + a .k)) (present p (w .gone))))
+    (storedRec (segmentIn p im ps w) (w .base + a .k) (a .drive)) (sym (c .before .before .has-drive .ensures) ∙ c .before .if1 .taken))
 
 stored-rec-requires : tie.Need-stored-rec-requires
-stored-rec-requires c κs = (c .before .before .before .before .pre .0, (c .before .before .before .before .pre .1 .0, c .before .before .before .before .pre .1 .1 (c .before .before .before .before .args .drive) (c .before .before .before .before .pre .1 .0 .4) (sym (c .before .has-drive .ensures) ∙ c .if1 .left)))
+stored-rec-requires c κs =
+    let entry = c .before .before .before .before in
+    let args = entry .args in
+    let pre = entry .pre in
+    (pre .0, (pre .1 .0, pre .1 .1 (args .drive) (pre .1 .0 .4) (sym (c .before .has-drive .ensures) ∙ c .if1 .left)))
 
 returns-2 : tie.Need-returns-2
 unfolding recOf
@@ -38,7 +47,10 @@ returns-2 c =
     let p = a .p in
     let w = a .w in
     let im = a .image .now in
-    λ ps x. c .stored-rec .ensures ps x ∙ sym (cond-false (isIn (w .gone) (a .drive)) (parityRec (w .base + a .k) (map (storedRec (segmentIn p im ps w) (w .base + a .k)) (present p (w .gone)))) (storedRec (segmentIn p im ps w) (w .base + a .k) (a .drive)) (sym (c .before .before .has-drive .ensures) ∙ c .before .if1 .left))
+    λ ps x. c .stored-rec .ensures ps x
+    ∙ sym (cond-false (isIn (w .gone) (a .drive))
+    (parityRec (w .base + a .k) (map (storedRec (segmentIn p im ps w) (w .base + a .k)) (present p (w .gone))))
+    (storedRec (segmentIn p im ps w) (w .base + a .k) (a .drive)) (sym (c .before .before .has-drive .ensures) ∙ c .before .if1 .left))
 
 pub rec-of-spec : {M : Type 1} → statement M
 rec-of-spec =

@@ -36,8 +36,10 @@ returns-2 : tie.Need-returns-2
 unfolding storedBad
 returns-2 c =
     let a = c .before .before .before .before .args in
+    let if1 = c .before .before .if1 in
+    let bad-rec = c .before .before .before .bad-rec in
     let d = isData (a .p) (a .r .stripe) (a .drive) in
-    c .is-data .ensures ∙ and-yes d ∙ sym (ap (λ (b : Bool). d && b) (sym (c .before .before .before .bad-rec .ensures) ∙ not-false (c .before .before .before .bad-rec .result) (c .before .before .if1 .left)))
+    c .is-data .ensures ∙ and-yes d ∙ sym (ap (λ (b : Bool). d && b) (sym (bad-rec .ensures) ∙ not-false (bad-rec .result) (if1 .left)))
 
 pub stored-bad-spec : {M : Type 1} → statement M
 stored-bad-spec =

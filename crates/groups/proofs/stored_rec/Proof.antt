@@ -14,20 +14,44 @@ zone-on-requires : tie.Need-zone-on-requires
 zone-on-requires c κs = search needs
 
 offset-on-requires : tie.Need-offset-on-requires
-offset-on-requires c κs = (let g = group-len-le (c .before .before .before .args .p) (c .before .before .before .args .w .base) in (c .before .before .before .pre .1 .0 .1, omega (arith, c .before .before .before .pre .1 .0 .4, ranged (c .before .before .before .args .p) (c .before .before .before .pre .0) .drives-high), omega (arith, c .before .before .before .pre .1 .0 .5, g, ranged (c .before .before .before .args .p) (c .before .before .before .pre .0) .group-high), omega (arith, c .before .before .before .pre .1 .0 .3, ranged (c .before .before .before .args .p) (c .before .before .before .pre .0) .stripes-high), c .before .before .before .pre .1 .1 .0))
+offset-on-requires c κs =
+    let entry = c .before .before .before in
+    let args = entry .args in
+    let pre = entry .pre in
+    (let g = group-len-le (args .p) (args .w .base) in (
+      pre .1 .0 .1,
+      omega (arith, pre .1 .0 .4, ranged (args .p) (pre .0) .drives-high),
+      omega (arith, pre .1 .0 .5, g, ranged (args .p) (pre .0) .group-high),
+      omega (arith, pre .1 .0 .3, ranged (args .p) (pre .0) .stripes-high),
+      pre .1 .1 .0,
+    ))
 
 record-in-requires : tie.Need-record-in-requires
-record-in-requires c κs = let f = group-len-fits (c .before .before .before .before .args .p) (c .before .before .before .before .args .w .base) (omega (arith, c .before .before .before .before .pre .1 .0 .3)) in (c .before .before .before .before .pre .0, (c .before .before .before .before .pre .1 .0 .0, c .before .before .before .before .pre .1 .0 .4, rw (c .before .zone-on .ensures) (zone-on-lt (c .before .before .before .before .args .p) (c .before .before .before .before .args .w .seg) (c .before .before .before .before .args .drive) (c .before .before .before .before .pre .1 .0 .2)), omega (arith, f, c .offset-on .ensures .0, c .before .before .before .before .pre .1 .1 .0, c .before .before .before .before .pre .1 .1 .1)))
+record-in-requires c κs =
+    let entry = c .before .before .before .before in
+    let args = entry .args in
+    let pre = entry .pre in
+    let f = group-len-fits (args .p) (args .w .base) (omega (arith, pre .1 .0 .3)) in (
+      pre .0,
+      (
+        pre .1 .0 .0,
+        pre .1 .0 .4,
+        rw (c .before .zone-on .ensures) (zone-on-lt (args .p) (args .w .seg) (args .drive) (pre .1 .0 .2)),
+        omega (arith, f, c .offset-on .ensures .0, pre .1 .1 .0, pre .1 .1 .1),
+      ),
+    )
 
 returns : tie.Need-returns
 returns c =
     let a = c .before .before .before .before .before .args in
+    let zone-on = c .before .before .zone-on in
+    let pre = c .before .before .before .before .before .pre in
     let p = a .p in
     let w = a .w in
     let im = a .image .now in
     λ ps x. c .record-in .ensures ps (x .long)
-    ∙ (λ j. recordIn p (w .full) (zoneAt (viewOf p im ps) (a .drive) (c .before .before .zone-on .ensures j)) (c .before .offset-on .ensures .0 j))
-    ∙ record-read p im ps w (a .at .now) (ranged (c .before .before .before .before .before .args .p) (c .before .before .before .before .before .pre .0)) (c .before .before .before .before .before .pre .1 .0 .0) x (c .before .before .before .before .before .pre .1 .0 .2) (c .before .before .before .before .before .pre .1 .0 .3) (a .k) (c .before .before .before .before .before .pre .1 .0 .5) (a .drive) (c .before .before .before .before .before .pre .1 .0 .4) (c .before .before .before .before .before .pre .1 .1 .0)
+    ∙ (λ j. recordIn p (w .full) (zoneAt (viewOf p im ps) (a .drive) (zone-on .ensures j)) (c .before .offset-on .ensures .0 j))
+    ∙ record-read p im ps w (a .at .now) (ranged (a .p) (pre .0)) (pre .1 .0 .0) x (pre .1 .0 .2) (pre .1 .0 .3) (a .k) (pre .1 .0 .5) (a .drive) (pre .1 .0 .4) (pre .1 .1 .0)
 
 pub stored-rec-spec : {M : Type 1} → statement M
 stored-rec-spec =

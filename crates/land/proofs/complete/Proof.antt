@@ -15,7 +15,9 @@ point-requires c κs =
     (q .0, (q .1 .0, (q .1 .1 .0, (h .1 .0, h .0 .0, h .0 .1))))
 
 seal-requires : tie.Need-seal-requires
-seal-requires c κs = let q = c .before .before .before .before .before .before .before .before .before .before .before .before .pre in (q .0, (q .1 .0, q .1 .1 .1 .1))
+seal-requires c κs =
+    let q = c .before .before .before .before .before .before .before .before .before .before .before .before .pre in
+    (q .0, (q .1 .0, q .1 .1 .1 .1))
 
 cut-requires : tie.Need-cut-requires
 cut-requires c κs = search needs
@@ -34,12 +36,23 @@ same-length-4 c = search needs
 
 returns : tie.Need-returns
 returns c =
-    let a = c .before .before .before .before .before .before .before .before .before .before .before .before .before .before .before .before .before .before .before .before .before .before .before .before .before .args in
+    let cut′ = c .before .before .before .before .cut in
+    let if1′ = c .before .before .before .before .before .before .before .if1 in
+    let seal′ = c .before .before .before .before .before .before .before .before .before .before .before .before .seal in
+    let at = c .before .before .before .before .before .before .before .before .before .before .before .before .before .before .before .before .before in
+    let point′ = c .before .before .before .before .before .before .before .before .before .before .before .before .before .before .before .before .before .point in
+    let a =
+    at
+    .before .before .before .before .before .before .before .before .args in
+    let cut = cut′ in
+    let if1 = if1′ in
+    let seal = seal′ in
+    let point = point′ in
     let k : Disk = mkDisk (a .image .now) (a .pointers .now) in
-    let k′ : Disk = mkDisk (c .before .before .before .before .before .before .before .before .before .before .before .before .seal .last .1 .0) (c .before .before .before .before .before .before .before .before .before .before .before .before .seal .last .1 .1 .0) in
-    let u = c .before .before .before .before .cut .ensures in
-    completing-cut (a .p) (a .count) (a .row) (a .segment) (a .seals) k (a .addresses .now) (a .compact .now) (c .before .before .before .before .before .before .before .before .before .before .before .before .seal .result) k′ (c .before .before .before .before .before .before .before .before .before .before .before .before .seal .ensures) (c .before .before .before .before .cut .result) (c .before .before .before .before .cut .last .0) (c .before .before .before .before .cut .last .1 .0)
-    (c .before .before .before .before .before .before .before .if1 .taken) (u .0) (u .1 ∙ ap (λ (x : ℕ). replicate x 0) (c .before .before .before .before .before .before .before .before .before .before .before .before .before .before .before .before .before .point .kept .1 .1 .1 .0)) (u .2)
+    let k′ : Disk = mkDisk (seal .last .1 .0) (seal .last .1 .1 .0) in
+    let u = cut .ensures in
+    completing-cut (a .p) (a .count) (a .row) (a .segment) (a .seals) k (a .addresses .now) (a .compact .now) (seal .result) k′ (seal .ensures) (cut .result) (cut .last .0) (cut .last .1 .0)
+    (if1 .taken) (u .0) (u .1 ∙ ap (λ (x : ℕ). replicate x 0) (point .kept .1 .1 .1 .0)) (u .2)
 
 writes-in-requires : tie.Need-writes-in-requires
 writes-in-requires c κs = search needs
@@ -56,10 +69,13 @@ same-length-7 c = search needs
 returns-2 : tie.Need-returns-2
 returns-2 c =
     let a = c .before .before .before .before .before .before .before .before .before .before .before .before .before .before .before .before .before .before .before .args in
+    let seal = c .before .before .before .before .before .before .seal in
+    let point = c .before .before .before .before .before .before .before .before .before .before .before .point in
     let k : Disk = mkDisk (a .image .now) (a .pointers .now) in
-    let k′ : Disk = mkDisk (c .before .before .before .before .before .before .seal .last .1 .0) (c .before .before .before .before .before .before .seal .last .1 .1 .0) in
-    completing-done (a .p) (a .count) (a .row) (a .segment) (a .seals) k (a .addresses .now) (a .compact .now) (c .before .before .before .before .before .before .seal .result) k′ (c .before .before .before .before .before .before .seal .ensures) (Landed (c .writes-in .result)) (c .before .before .before .before .before .before .before .before .before .before .before .point .last .1 .1 .1 .0) (a .compact .now)
-    (c .before .if1 .left) (ap Landed (c .writes-in .ensures)) (c .before .before .before .before .before .before .before .before .before .before .before .point .ensures) refl
+    let k′ : Disk = mkDisk (seal .last .1 .0) (seal .last .1 .1 .0) in
+    completing-done (a .p) (a .count) (a .row) (a .segment) (a .seals) k (a .addresses .now) (a .compact .now) (seal .result) k′ (seal .ensures)
+    (Landed (c .writes-in .result)) (point .last .1 .1 .1 .0) (a .compact .now)
+    (c .before .if1 .left) (ap Landed (c .writes-in .ensures)) (point .ensures) refl
 
 pub complete-spec : {M : Type 1} → statement M
 complete-spec =

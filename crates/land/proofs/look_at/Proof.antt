@@ -34,13 +34,18 @@ is-last-requires c κs = search needs
 returns : tie.Need-returns
 returns c =
     let a = c .before .before .before .before .before .before .before .args in
-    let e = c .before .before .before .before .before .before .slot-of .ensures in
-    let d = c .before .before .completes .result in
+    let completes = c .before .before .completes in
+    let open-segment = c .before .before .before .open-segment in
+    let row-of = c .before .before .before .before .row-of in
+    let within = c .before .before .before .before .before .within in
+    let slot-of = c .before .before .before .before .before .before .slot-of in
+    let e = slot-of .ensures in
+    let d = completes .result in
     record {
       slot = e;
-      row = λ h. c .before .before .before .before .row-of .ensures ∙ ap (rowOf (a .state)) (c .before .before .before .before .before .within .ensures .1 (subst (λ (x : ℕ). x < 8) (sym e) h) ∙ e);
-      segment = c .before .before .before .open-segment .ensures;
-      done = c .before .before .completes .ensures;
+      row = λ h. row-of .ensures ∙ ap (rowOf (a .state)) (within .ensures .1 (subst (λ (x : ℕ). x < 8) (sym e) h) ∙ e);
+      segment = open-segment .ensures;
+      done = completes .ensures;
       seals = c .is-last .ensures ∙ ap (λ (x : ℕ). d && eqb (a .state .next) (a .p .S) && eqb x 1) (c .before .in-flight .ensures);
     }
 

@@ -35,19 +35,24 @@ same-length-2 c = search needs
 returns : tie.Need-returns
 returns c st ch =
     let a = c .before .before .before .before .before .before .before .before .before .before .before .before .before .before .args in
+    let cut = c .before .before .before .before .before .cut in
+    let if1 = c .before .before .before .before .before .before .before .before .if1 in
     let p = a .p in
     let d = a .drive in
     let s = a .stripe in
     let k : Disk = mkDisk (a .image .now) (a .pointers .now) in
     let m : Memory = mkMemory st (a .addresses .now) (a .compact .now) (a .inflight .now) in
-    let u = c .before .before .before .before .before .cut .ensures in
-    ends-none p k m d s (a .count) (ch .none!) (c .before .before .before .before .before .before .before .before .if1 .taken) (c .kept .result) (c .before .before .before .before .before .cut .last .0) (c .before .before .before .before .before .cut .last .1 .0) (ap (λ (x : Change). x .answer) (c .kept .ensures) ∙ u .0) (u .1) (u .2)
+    let u = cut .ensures in
+    ends-none p k m d s (a .count) (ch .none!) (if1 .taken) (c .kept .result) (cut .last .0) (cut .last .1 .0) (ap (λ (x : Change). x .answer) (c .kept .ensures) ∙ u .0) (u .1) (u .2)
 
 store-chunk-requires : tie.Need-store-chunk-requires
 store-chunk-requires c κs =
-    let st = c .before .before .before .before .before .before .before .before .before .before .pre .0 in
-    let ch = c .before .before .before .before .before .before .before .before .before .before .pre .1 in
-    let a = c .before .before .before .before .before .before .before .before .before .before .args in
+    let entry = c .before .before .before .before .before .before .before .before .before .before in
+    let args = entry .args in
+    let pre = entry .pre in
+    let st = pre .0 in
+    let ch = pre .1 in
+    let a = args in
     let p = a .p in
     let d = a .drive in
     let s = a .stripe in
@@ -78,6 +83,8 @@ same-length-5 c = search needs
 returns-2 : tie.Need-returns-2
 returns-2 c st ch =
     let a = c .before .before .before .before .before .before .before .before .before .before .before .before .before .before .before .before .before .before .before .before .args in
+    let store-chunk = c .before .before .before .before .before .before .before .before .before .store-chunk in
+    let if1 = c .before .before .before .before .before .before .before .before .before .before .before .before .before .before .if1 in
     let p = a .p in
     let d = a .drive in
     let s = a .stripe in
@@ -85,12 +92,12 @@ returns-2 c st ch =
     let m : Memory = mkMemory st (a .addresses .now) (a .compact .now) (a .inflight .now) in
     let r = ready p k m d s (ch .none!) in
     let w = ch .looks in
-    let k₁ : Disk = mkDisk (c .before .before .before .before .before .before .before .before .before .store-chunk .last .1 .0) (c .before .before .before .before .before .before .before .before .before .store-chunk .last .1 .1 .0) in
-    let co₁ = c .before .before .before .before .before .before .before .before .before .store-chunk .last .1 .1 .1 .0 in
-    let u = c .before .before .before .before .before .before .before .before .before .store-chunk .ensures in
-    let x = chunked p k m d s r (ch .sized) (a .seen) w (c .before .before .before .before .before .before .before .before .before .store-chunk .result) k₁ co₁ (u .0) (u .1 .0) (u .1 .1) in
+    let k₁ : Disk = mkDisk (store-chunk .last .1 .0) (store-chunk .last .1 .1 .0) in
+    let co₁ = store-chunk .last .1 .1 .1 .0 in
+    let u = store-chunk .ensures in
+    let x = chunked p k m d s r (ch .sized) (a .seen) w (store-chunk .result) k₁ co₁ (u .0) (u .1 .0) (u .1 .1) in
     let f : completes p st (slotOf st s) d ≡ false = sym (look-done p st d s (a .seen) w (r .slot-low)) ∙ not-true (a .seen .done) (c .before .if2 .taken) in
-    let n : 0 < a .count = omega (arith, c .before .before .before .before .before .before .before .before .before .before .before .before .before .before .if1 .left) in
+    let n : 0 < a .count = omega (arith, if1 .left) in
     let e = c .change-to .ensures ∙ (λ j. changeTo (Landed 0) (ch .front j) (w .slot j) (x .0 j) false) in
     ends-part p k m d s (a .count) (ch .none!) (ch .sized) n f (c .change-to .result) k₁ co₁ e (x .1) (x .2)
 
@@ -99,9 +106,19 @@ sub-complete c = search needs
 
 complete-requires : tie.Need-complete-requires
 complete-requires c κs =
-    let st = c .before .before .before .before .before .before .before .before .before .before .before .before .before .before .before .before .before .before .before .before .before .before .before .pre .0 in
-    let ch = c .before .before .before .before .before .before .before .before .before .before .before .before .before .before .before .before .before .before .before .before .before .before .before .pre .1 in
-    let a = c .before .before .before .before .before .before .before .before .before .before .before .before .before .before .before .before .before .before .before .before .before .before .before .args in
+    let if2 = c .before .before .before .before .if2 in
+    let store-chunk = c .before .before .before .before .before .before .before .before .before .before .before .before .store-chunk in
+    let at′ =
+    c .before .before .before .before .before .before .before .before .before .before .before .before .before .before .before .before .before .before .before .before .before .before .before in
+    let at =
+    at′ in
+    let entry =
+    at in
+    let args = entry .args in
+    let pre = entry .pre in
+    let st = pre .0 in
+    let ch = pre .1 in
+    let a = args in
     let p = a .p in
     let d = a .drive in
     let s = a .stripe in
@@ -109,12 +126,12 @@ complete-requires c κs =
     let m : Memory = mkMemory st (a .addresses .now) (a .compact .now) (a .inflight .now) in
     let r = ready p k m d s (ch .none!) in
     let w = ch .looks in
-    let k₁ : Disk = mkDisk (c .before .before .before .before .before .before .before .before .before .before .before .before .store-chunk .last .1 .0) (c .before .before .before .before .before .before .before .before .before .before .before .before .store-chunk .last .1 .1 .0) in
-    let co₁ = c .before .before .before .before .before .before .before .before .before .before .before .before .store-chunk .last .1 .1 .1 .0 in
-    let u = c .before .before .before .before .before .before .before .before .before .before .before .before .store-chunk .ensures in
-    let x = chunked p k m d s r (ch .sized) (a .seen) w (c .before .before .before .before .before .before .before .before .before .before .before .before .store-chunk .result) k₁ co₁ (u .0) (u .1 .0) (u .1 .1) in
-    let f : completes p st (slotOf st s) d ≡ true = sym (look-done p st d s (a .seen) w (r .slot-low)) ∙ not-false (a .seen .done) (c .before .before .before .before .if2 .left) in
-    complete-ready p k m d s r (ch .sized) f (c .before .before .before .before .before .before .before .before .before .before .before .before .store-chunk .result) (a .seen .segment) (a .seen .seals) k₁ (x .0) (w .segment) (look-seals p st d s (a .seen) w (r .slot-low)) (x .1)
+    let k₁ : Disk = mkDisk (store-chunk .last .1 .0) (store-chunk .last .1 .1 .0) in
+    let co₁ = store-chunk .last .1 .1 .1 .0 in
+    let u = store-chunk .ensures in
+    let x = chunked p k m d s r (ch .sized) (a .seen) w (store-chunk .result) k₁ co₁ (u .0) (u .1 .0) (u .1 .1) in
+    let f : completes p st (slotOf st s) d ≡ true = sym (look-done p st d s (a .seen) w (r .slot-low)) ∙ not-false (a .seen .done) (if2 .left) in
+    complete-ready p k m d s r (ch .sized) f (store-chunk .result) (a .seen .segment) (a .seen .seals) k₁ (x .0) (w .segment) (look-seals p st d s (a .seen) w (r .slot-low)) (x .1)
 
 free-stripe-requires : tie.Need-free-stripe-requires
 free-stripe-requires c κs = search needs
@@ -123,20 +140,54 @@ change-to-requires-2 : tie.Need-change-to-requires-2
 change-to-requires-2 c κs = search needs
 
 same-length-6 : tie.Need-same-length-6
-same-length-6 c = c .before .before .before .before .before .before .before .before .before .before .complete .kept .1 .0 ∙ c .before .before .before .before .before .before .before .before .before .before .before .before .before .before .before .before .before .before .before .before .before .before .before .store-chunk .kept .1 .0
+same-length-6 c =
+    let complete = c .before .before .before .before .before .before .before .before .before .before .complete in
+    let at = c .before .before .before .before .before .before .before .before .before .before .before .before .before .before .before .before .before in
+    let store-chunk =
+    at
+    .before .before .before .before .before .before .store-chunk in
+    complete .kept .1 .0 ∙ store-chunk .kept .1 .0
 
 same-length-7 : tie.Need-same-length-7
-same-length-7 c = c .before .before .before .before .before .before .before .before .before .before .complete .kept .1 .1 .0 ∙ c .before .before .before .before .before .before .before .before .before .before .before .before .before .before .before .before .before .before .before .before .before .before .before .store-chunk .kept .1 .1 .0
+same-length-7 c =
+    let complete = c .before .before .before .before .before .before .before .before .before .before .complete in
+    let at = c .before .before .before .before .before .before .before .before .before .before .before .before .before .before .before .before .before in
+    let store-chunk =
+    at
+    .before .before .before .before .before .before .store-chunk in
+    complete .kept .1 .1 .0 ∙ store-chunk .kept .1 .1 .0
 
 same-length-8 : tie.Need-same-length-8
-same-length-8 c = c .before .before .before .before .before .before .before .before .before .before .complete .kept .1 .1 .1 .0
+same-length-8 c =
+    let complete = c .before .before .before .before .before .before .before .before .before .before .complete in
+    complete .kept .1 .1 .1 .0
 
 same-length-9 : tie.Need-same-length-9
-same-length-9 c = c .before .before .before .before .before .before .before .before .before .before .complete .kept .1 .1 .1 .1 .0 ∙ c .before .before .before .before .before .before .before .before .before .before .before .before .before .before .before .before .before .before .before .before .before .before .before .store-chunk .kept .1 .1 .1 .0
+same-length-9 c =
+    let complete = c .before .before .before .before .before .before .before .before .before .before .complete in
+    let at = c .before .before .before .before .before .before .before .before .before .before .before .before .before .before .before .before .before in
+    let store-chunk =
+    at
+    .before .before .before .before .before .before .store-chunk in
+    complete .kept .1 .1 .1 .1 .0 ∙ store-chunk .kept .1 .1 .1 .0
 
 returns-3 : tie.Need-returns-3
 returns-3 c st ch =
-    let a = c .before .before .before .before .before .before .before .before .before .before .before .before .before .before .before .before .before .before .before .before .before .before .before .before .before .before .before .before .before .before .before .before .before .before .args in
+    let complete′ = c .before .before .before .before .before .before .before .before .before .before .complete in
+    let if2′ = c .before .before .before .before .before .before .before .before .before .before .before .before .before .before .before .if2 in
+    let at = c .before .before .before .before .before .before .before .before .before .before .before .before .before .before .before .before .before in
+    let a =
+    at
+    .before .before .before .before .before .before .before .before .before .before .before .before .before .before .before .before .before
+    .args in
+    let complete = complete′ in
+    let if2 = if2′ in
+    let store-chunk =
+    at
+    .before .before .before .before .before .before .store-chunk in
+    let if1 =
+    at
+    .before .before .before .before .before .before .before .before .before .before .before .if1 in
     let p = a .p in
     let d = a .drive in
     let s = a .stripe in
@@ -144,21 +195,25 @@ returns-3 c st ch =
     let m : Memory = mkMemory st (a .addresses .now) (a .compact .now) (a .inflight .now) in
     let r = ready p k m d s (ch .none!) in
     let w = ch .looks in
-    let k₁ : Disk = mkDisk (c .before .before .before .before .before .before .before .before .before .before .before .before .before .before .before .before .before .before .before .before .before .before .before .store-chunk .last .1 .0) (c .before .before .before .before .before .before .before .before .before .before .before .before .before .before .before .before .before .before .before .before .before .before .before .store-chunk .last .1 .1 .0) in
-    let co₁ = c .before .before .before .before .before .before .before .before .before .before .before .before .before .before .before .before .before .before .before .before .before .before .before .store-chunk .last .1 .1 .1 .0 in
-    let u = c .before .before .before .before .before .before .before .before .before .before .before .before .before .before .before .before .before .before .before .before .before .before .before .store-chunk .ensures in
-    let x = chunked p k m d s r (ch .sized) (a .seen) w (c .before .before .before .before .before .before .before .before .before .before .before .before .before .before .before .before .before .before .before .before .before .before .before .store-chunk .result) k₁ co₁ (u .0) (u .1 .0) (u .1 .1) in
-    let f : completes p st (slotOf st s) d ≡ true = sym (look-done p st d s (a .seen) w (r .slot-low)) ∙ not-false (a .seen .done) (c .before .before .before .before .before .before .before .before .before .before .before .before .before .before .before .if2 .left) in
-    let n : 0 < a .count = omega (arith, c .before .before .before .before .before .before .before .before .before .before .before .before .before .before .before .before .before .before .before .before .before .before .before .before .before .before .before .before .if1 .left) in
-    let o = c .before .before .before .before .before .before .before .before .before .before .complete .result in
-    let k₂ : Disk = mkDisk (c .before .before .before .before .before .before .before .before .before .before .complete .last .1 .0) (c .before .before .before .before .before .before .before .before .before .before .complete .last .1 .1 .0) in
-    let tb₂ = c .before .before .before .before .before .before .before .before .before .before .complete .last .1 .1 .1 .0 in
-    let co₂ = c .before .before .before .before .before .before .before .before .before .before .complete .last .1 .1 .1 .1 .0 in
+    let k₁ : Disk = mkDisk (store-chunk .last .1 .0) (store-chunk .last .1 .1 .0) in
+    let co₁ = store-chunk .last .1 .1 .1 .0 in
+    let u = store-chunk .ensures in
+    let x = chunked p k m d s r (ch .sized) (a .seen) w (store-chunk .result) k₁ co₁ (u .0) (u .1 .0) (u .1 .1) in
+    let f : completes p st (slotOf st s) d ≡ true = sym (look-done p st d s (a .seen) w (r .slot-low)) ∙ not-false (a .seen .done) (if2 .left) in
+    let n : 0 < a .count = omega (arith, if1 .left) in
+    let o = complete .result in
+    let k₂ : Disk = mkDisk (complete .last .1 .0) (complete .last .1 .1 .0) in
+    let tb₂ = complete .last .1 .1 .1 .0 in
+    let co₂ = complete .last .1 .1 .1 .1 .0 in
     let b = look-seals p st d s (a .seen) w (r .slot-low) in
-    let q : c .before .free-stripe .result ≡ freeRow (markRow (rowOf st (slotOf st s)) d (pointerAt (seen p k) d (zoneOn (openSegment st) d) - 1)) = c .before .free-stripe .ensures ∙ ap freeRow (x .0) in
+    let q : c .before .free-stripe .result ≡ freeRow (markRow (rowOf st (slotOf st s)) d (pointerAt (seen p k) d (zoneOn (openSegment st) d) - 1)) =
+    c .before .free-stripe .ensures ∙ ap freeRow (x .0) in
     let e = c .change-to2 .ensures ∙ (λ j. changeTo o (ch .front j) (w .slot j) (q j) (b j)) in
     ends-whole p k m d s (a .count) (ch .none!) (ch .sized) n f o (c .change-to2 .result) k₂ tb₂ co₂ e
-    (completing-same p (a .count - 1) (a .addresses .now) o k₂ tb₂ co₂ (x .0) (w .segment) b (x .1) (x .2) (c .before .before .before .before .before .before .before .before .before .before .complete .ensures))
+    (completing-same p (a .count - 1) (a .addresses .now) o k₂ tb₂ co₂ (x .0) (w .segment) b (x .1) (x .2) (complete .ensures))
 
 pub plan-spec : {M : Type 1} → statement M
-plan-spec = tie.close (tie.spec cut-requires kept-requires same-length same-length-2 returns store-chunk-requires change-to-requires same-length-3 same-length-4 same-length-5 returns-2 sub-complete complete-requires free-stripe-requires change-to-requires-2 same-length-6 same-length-7 same-length-8 same-length-9 returns-3)
+plan-spec =
+    tie.close (tie.spec cut-requires kept-requires same-length same-length-2 returns store-chunk-requires change-to-requires same-length-3
+    same-length-4 same-length-5 returns-2 sub-complete complete-requires free-stripe-requires change-to-requires-2 same-length-6 same-length-7
+    same-length-8 same-length-9 returns-3)

@@ -8,7 +8,9 @@ use Rattle.land.proofs.show_chunk.Statement.{statement}
 use Rattle.land.proofs.show_chunk.Tie as tie
 
 compact-at-requires : tie.Need-compact-at-requires
-compact-at-requires c κs = let q = c .before .pre in (q .0, (q .1 .1, q .1 .2, q .1 .3))
+compact-at-requires c κs =
+    let q = c .before .pre in
+    (q .0, (q .1 .1, q .1 .2, q .1 .3))
 
 compact-entry-requires : tie.Need-compact-entry-requires
 compact-entry-requires c κs = search needs

@@ -22,42 +22,65 @@ zone-is : (c : tie.After-zone-on) → c .zone-on .result ≡ zoneOn (c .before .
 zone-is c = c .zone-on .ensures
 
 zone-low : (c : tie.After-zone-on) → c .zone-on .result < c .before .before .before .before .before .args .p .Z
-zone-low c = let a = c .before .before .before .before .before .args in omega (arith, zone-is c, zone-on-lt (a .p) (a .segment) (a .drive) (c .before .before .before .before .before .pre .1 .1 .1 .1))
+zone-low c =
+    let a = c .before .before .before .before .before .args in
+    let pre = c .before .before .before .before .before .pre in
+    omega (arith, zone-is c, zone-on-lt (a .p) (a .segment) (a .drive) (pre .1 .1 .1 .1))
 
 pointer-requires : tie.Need-pointer-requires
-pointer-requires c κs = let q = c .before .before .before .before .before .before .pre in (q .0, (q .1 .0 .pointers-long, q .1 .1 .1 .0, zone-low (c .before)))
+pointer-requires c κs =
+    let q = c .before .before .before .before .before .before .pre in
+    (q .0, (q .1 .0 .pointers-long, q .1 .1 .1 .0, zone-low (c .before)))
 
 -- its pointer
-pointer-is : (c : tie.After-pointer) → c .pointer .result ≡ pointerOf (c .before .before .before .before .before .before .before .args .p) (c .before .before .before .before .before .before .before .args .pointers .now) (c .before .before .before .before .before .before .before .args .drive) (zoneOn (c .before .before .before .before .before .before .before .args .segment) (c .before .before .before .before .before .before .before .args .drive))
-pointer-is c = let a = c .before .before .before .before .before .before .before .args in c .pointer .ensures ∙ ap (pointerOf (a .p) (a .pointers .now) (a .drive)) (zone-is (c .before .before))
+pointer-is :
+    (c : tie.After-pointer)
+    → c .pointer .result ≡ pointerOf (c .before .before .before .before .before .before .before .args .p)
+    (c .before .before .before .before .before .before .before .args .pointers .now)
+    (c .before .before .before .before .before .before .before .args .drive)
+    (zoneOn (c .before .before .before .before .before .before .before .args .segment)
+    (c .before .before .before .before .before .before .before .args .drive))
+pointer-is c =
+    let a = c .before .before .before .before .before .before .before .args in
+    c .pointer .ensures ∙ ap (pointerOf (a .p) (a .pointers .now) (a .drive)) (zone-is (c .before .before))
 
 cast-offset : tie.Need-cast-offset
 cast-offset c = search needs
 
 sub-offset : tie.Need-sub-offset
-sub-offset c = omega (arith, pointer-is c, c .before .before .before .before .before .before .before .pre .1 .1 .1 .2)
+sub-offset c =
+    let pre = c .before .before .before .before .before .before .before .pre in
+    omega (arith, pointer-is c, pre .1 .1 .1 .2)
 
 put-chunk-requires : tie.Need-put-chunk-requires
 put-chunk-requires c κs =
     let a = c .before .before .before .before .before .before .before .before .before .args in
     let q = c .before .before .before .before .before .before .before .before .before .pre in
+    let at-2 = c .before .before in
+    let pointer = c .before .before .pointer in
+    let at-4 = c .before .before .before .before in
+    let zone-on = c .before .before .before .before .zone-on in
     let h = q .1 .1 .1 in
-    let n : pointerOf (a .p) (a .pointers .now) (a .drive) (c .before .before .before .before .zone-on .result) < capacity (a .p) =
-    subst (λ (x : ℕ). x < capacity (a .p)) (c .before .before .pointer .ensures) (data-below (a .p) (ranged (a .p) (q .0)) (c .before .before .pointer .result) (omega (arith, pointer-is (c .before .before), h .3))) in
-    (q .0, (q .1 .0, ((q .1 .1 .0 .1, q .1 .1 .0 .2, q .1 .1 .0 .3), (h .0, zone-low (c .before .before .before .before), n))))
+    let n : pointerOf (a .p) (a .pointers .now) (a .drive) (zone-on .result) < capacity (a .p) =
+    subst (λ (x : ℕ). x < capacity (a .p)) (pointer .ensures) (data-below (a .p) (ranged (a .p) (q .0)) (pointer .result) (omega (arith, pointer-is (at-2), h .3))) in
+    (q .0, (q .1 .0, ((q .1 .1 .0 .1, q .1 .1 .0 .2, q .1 .1 .0 .3), (h .0, zone-low (at-4), n))))
 
 show-chunk-requires : tie.Need-show-chunk-requires
 show-chunk-requires c κs =
     let q = c .before .before .before .before .before .before .before .before .before .before .before .before .before .before .before .pre in
+    let at-8 = c .before .before .before .before .before .before .before .before in
+    let at-10 = c .before .before .before .before .before .before .before .before .before .before in
     let h = q .1 .1 .1 in
-    (q .0, (q .1 .1 .0 .0, h .0, zone-low (c .before .before .before .before .before .before .before .before .before .before), omega (arith, pointer-is (c .before .before .before .before .before .before .before .before), h .2, h .3)))
+    (q .0, (q .1 .1 .0 .0, h .0, zone-low (at-10), omega (arith, pointer-is (at-8), h .2, h .3)))
 
 mark-landed-requires : tie.Need-mark-landed-requires
 mark-landed-requires c κs =
     let q = c .before .before .before .before .before .before .before .before .before .before .before .before .before .before .before .before .before .before .pre in
+    let at = c .before .before .before .before .before .before .before .before .before .before .before in
+    let args = c .before .before .before .before .before .before .before .before .before .before .before .before .before .before .before .before .before .before .args in
     let h = q .1 .1 .1 in
-    let r = ranged (c .before .before .before .before .before .before .before .before .before .before .before .before .before .before .before .before .before .before .args .p) (q .0) in
-    (omega (arith, h .0, r .drives-high), omega (arith, pointer-is (c .before .before .before .before .before .before .before .before .before .before .before), h .3, r .stripes-high))
+    let r = ranged (args .p) (q .0) in
+    (omega (arith, h .0, r .drives-high), omega (arith, pointer-is (at), h .3, r .stripes-high))
 
 same-length : tie.Need-same-length
 same-length c = search needs
@@ -71,15 +94,19 @@ same-length-3 c = search needs
 returns : tie.Need-returns
 returns c =
     let a = c .before .before .before .before .before .before .before .before .before .before .before .before .before .before .before .before .before .before .before .args in
+    let show-chunk = c .before .before .before .show-chunk in
+    let put-chunk = c .before .before .before .before .before .before .before .before .before .put-chunk in
+    let at-12 = c .before .before .before .before .before .before .before .before .before .before .before .before in
+    let at-14 = c .before .before .before .before .before .before .before .before .before .before .before .before .before .before in
     let p = a .p in
     let d = a .drive in
     let i = a .i in
     let k : Disk = mkDisk (a .image .now) (a .pointers .now) in
-    let z = zone-is (c .before .before .before .before .before .before .before .before .before .before .before .before .before .before) in
-    let n = pointer-is (c .before .before .before .before .before .before .before .before .before .before .before .before) in (
-      c .before .before .before .before .before .before .before .before .before .put-chunk .ensures ∙ ap (λ (x : ℕ). storeDisk p (put d x (slotBlock p (a .inflight .now) i d) (recordBytes (flightRec p (alone (a .row)) 0 d))) k) z,
+    let z = zone-is (at-14) in
+    let n = pointer-is (at-12) in (
+      put-chunk .ensures ∙ ap (λ (x : ℕ). storeDisk p (put d x (slotBlock p (a .inflight .now) i d) (recordBytes (flightRec p (alone (a .row)) 0 d))) k) z,
       (
-        c .before .before .before .show-chunk .ensures ∙ (λ j. set (a .compact .now) (compactAt p d (z j) (n j - 1)) (compactEntry p (a .stripe))),
+        show-chunk .ensures ∙ (λ j. set (a .compact .now) (compactAt p d (z j) (n j - 1)) (compactEntry p (a .stripe))),
         c .mark-landed .ensures ∙ ap (λ (x : ℕ). markRow (a .row) d (x - 1)) n,
       ),
     )

@@ -17,7 +17,9 @@ returns c im e h q =
 
 place-at-requires : tie.Need-place-at-requires
 unfolding addressesLen
-place-at-requires c κs = omega (arith, c .if1 .left, c .before .before .before .before .pre .1 .1)
+place-at-requires c κs =
+    let pre = c .before .before .before .before .pre in
+    omega (arith, c .if1 .left, pre .1 .1)
 
 returns-2 : tie.Need-returns-2
 returns-2 c im e h q =
@@ -32,10 +34,12 @@ place-fault-requires c κs = search needs
 returns-3 : tie.Need-returns-3
 returns-3 c im e h q =
     let a = c .before .before .before .before .before .before .before .before .args in
+    let place-at = c .before .before .before .place-at in
+    let if1 = c .before .before .before .before .if1 in
     let tb = a .addresses .now in
     let v : View = viewOf (a .p) im (a .pointers .now) in
-    let f : placeAt tb (e .address) ≡ c .before .before .before .place-at .result .0 = ap (placeAt tb) q ∙ sym (c .before .before .before .place-at .ensures) in
-    entry-placed (a .p) v tb e (omega (arith, c .before .before .before .before .if1 .left, q)) (λ x. c .before .if2 .left (sym f ∙ x))
+    let f : placeAt tb (e .address) ≡ place-at .result .0 = ap (placeAt tb) q ∙ sym (place-at .ensures) in
+    entry-placed (a .p) v tb e (omega (arith, if1 .left, q)) (λ x. c .before .if2 .left (sym f ∙ x))
     ∙ ap (placeFaults (a .p) v 0) f ∙ c .place-fault .ensures im h
 
 pub entry-fault-spec : {M : Type 1} → statement M

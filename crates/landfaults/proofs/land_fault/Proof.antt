@@ -15,7 +15,9 @@ use Rattle.landfaults.proofs.land_fault.Statement.{statement}
 use Rattle.landfaults.proofs.land_fault.Tie as tie
 
 segment-fault-requires : tie.Need-segment-fault-requires
-segment-fault-requires c κs = let q = c .before .before .pre in (q .0, (q .1 .0 .0, q .1 .0 .2, q .1 .1 .0))
+segment-fault-requires c κs =
+    let q = c .before .before .pre in
+    (q .0, (q .1 .0 .0, q .1 .0 .2, q .1 .1 .0))
 
 returns : tie.Need-returns
 returns c im h =
@@ -26,7 +28,9 @@ returns c im h =
     ∙ ap (λ (x : Bool). least (a .p .Z) (faultsOf (a .p) v (a .addresses .now) es (a .d) (a .segment) (a .stripe) x (a .seals))) (sym (not-true (a .done) (c .if1 .taken)))
 
 entries-fault-requires : tie.Need-entries-fault-requires
-entries-fault-requires c κs = let q = c .before .before .before .before .pre in (q .0, ((q .1 .0 .0, q .1 .0 .1), (q .1 .1 .1, c .before .segment-fault .ensures .1)))
+entries-fault-requires c κs =
+    let q = c .before .before .before .before .pre in
+    (q .0, ((q .1 .0 .0, q .1 .0 .1), (q .1 .1 .1, c .before .segment-fault .ensures .1)))
 
 returns-2 : tie.Need-returns-2
 returns-2 c im h =

@@ -25,8 +25,11 @@ returns c im h =
 returns-2 : tie.Need-returns-2
 returns-2 c im h =
     let a = c .before .before .before .before .before .args in
-    let q = c .before .before .before .before .before .pre .1 in
-    misplaced-high (a .p) im (a .pointers .now) h (q .0) (a .d) (a .zone) (a .stripe) (q .1) (q .2) (omega (arith, c .before .before .if1 .left, c .before .before .before .pointer .ensures)) (omega (arith, c .if2 .taken, c .before .before .before .pointer .ensures))
+    let if1 = c .before .before .if1 in
+    let pointer = c .before .before .before .pointer in
+    let pre = c .before .before .before .before .before .pre in
+    let q = pre .1 in
+    misplaced-high (a .p) im (a .pointers .now) h (q .0) (a .d) (a .zone) (a .stripe) (q .1) (q .2) (omega (arith, if1 .left, pointer .ensures)) (omega (arith, c .if2 .taken, pointer .ensures))
 
 group-requires : tie.Need-group-requires
 group-requires c κs = search needs
@@ -37,13 +40,17 @@ group-requires-2 c κs = search needs
 returns-3 : tie.Need-returns-3
 returns-3 c im h =
     let a = c .before .before .before .before .before .before .before .args in
-    let q = c .before .before .before .before .before .before .before .pre .1 in
+    let if2 = c .before .before .if2 in
+    let if1 = c .before .before .before .before .if1 in
+    let pointer = c .before .before .before .before .before .pointer in
+    let pre = c .before .before .before .before .before .before .before .pre in
+    let q = pre .1 in
     let n = pointerOf (a .p) (a .pointers .now) (a .d) (a .zone) in
-    let e : c .before .before .before .before .before .pointer .result ≡ n = c .before .before .before .before .before .pointer .ensures in
+    let e : pointer .result ≡ n = pointer .ensures in
     let x : c .before .group .result ≡ group (a .p) (n - 1) = c .before .group .ensures .0 ∙ ap (λ (k : ℕ). group (a .p) (k - 1)) e in
     let y : c .group2 .result ≡ group (a .p) (a .stripe) = c .group2 .ensures .0 in
     (λ j. not (eqb (x j) (y j)))
-    ∙ misplaced-else (a .p) im (a .pointers .now) h (q .0) (a .d) (a .zone) (a .stripe) (q .1) (q .2) (omega (arith, c .before .before .before .before .if1 .left, e)) (omega (arith, c .before .before .if2 .left, e))
+    ∙ misplaced-else (a .p) im (a .pointers .now) h (q .0) (a .d) (a .zone) (a .stripe) (q .1) (q .2) (omega (arith, if1 .left, e)) (omega (arith, if2 .left, e))
 
 pub misplaced-spec : {M : Type 1} → statement M
 misplaced-spec =

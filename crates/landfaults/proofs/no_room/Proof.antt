@@ -40,10 +40,13 @@ returns : tie.Need-returns
 unfolding overBy
 returns c =
     let a = c .before .before .before .before .before .before .args in
+    let footers′ = c .before .before .footers in
+    let pointer = c .before .before .before .pointer in
+    let zone-on = c .before .before .before .before .zone-on in
     let p = a .p in
-    let n : c .before .before .before .pointer .result ≡ pointerOf p (a .pointers .now) (a .e) (zoneOn (a .segment) (a .e)) = c .before .before .before .pointer .ensures ∙ ap (pointerOf p (a .pointers .now) (a .e)) (c .before .before .before .before .zone-on .ensures) in
+    let n : pointer .result ≡ pointerOf p (a .pointers .now) (a .e) (zoneOn (a .segment) (a .e)) = pointer .ensures ∙ ap (pointerOf p (a .pointers .now) (a .e)) (zone-on .ensures) in
     let b : true ≡ eqb (a .e) (a .d) = sym (eq-eqb (a .e) (a .d) (c .if1 .taken)) in
-    let f : c .before .before .footers .result ≡ footers p = c .before .before .footers .ensures .0 in
+    let f : footers′ .result ≡ footers p = footers′ .ensures .0 in
     let m : c .before .capacity .result ≡ capacity p = c .before .capacity .ensures .0 in
     λ j. ltb (m j) (n j + cond (b j) 1 0 + f j)
 
@@ -54,12 +57,15 @@ returns-2 : tie.Need-returns-2
 unfolding overBy
 returns-2 c =
     let a = c .before .before .before .before .before .before .args in
+    let footers′ = c .before .before .footers in
+    let pointer = c .before .before .before .pointer in
+    let zone-on = c .before .before .before .before .zone-on in
     let p = a .p in
-    let x = c .before .before .before .pointer .result in
-    let y = c .before .before .footers .result in
-    let n : x ≡ pointerOf p (a .pointers .now) (a .e) (zoneOn (a .segment) (a .e)) = c .before .before .before .pointer .ensures ∙ ap (pointerOf p (a .pointers .now) (a .e)) (c .before .before .before .before .zone-on .ensures) in
+    let x = pointer .result in
+    let y = footers′ .result in
+    let n : x ≡ pointerOf p (a .pointers .now) (a .e) (zoneOn (a .segment) (a .e)) = pointer .ensures ∙ ap (pointerOf p (a .pointers .now) (a .e)) (zone-on .ensures) in
     let b : false ≡ eqb (a .e) (a .d) = sym (ne-eqb (a .e) (a .d) (c .if1 .left)) in
-    let f : y ≡ footers p = c .before .before .footers .ensures .0 in
+    let f : y ≡ footers p = footers′ .ensures .0 in
     let m : c .before .capacity .result ≡ capacity p = c .before .capacity .ensures .0 in
     let z : x + y ≡ x + 0 + y = omega arith in
     ap (ltb (c .before .capacity .result)) z ∙ (λ j. ltb (m j) (n j + cond (b j) 1 0 + f j))

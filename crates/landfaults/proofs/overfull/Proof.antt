@@ -19,14 +19,19 @@ loop-holds c =
     (omega arith, any-start (overBy (a .p) (a .pointers .now) (a .d) (a .segment)) (a .p .N))
 
 no-room-requires : tie.Need-no-room-requires Inv-loop μ-loop
-no-room-requires c κs = let q = c .before .before .before .before .pre in (q .0, (q .1 .0, omega (arith, c .if1 .taken), q .1 .1))
+no-room-requires c κs =
+    let q = c .before .before .before .before .pre in
+    (q .0, (q .1 .0, omega (arith, c .if1 .taken), q .1 .1))
 
 returns : tie.Need-returns Inv-loop μ-loop
 returns c im h =
     let a = c .before .before .before .before .before .before .args in
-    let q = c .before .before .before .before .before .before .pre .1 in
-    let l = c .before .before .before .before .loop in
-    sym (any-found (overBy (a .p) (a .pointers .now) (a .d) (a .segment)) (l .e) (a .p .N) (omega (arith, c .before .before .if1 .taken)) (sym (c .before .no-room .ensures) ∙ c .if2 .taken))
+    let if1 = c .before .before .if1 in
+    let loop = c .before .before .before .before .loop in
+    let pre = c .before .before .before .before .before .before .pre in
+    let q = pre .1 in
+    let l = loop in
+    sym (any-found (overBy (a .p) (a .pointers .now) (a .d) (a .segment)) (l .e) (a .p .N) (omega (arith, if1 .taken)) (sym (c .before .no-room .ensures) ∙ c .if2 .taken))
     ∙ l .inv .1 ∙ over-view (a .p) im (a .pointers .now) h (q .0) (a .d) (a .segment) (q .1)
 
 add-e : tie.Need-add-e Inv-loop μ-loop
@@ -39,12 +44,18 @@ loop-again : tie.Need-loop-again Inv-loop μ-loop
 loop-again c =
     let a = c .before .before .before .before .before .before .args in
     let l = c .before .before .before .before .loop in
-    (omega (arith, c .before .before .if1 .taken), sym (any-passed (overBy (a .p) (a .pointers .now) (a .d) (a .segment)) (l .e) (a .p .N) (omega (arith, c .before .before .if1 .taken)) (sym (c .before .no-room .ensures) ∙ c .if2 .left)) ∙ l .inv .1)
+    let if1 = c .before .before .if1 in (
+      omega (arith, if1 .taken),
+      sym (any-passed (overBy (a .p) (a .pointers .now) (a .d) (a .segment)) (l .e) (a .p .N) (omega (arith, if1 .taken))
+          (sym (c .before .no-room .ensures) ∙ c .if2 .left))
+          ∙ l .inv .1,
+    )
 
 returns-2 : tie.Need-returns-2 Inv-loop μ-loop
 returns-2 c im h =
     let a = c .before .before .before .before .args in
-    let q = c .before .before .before .before .pre .1 in
+    let pre = c .before .before .before .before .pre in
+    let q = pre .1 in
     let l = c .before .before .loop in
     sym (any-ended (overBy (a .p) (a .pointers .now) (a .d) (a .segment)) (l .e) (a .p .N) (omega (arith, c .if1 .left)))
     ∙ l .inv .1 ∙ over-view (a .p) im (a .pointers .now) h (q .0) (a .d) (a .segment) (q .1)

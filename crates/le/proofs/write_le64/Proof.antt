@@ -31,6 +31,7 @@ same-length c = search needs
 returns : tie.Need-returns
 returns c =
     let s = c .before .before .before .before .before .before .before .before .before in
+    let write-le32 = c .before .before .before .before .before .before .write-le32 in
     let l = s .args .dst .now in
     let a = s .args .at in
     let n = s .args .n in
@@ -38,7 +39,7 @@ returns c =
     let e : length (toLe 4 n) ≡ 4 = length-toLe 4 n in
     let f : length h ≡ 4 = length-toLe 4 (n / 4294967296) in
     c .before .before .write-le322 .ensures
-    ∙ ap (λ (x : List ℕ). splice x (a + 4) h) (c .before .before .before .before .before .before .write-le32 .ensures ∙ ap (splice l a) (toLe-mod 4 n))
+    ∙ ap (λ (x : List ℕ). splice x (a + 4) h) (write-le32 .ensures ∙ ap (splice l a) (toLe-mod 4 n))
     ∙ ap (λ (x : ℕ). splice (splice l a (toLe 4 n)) (a + x) h) (sym e)
     ∙ splice-next l a (toLe 4 n) h (omega (arith, s .pre)) ∙ ap (splice l a) (sym (toLe-add 4 4 n))
 

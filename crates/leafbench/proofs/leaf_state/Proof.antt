@@ -14,18 +14,33 @@ state-len-requires c κs = search needs
 
 returns : tie.Need-returns
 unfolding changed
-returns c = simp (ne-eqb (length (c .before .before .before .before .args .src .now)) stateLen (λ e. c .if1 .taken (e ∙ sym (c .before .state-len .ensures))))
+returns c =
+    let args = c .before .before .before .before .args in
+    simp (ne-eqb (length (args .src .now)) stateLen (λ e. c .if1 .taken (e ∙ sym (c .before .state-len .ensures))))
 
 state-len-requires-2 : tie.Need-state-len-requires-2
 state-len-requires-2 c κs = search needs
 
 returns-2 : tie.Need-returns-2
 unfolding changed
-returns-2 c = simp (eq-eqb (length (c .before .before .before .before .before .before .args .src .now)) stateLen (c .before .before .if1 .left ∙ c .before .before .before .state-len .ensures), ne-eqb (length (c .before .before .before .before .before .before .args .dst .now)) stateLen (λ e. c .if2 .taken (e ∙ sym (c .before .state-len2 .ensures))))
+returns-2 c =
+    let if1 = c .before .before .if1 in
+    let state-len = c .before .before .before .state-len in
+    let args = c .before .before .before .before .before .before .args in
+    simp (eq-eqb (length (args .src .now)) stateLen (if1 .left ∙ state-len .ensures), ne-eqb (length (args .dst .now)) stateLen (λ e. c .if2 .taken (e ∙ sym (c .before .state-len2 .ensures))))
 
 returns-3 : tie.Need-returns-3
 unfolding changed
-returns-3 c = simp (eq-eqb (length (c .before .before .before .before .before .before .before .args .src .now)) stateLen (c .before .before .before .if1 .left ∙ c .before .before .before .before .state-len .ensures), eq-eqb (length (c .before .before .before .before .before .before .before .args .dst .now)) stateLen (c .before .if2 .left ∙ c .before .before .state-len2 .ensures), le-leb 64 (c .before .before .before .before .before .before .before .args .k) (c .if3 .taken))
+returns-3 c =
+    let state-len2 = c .before .before .state-len2 in
+    let if1 = c .before .before .before .if1 in
+    let state-len = c .before .before .before .before .state-len in
+    let args = c .before .before .before .before .before .before .before .args in
+    simp (
+      eq-eqb (length (args .src .now)) stateLen (if1 .left ∙ state-len .ensures),
+      eq-eqb (length (args .dst .now)) stateLen (c .before .if2 .left ∙ state-len2 .ensures),
+      le-leb 64 (args .k) (c .if3 .taken),
+    )
 
 decode-requires : tie.Need-decode-requires
 decode-requires c κs = search needs
@@ -58,8 +73,14 @@ returns-4 : tie.Need-returns-4
 unfolding changed setCell
 returns-4 c =
     let a = c .before .before .before .before .before .before .before .before .before .before .before .before .args in
-    simp (eq-eqb (length (a .src .now)) stateLen (c .before .before .before .before .before .before .before .before .if1 .left ∙ c .before .before .before .before .before .before .before .before .before .state-len .ensures), eq-eqb (length (a .dst .now)) stateLen (c .before .before .before .before .before .before .if2 .left ∙ c .before .before .before .before .before .before .before .state-len2 .ensures), lt-leb 64 (a .k) (omega arith))
-    (c .before .before .encode .ensures ∙ ap (λ (st : State). stateBytes (setCell st (a .k) (a .v))) (c .before .before .before .before .decode .ensures))
+    let encode = c .before .before .encode in
+    let decode = c .before .before .before .before .decode in
+    let if2 = c .before .before .before .before .before .before .if2 in
+    let state-len2 = c .before .before .before .before .before .before .before .state-len2 in
+    let if1 = c .before .before .before .before .before .before .before .before .if1 in
+    let state-len = c .before .before .before .before .before .before .before .before .before .state-len in
+    simp (eq-eqb (length (a .src .now)) stateLen (if1 .left ∙ state-len .ensures), eq-eqb (length (a .dst .now)) stateLen (if2 .left ∙ state-len2 .ensures), lt-leb 64 (a .k) (omega arith))
+    (encode .ensures ∙ ap (λ (st : State). stateBytes (setCell st (a .k) (a .v))) (decode .ensures))
 
 pub leaf-state-spec : {M : Type 1} → statement M
 leaf-state-spec =

@@ -13,7 +13,9 @@ same-length : tie.Need-same-length
 same-length c = search needs
 
 returns-2 : tie.Need-returns-2
-returns-2 c = simp (eq-eqb _ _ (c .before .before .before .before .if1 .left)) (c .before .before .xor-into .ensures)
+returns-2 c =
+    let if1 = c .before .before .before .before .if1 in
+    simp (eq-eqb _ _ (if1 .left)) (c .before .before .xor-into .ensures)
 
 pub leaf-xor-spec : {M : Type 1} → statement M
 leaf-xor-spec = tie.close (tie.spec returns xor-into-requires same-length returns-2)

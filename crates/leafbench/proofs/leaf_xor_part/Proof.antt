@@ -7,13 +7,17 @@ use Rattle.leafbench.proofs.leaf_xor_part.Statement.{statement}
 use Rattle.leafbench.proofs.leaf_xor_part.Tie as tie
 
 returns : tie.Need-returns
-returns c = simp (lt-leb (c .before .before .before .args .at + length (c .before .before .before .args .src .now)) (length (c .before .before .before .args .dst .now)) (omega arith))
+returns c =
+    let args = c .before .before .before .args in
+    simp (lt-leb (args .at + length (args .src .now)) (length (args .dst .now)) (omega arith))
 
 sub-if2 : tie.Need-sub-if2
 sub-if2 c = search needs
 
 returns-2 : tie.Need-returns-2
-returns-2 c = simp (lt-leb (c .before .before .before .before .args .at + length (c .before .before .before .before .args .src .now)) (length (c .before .before .before .before .args .dst .now)) (omega arith))
+returns-2 c =
+    let args = c .before .before .before .before .args in
+    simp (lt-leb (args .at + length (args .src .now)) (length (args .dst .now)) (omega arith))
 
 xor-part-requires : tie.Need-xor-part-requires
 xor-part-requires c κs = search needs
@@ -22,7 +26,10 @@ same-length : tie.Need-same-length
 same-length c = search needs
 
 returns-3 : tie.Need-returns-3
-returns-3 c = simp (le-leb (c .before .before .before .before .before .before .before .before .args .at + length (c .before .before .before .before .before .before .before .before .args .src .now)) (length (c .before .before .before .before .before .before .before .before .args .dst .now)) (omega arith)) (c .before .before .xor-part .ensures)
+returns-3 c =
+    let xor-part = c .before .before .xor-part in
+    let args = c .before .before .before .before .before .before .before .before .args in
+    simp (le-leb (args .at + length (args .src .now)) (length (args .dst .now)) (omega arith)) (xor-part .ensures)
 
 pub leaf-xor-part-spec : {M : Type 1} → statement M
 leaf-xor-part-spec =

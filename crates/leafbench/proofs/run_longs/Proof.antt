@@ -40,7 +40,8 @@ loop-again c =
     let l = c .before .before .before .before .before .loop in
     let a = c .before .before .before .before .before .before .before .args in
     let q = c .before .before .write-be64 in
-    (omega arith, q .kept .0 ∙ l .inv .1, run-one (a .dst .now) (l .dst) (q .last .0) (l .i) (a .n) (a .first) (omega arith) (c .before .before .before .before .before .before .before .pre) (l .inv .2) (q .ensures))
+    let pre = c .before .before .before .before .before .before .before .pre in
+    (omega arith, q .kept .0 ∙ l .inv .1, run-one (a .dst .now) (l .dst) (q .last .0) (l .i) (a .n) (a .first) (omega arith) (pre) (l .inv .2) (q .ensures))
 
 same-length : tie.Need-same-length Inv-loop μ-loop
 same-length c = c .before .loop .inv .1

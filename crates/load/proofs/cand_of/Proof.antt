@@ -39,7 +39,9 @@ add-place-of c =
     let r : Ranged (a .p) = ranged (a .p) (q .0) in
     let (ps, rd, cn) = q .1 .1 in
     let e = c .before .offset-of .ensures (a .p) (segmentIn (a .p) (a .image .now) ps (a .w)) (rd .indexed) (q .1 .0 .4) (q .1 .0 .5) in
-    let l : c .before .offset-of .result < a .p .S = subst (λ (x : ℕ). x < a .p .S) (sym e) (offset-fits (a .p) (a .image .now) ps (a .w) (a .at .now) (a .k) (a .drive) (q .1 .0 .3) (q .1 .0 .5) (q .1 .0 .4) rd cn) in
+    let l : c .before .offset-of .result < a .p .S =
+    subst (λ (x : ℕ). x < a .p .S) (sym e)
+    (offset-fits (a .p) (a .image .now) ps (a .w) (a .at .now) (a .k) (a .drive) (q .1 .0 .3) (q .1 .0 .5) (q .1 .0 .4) rd cn) in
     omega (arith, l, r .stripes-high)
 
 place-of-requires : tie.Need-place-of-requires
@@ -49,7 +51,9 @@ place-of-requires c κs =
     let r : Ranged (a .p) = ranged (a .p) (q .0) in
     let (ps, rd, cn) = q .1 .1 in
     let e = c .before .offset-of .ensures (a .p) (segmentIn (a .p) (a .image .now) ps (a .w)) (rd .indexed) (q .1 .0 .4) (q .1 .0 .5) in
-    let l : c .before .offset-of .result < a .p .S = subst (λ (x : ℕ). x < a .p .S) (sym e) (offset-fits (a .p) (a .image .now) ps (a .w) (a .at .now) (a .k) (a .drive) (q .1 .0 .3) (q .1 .0 .5) (q .1 .0 .4) rd cn) in
+    let l : c .before .offset-of .result < a .p .S =
+    subst (λ (x : ℕ). x < a .p .S) (sym e)
+    (offset-fits (a .p) (a .image .now) ps (a .w) (a .at .now) (a .k) (a .drive) (q .1 .0 .3) (q .1 .0 .5) (q .1 .0 .4) rd cn) in
     let hz : c .zone-on .result < a .p .Z = subst (λ (x : ℕ). x < a .p .Z) (sym (c .zone-on .ensures ∙ zone-is (a .w .seg) (a .drive))) (q .1 .0 .2) in
     (q .0, (q .1 .0 .4, hz, data-below (a .p) r (1 + c .before .offset-of .result) (omega (arith, l))))
 
@@ -57,11 +61,15 @@ returns : tie.Need-returns
 returns c =
     let a = c .before .before .before .before .before .before .before .before .args in
     let q = c .before .before .before .before .before .before .before .before .pre in
+    let place-of = c .before .before .place-of in
+    let zone-on = c .before .before .before .zone-on in
+    let offset-of = c .before .before .before .before .offset-of in
+    let rec-of = c .before .before .before .before .before .rec-of in
     let p = a .p in
-    let o = c .before .before .before .before .offset-of .result in
-    λ ps rd es. cand-is p (viewOf p (a .image .now) ps) (a .w .gone) (a .w .seg) (a .w .base + a .k) (a .drive) (recVal (c .before .before .before .before .before .rec-of .result)) (a .serial .0) o (c .before .before .place-of .result .0)
-    (c .before .before .before .before .before .rec-of .ensures ps rd) (c .before .before .before .before .offset-of .ensures p (segmentIn p (a .image .now) ps (a .w)) (rd .indexed) (q .1 .0 .4) (q .1 .0 .5)) es
-    (c .before .before .place-of .ensures .0 ∙ ap (λ (z : ℕ). placeOf p (a .drive) z (1 + o)) (c .before .before .before .zone-on .ensures))
+    let o = offset-of .result in
+    λ ps rd es. cand-is p (viewOf p (a .image .now) ps) (a .w .gone) (a .w .seg) (a .w .base + a .k) (a .drive) (recVal (rec-of .result)) (a .serial .0) o (place-of .result .0)
+    (rec-of .ensures ps rd) (offset-of .ensures p (segmentIn p (a .image .now) ps (a .w)) (rd .indexed) (q .1 .0 .4) (q .1 .0 .5)) es
+    (place-of .ensures .0 ∙ ap (λ (z : ℕ). placeOf p (a .drive) z (1 + o)) (zone-on .ensures))
 
 pub cand-of-spec : {M : Type 1} → statement M
 cand-of-spec =

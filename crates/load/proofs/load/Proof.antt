@@ -7,7 +7,9 @@ use Rattle.load.proofs.load.Statement.{statement}
 use Rattle.load.proofs.load.Tie as tie
 
 serials-requires : tie.Need-serials-requires
-serials-requires c κs = (c .before .before .before .before .pre .0, c .before .before .before .before .pre .1 .0 .image-long)
+serials-requires c κs =
+    let pre = c .before .before .before .before .pre in
+    (pre .0, pre .1 .0 .image-long)
 
 slice-aggregate-kept : tie.Need-slice-aggregate-kept
 slice-aggregate-kept c = omega arith
@@ -15,7 +17,8 @@ slice-aggregate-kept c = omega arith
 kept-requires : tie.Need-kept-requires
 kept-requires c κs =
     let q = c .before .before .before .before .before .before .pre in
-    (q .0, (q .1 .0, c .before .serials .ensures (c .before .before .before .before .before .before .args .pointers .now) (q .1 .0 .pointers-long)))
+    let args = c .before .before .before .before .before .before .args in
+    (q .0, (q .1 .0, c .before .serials .ensures (args .pointers .now) (q .1 .0 .pointers-long)))
 
 slice-aggregate-first-unsealed : tie.Need-slice-aggregate-first-unsealed
 slice-aggregate-first-unsealed c = omega arith
@@ -23,7 +26,8 @@ slice-aggregate-first-unsealed c = omega arith
 first-unsealed-requires : tie.Need-first-unsealed-requires
 first-unsealed-requires c κs =
     let q = c .before .before .before .before .before .before .before .before .pre in
-    (q .0, (q .1 .0 .pointers-long, omega (arith, c .before .kept .ensures .0, ranged (c .before .before .before .before .before .before .before .before .args .p) (q .0) .zones-high)))
+    let args = c .before .before .before .before .before .before .before .before .args in
+    (q .0, (q .1 .0 .pointers-long, omega (arith, c .before .kept .ensures .0, ranged (args .p) (q .0) .zones-high)))
 
 slice-aggregate-greatest-serial : tie.Need-slice-aggregate-greatest-serial
 slice-aggregate-greatest-serial c = omega arith
@@ -34,7 +38,10 @@ slice-aggregate-greatest-serial-2 c = omega arith
 greatest-serial-requires : tie.Need-greatest-serial-requires
 greatest-serial-requires c κs =
     let q = c .before .before .before .before .before .before .before .before .before .before .before .pre in
-    (omega (arith, c .before .before .before .before .kept .ensures .0, ranged (c .before .before .before .before .before .before .before .before .before .before .before .args .p) (q .0) .zones-high), omega (arith, c .before .before .before .before .before .before .serials .ensures (c .before .before .before .before .before .before .before .before .before .before .before .args .pointers .now) (q .1 .0 .pointers-long) .0, ranged (c .before .before .before .before .before .before .before .before .before .before .before .args .p) (q .0) .zones-high))
+    let kept = c .before .before .before .before .kept in
+    let serials = c .before .before .before .before .before .before .serials in
+    let args = c .before .before .before .before .before .before .before .before .before .before .before .args in
+    (omega (arith, kept .ensures .0, ranged (args .p) (q .0) .zones-high), omega (arith, serials .ensures (args .pointers .now) (q .1 .0 .pointers-long) .0, ranged (args .p) (q .0) .zones-high))
 
 slice-aggregate-load-tables : tie.Need-slice-aggregate-load-tables
 slice-aggregate-load-tables c = omega arith
@@ -45,13 +52,18 @@ slice-aggregate-load-tables-2 c = omega arith
 load-tables-requires : tie.Need-load-tables-requires
 load-tables-requires c κs =
     let q = c .before .before .before .before .before .before .before .before .before .before .before .before .before .before .before .before .pre in
-    (q .0, (q .1 .0, (q .1 .1 .0, (q .1 .1 .1, (c .before .before .before .before .before .before .before .before .before .before .before .serials .ensures (c .before .before .before .before .before .before .before .before .before .before .before .before .before .before .before .before .args .pointers .now) (q .1 .0 .pointers-long), c .before .before .before .before .before .before .before .before .before .kept .ensures)))))
+    let kept = c .before .before .before .before .before .before .before .before .before .kept in
+    let serials = c .before .before .before .before .before .before .before .before .before .before .before .serials in
+    let args = c .before .before .before .before .before .before .before .before .before .before .before .before .before .before .before .before .args in
+    (q .0, (q .1 .0, (q .1 .1 .0, (q .1 .1 .1, (serials .ensures (args .pointers .now) (q .1 .0 .pointers-long), kept .ensures)))))
 
 state-of-requires : tie.Need-state-of-requires
 state-of-requires c κs =
     let q = c .before .before .before .before .before .before .before .before .before .before .before .before .before .before .before .before .before .before .before .before .before .pre in
-    let r : Ranged (c .before .before .before .before .before .before .before .before .before .before .before .before .before .before .before .before .before .before .before .before .before .args .p) = ranged (c .before .before .before .before .before .before .before .before .before .before .before .before .before .before .before .before .before .before .before .before .before .args .p) (q .0) in
-    (r .zones-high, r .stripes-high, c .before .before .before .before .load-tables .ensures .1 .0)
+    let load-tables = c .before .before .before .before .load-tables in
+    let args = c .before .before .before .before .before .before .before .before .before .before .before .before .before .before .before .before .before .before .before .before .before .args in
+    let r : Ranged (args .p) = ranged (args .p) (q .0) in
+    (r .zones-high, r .stripes-high, load-tables .ensures .1 .0)
 
 same-length : tie.Need-same-length
 same-length c = search needs
@@ -63,13 +75,19 @@ returns : tie.Need-returns
 returns c =
     let a = c .before .before .before .before .before .before .before .before .before .before .before .before .before .before .before .before .before .before .before .before .before .before .args in
     let q = c .before .before .before .before .before .before .before .before .before .before .before .before .before .before .before .before .before .before .before .before .before .before .pre in
+    let load-tables = c .before .before .before .before .before .load-tables in
+    let greatest-serial = c .before .before .before .before .before .before .before .before .before .before .greatest-serial in
+    let first-unsealed = c .before .before .before .before .before .before .before .before .before .before .before .before .before .first-unsealed in
+    let kept = c .before .before .before .before .before .before .before .before .before .before .before .before .before .before .before .kept in
+    let serials = c .before .before .before .before .before .before .before .before .before .before .before .before .before .before .before .before .before .serials in
     let v : View = viewOf (a .p) (a .image .now) (a .pointers .now) in
-    let u = c .before .before .before .before .before .before .before .before .before .before .before .before .before .first-unsealed .result in
-    let k = c .before .before .before .before .before .before .before .before .before .before .before .before .before .before .before .kept .ensures in
-    let s = c .before .before .before .before .before .before .before .before .before .before .before .before .before .before .before .before .before .serials .ensures (a .pointers .now) (q .1 .0 .pointers-long) in
-    let h = c .before .before .before .before .before .load-tables .result in
-    λ fl. memory-is (a .p) v (a .gone) (h .stamp .0) (c .before .before .before .before .before .before .before .before .before .before .greatest-serial .result .0) u (h .next) (c .state-of .result) (c .before .before .before .before .before .load-tables .last .1 .1 .1 .0) (c .before .before .before .before .before .load-tables .last .1 .1 .1 .1 .0) fl (c .before .before .before .before .before .load-tables .ensures .0)
-    (c .before .before .before .before .before .before .before .before .before .before .greatest-serial .ensures v (a .gone) k s) (opened-is (a .p) v (a .gone) u (c .before .before .before .before .before .before .before .before .before .before .before .before .before .first-unsealed .ensures .1 (a .image .now) (q .1 .0 .image-long) k)) (c .before .before .before .before .before .load-tables .ensures .1 .1) (c .state-of .ensures)
+    let u = first-unsealed .result in
+    let k = kept .ensures in
+    let s = serials .ensures (a .pointers .now) (q .1 .0 .pointers-long) in
+    let h = load-tables .result in
+    λ fl. memory-is (a .p) v (a .gone) (h .stamp .0) (greatest-serial .result .0) u (h .next) (c .state-of .result) (load-tables .last .1 .1 .1 .0)
+    (load-tables .last .1 .1 .1 .1 .0) fl (load-tables .ensures .0)
+    (greatest-serial .ensures v (a .gone) k s) (opened-is (a .p) v (a .gone) u (first-unsealed .ensures .1 (a .image .now) (q .1 .0 .image-long) k)) (load-tables .ensures .1 .1) (c .state-of .ensures)
 
 pub load-spec : {M : Type 1} → statement M
 load-spec =

@@ -29,7 +29,9 @@ index-group-requires c κs =
     (q .0 .in-range, (q .0 .whole, ((x .0, remaining-low (a .p) (viewOf (a .p) (a .image .now) (a .pointers .now)) (a .w .gone) (a .w .seg) (x .4), x .1, x .2), x .3)))
 
 group-len-requires : tie.Need-group-len-requires Inv-loop μ-loop
-group-len-requires c κs = (c .before .before .before .before .before .before .before .before .before .before .pre .0 .in-range, c .before .before .before .before .before .before .before .before .before .before .pre .1 .1 .0 .1)
+group-len-requires c κs =
+    let pre = c .before .before .before .before .before .before .before .before .before .before .pre in
+    (pre .0 .in-range, pre .1 .1 .0 .1)
 
 loop-holds : tie.Need-loop-holds Inv-loop μ-loop
 loop-holds c =
@@ -40,12 +42,16 @@ load-if-requires : tie.Need-load-if-requires Inv-loop μ-loop
 load-if-requires c κs =
     let a = c .before .before .before .before .before .before .before .before .before .before .before .before .before .before .before .args in
     let q = c .before .before .before .before .before .before .before .before .before .before .before .before .before .before .before .pre in
+    let loop-test = c .before .before .loop-test in
+    let loop = c .before .before .before .loop in
+    let group-len = c .before .before .before .before .group-len in
+    let index-group = c .before .before .before .before .before .before .before .index-group in
     let x = q .1 .1 .0 in
-    let l = c .before .before .before .loop in
+    let l = loop in
     let v : View = viewOf (a .p) (a .image .now) (a .pointers .now) in
     let cl : recsFault (a .p) (a .w .gone) (segmentIn (a .p) (a .image .now) (a .pointers .now) (a .w)) ≡ false = seg-clean (a .p) v (a .w .gone) (a .w .seg) (q .0 .clean) (x .4) in
-    let rd : Reads (a .p) (a .image .now) (a .pointers .now) (a .w) (c .before .before .before .before .before .before .before .index-group .last .1 .1 .1 .1 .0) =
-    record { long = q .0 .whole .pointers-long; full-right = x .3; indexed = c .before .before .before .before .before .before .before .index-group .ensures .1 cl } in (
+    let rd : Reads (a .p) (a .image .now) (a .pointers .now) (a .w) (index-group .last .1 .1 .1 .1 .0) =
+    record { long = q .0 .whole .pointers-long; full-right = x .3; indexed = index-group .ensures .1 cl } in (
       q .0,
       (
         q .1 .0,
@@ -53,14 +59,22 @@ load-if-requires c κs =
           (
             record {
               reads = rd;
-              long = c .before .before .before .before .before .before .before .index-group .kept .1 .1 .1 .1 .0 ∙ x .0;
+              long = index-group .kept .1 .1 .1 .1 .0 ∙ x .0;
               base-low = x .1;
-              stripe-in = subst (λ (n : ℕ). l .k < n) (c .before .before .before .before .group-len .ensures .0) (c .before .before .loop-test .taken);
+              stripe-in = subst (λ (n : ℕ). l .k < n) (group-len .ensures .0) (loop-test .taken);
               remains = x .4;
             },
-            omega (arith, walked-low (a .p) v (a .w .gone) (a .w .seg) (upFrom (a .w .base) (l .k)) (a .addresses .now) (l .addresses) (a .t .stamp .0) (l .next .stamp .0) (a .t .counted) (l .next .counted) (l .inv .2), length-upFrom (a .w .base) (l .k), x .5),
+            omega (
+              arith,
+              walked-low (a .p) v (a .w .gone) (a .w .seg) (upFrom (a .w .base) (l .k)) (a .addresses .now) (l .addresses) (a .t .stamp .0)
+                  (l .next .stamp .0) (a .t .counted) (l .next .counted) (l .inv .2),
+              length-upFrom (a .w .base) (l .k),
+              x .5,
+            ),
           ),
-          tells-known (a .p) v (a .w .gone) (a .addresses .now) (l .addresses) (walkCands (a .p) (a .w .gone) (segmentIn (a .p) (a .image .now) (a .pointers .now) (a .w)) (upFrom (a .w .base) (l .k))) (l .inv .2 .tells) (q .1 .1 .1),
+          tells-known (a .p) v (a .w .gone) (a .addresses .now) (l .addresses)
+              (walkCands (a .p) (a .w .gone) (segmentIn (a .p) (a .image .now) (a .pointers .now) (a .w)) (upFrom (a .w .base) (l .k)))
+              (l .inv .2 .tells) (q .1 .1 .1),
         ),
       ),
     )
@@ -75,17 +89,23 @@ loop-again : tie.Need-loop-again Inv-loop μ-loop
 loop-again c =
     let a = c .before .before .before .before .before .before .before .before .before .before .before .before .before .before .before .before .before .before .args in
     let l = c .before .before .before .before .before .before .loop in
+    let load-if = c .before .before .load-if in
+    let loop-test = c .before .before .before .before .before .loop-test in
     let v : View = viewOf (a .p) (a .image .now) (a .pointers .now) in (
-      omega (arith, c .before .before .before .before .before .loop-test .taken),
-      c .before .before .load-if .kept .1 .1 .1 .0 ∙ l .inv .1,
-      walked-turn (a .p) v (a .w .gone) (a .w .seg) (a .w .base) (l .k) (a .addresses .now) (l .addresses) (c .before .before .load-if .last .1 .1 .1 .0) (a .t .stamp .0) (l .next .stamp .0) (c .before .before .load-if .result .stamp .0) (a .t .counted) (l .next .counted) (c .before .before .load-if .result .counted) (l .inv .2) (c .before .before .load-if .ensures),
+      omega (arith, loop-test .taken),
+      load-if .kept .1 .1 .1 .0 ∙ l .inv .1,
+      walked-turn (a .p) v (a .w .gone) (a .w .seg) (a .w .base) (l .k) (a .addresses .now) (l .addresses) (load-if .last .1 .1 .1 .0)
+          (a .t .stamp .0) (l .next .stamp .0) (load-if .result .stamp .0) (a .t .counted) (l .next .counted) (load-if .result .counted) (l .inv .2)
+          (load-if .ensures),
     )
 
 same-length : tie.Need-same-length Inv-loop μ-loop
 same-length c = c .before .loop .inv .1
 
 same-length-2 : tie.Need-same-length-2 Inv-loop μ-loop
-same-length-2 c = c .before .before .before .before .before .index-group .kept .1 .1 .1 .1 .0
+same-length-2 c =
+    let index-group = c .before .before .before .before .before .index-group in
+    index-group .kept .1 .1 .1 .1 .0
 
 returns : tie.Need-returns Inv-loop μ-loop
 returns c =
@@ -93,7 +113,8 @@ returns c =
     let l = c .before .loop in
     let v : View = viewOf (a .p) (a .image .now) (a .pointers .now) in
     let e : l .k ≡ groupLen (a .p) (a .w .base) = omega (arith, c .loop-test .left, c .before .before .group-len .ensures .0, l .inv .0) in
-    subst (λ (x : ℕ). Walked (a .p) v (a .w .gone) (a .w .seg) (upFrom (a .w .base) x) (a .addresses .now) (l .addresses) (a .t .stamp .0) (l .next .stamp .0) (a .t .counted) (l .next .counted)) e (l .inv .2)
+    subst (λ (x : ℕ). Walked (a .p) v (a .w .gone) (a .w .seg) (upFrom (a .w .base) x) (a .addresses .now) (l .addresses) (a .t .stamp .0)
+    (l .next .stamp .0) (a .t .counted) (l .next .counted)) e (l .inv .2)
 
 pub load-group-spec : {M : Type 1} → statement M
 load-group-spec =

@@ -55,33 +55,50 @@ load-group-requires c κs =
     let a = c .before .before .before .before .before .before .before .before .before .before .before .args in
     let q = c .before .before .before .before .before .before .before .before .before .before .before .pre in
     let l = c .before .before .before .before .loop in
-    (q .0, (q .1 .0, ((l .inv .1, c .before .before .if1 .taken, l .inv .2, c .before .before .before .before .before .is-sealed .ensures (a .image .now) (q .0 .whole .image-long), q .1 .1 .0, l .inv .4), l .inv .5)))
+    let if1 = c .before .before .if1 in
+    let is-sealed = c .before .before .before .before .before .is-sealed in
+    (q .0, (q .1 .0, ((l .inv .1, if1 .taken, l .inv .2, is-sealed .ensures (a .image .now) (q .0 .whole .image-long), q .1 .1 .0, l .inv .4), l .inv .5)))
 
 add-base : tie.Need-add-base Inv-loop μ-loop
-add-base c = omega (arith, c .before .before .before .before .before .before .before .before .before .loop .inv .3, ranged (c .before .before .before .before .before .before .before .before .before .before .before .before .before .before .before .before .args .p) (c .before .before .before .before .before .before .before .before .before .before .before .before .before .before .before .before .pre .0 .in-range) .group-high)
+add-base c =
+    let loop = c .before .before .before .before .before .before .before .before .before .loop in
+    let entry = c .before .before .before .before .before .before .before .before .before .before .before .before .before .before .before .before in
+    let args = entry .args in
+    let pre = entry .pre in
+    omega (arith, loop .inv .3, ranged (args .p) (pre .0 .in-range) .group-high)
 
 loop-less : tie.Need-loop-less Inv-loop μ-loop
-loop-less c = omega (arith, c .before .before .before .before .before .before .before .if1 .taken, ranged (c .before .before .before .before .before .before .before .before .before .before .before .before .before .before .before .before .args .p) (c .before .before .before .before .before .before .before .before .before .before .before .before .before .before .before .before .pre .0 .in-range) .group-low)
+loop-less c =
+    let if1 = c .before .before .before .before .before .before .before .if1 in
+    let entry = c .before .before .before .before .before .before .before .before .before .before .before .before .before .before .before .before in
+    let args = entry .args in
+    let pre = entry .pre in
+    omega (arith, if1 .taken, ranged (args .p) (pre .0 .in-range) .group-low)
 
 loop-again : tie.Need-loop-again Inv-loop μ-loop
 loop-again c =
     let a = c .before .before .before .before .before .before .before .before .before .before .before .before .before .before .before .before .args in
     let q = c .before .before .before .before .before .before .before .before .before .before .before .before .before .before .before .before .pre in
     let l = c .before .before .before .before .before .before .before .before .before .loop in
+    let load-group = c .before .before .before .before .load-group in
+    let if1 = c .before .before .before .before .before .before .before .if1 in
     let r : Ranged (a .p) = ranged (a .p) (q .0 .in-range) in
     let v : View = viewOf (a .p) (a .image .now) (a .pointers .now) in
     let gs : List ℕ = upFrom (l .base) (groupLen (a .p) (l .base)) in
-    let w = c .before .before .before .before .load-group .ensures in
-    let tb = c .before .before .before .before .load-group .last .1 .1 .1 .0 in
-    let n = walked-low (a .p) v (a .gone) (a .seg) gs (l .addresses) tb (l .t .stamp .0) (c .before .before .before .before .load-group .result .stamp .0) (l .t .counted) (c .before .before .before .before .load-group .result .counted) w in (
-      c .before .before .before .before .load-group .kept .1 .1 .1 .0 ∙ l .inv .0,
-      c .before .before .before .before .load-group .kept .1 .1 .1 .1 .1 .1 .1 .0 ∙ l .inv .1,
+    let w = load-group .ensures in
+    let tb = load-group .last .1 .1 .1 .0 in
+    let n = walked-low (a .p) v (a .gone) (a .seg) gs (l .addresses) tb (l .t .stamp .0) (load-group .result .stamp .0) (l .t .counted) (load-group .result .counted) w in (
+      load-group .kept .1 .1 .1 .0 ∙ l .inv .0,
+      load-group .kept .1 .1 .1 .1 .1 .1 .1 .0 ∙ l .inv .1,
       bases-turn (a .p) (l .base) (r .group-low) (l .inv .2),
-      omega (arith, c .before .before .before .before .before .before .before .if1 .taken, r .stripes-high, r .group-high),
+      omega (arith, if1 .taken, r .stripes-high, r .group-high),
       omega (arith, n, length-upFrom (l .base) (groupLen (a .p) (l .base)), group-len-le (a .p) (l .base), l .inv .4),
       tells-known (a .p) v (a .gone) (l .addresses) tb (walkCands (a .p) (a .gone) (segmentOf (a .p) v (a .gone) (a .seg)) gs) (w .tells) (l .inv .5),
-      λ tb″ m″ n″ x. l .inv .6 tb″ m″ n″ (subst (λ (y : List ℕ). Walked (a .p) v (a .gone) (a .seg) y (l .addresses) tb″ (l .t .stamp .0) m″ (l .t .counted) n″) (sym (stripes-step (a .p) (l .base) (c .before .before .before .before .before .before .before .if1 .taken)))
-          (walked-join (a .p) v (a .gone) (a .seg) gs (upFrom (l .base + a .p .G) (a .p .S - (l .base + a .p .G))) (l .addresses) tb tb″ (l .t .stamp .0) (c .before .before .before .before .load-group .result .stamp .0) m″ (l .t .counted) (c .before .before .before .before .load-group .result .counted) n″ w x)),
+      λ tb″ m″ n″ x. l .inv .6 tb″ m″ n″ (subst
+          (λ (y : List ℕ). Walked (a .p) v (a .gone) (a .seg) y (l .addresses) tb″ (l .t .stamp .0) m″ (l .t .counted) n″)
+          (sym (stripes-step (a .p) (l .base) (if1 .taken)))
+          (walked-join (a .p) v (a .gone) (a .seg) gs (upFrom (l .base + a .p .G) (a .p .S - (l .base + a .p .G))) (l .addresses) tb tb″
+          (l .t .stamp .0) (load-group .result .stamp .0) m″ (l .t .counted) (load-group .result .counted) n″ w x)),
     )
 
 same-length : tie.Need-same-length Inv-loop μ-loop
@@ -93,7 +110,8 @@ returns c =
     let l = c .before .before .loop in
     let v : View = viewOf (a .p) (a .image .now) (a .pointers .now) in
     l .inv .6 (l .addresses) (l .t .stamp .0) (l .t .counted)
-    (subst (λ (y : List ℕ). Walked (a .p) v (a .gone) (a .seg) y (l .addresses) (l .addresses) (l .t .stamp .0) (l .t .stamp .0) (l .t .counted) (l .t .counted)) (sym (upFrom-end (l .base) (a .p .S) (omega (arith, c .if1 .left))))
+    (subst (λ (y : List ℕ). Walked (a .p) v (a .gone) (a .seg) y (l .addresses) (l .addresses) (l .t .stamp .0) (l .t .stamp .0) (l .t .counted)
+    (l .t .counted)) (sym (upFrom-end (l .base) (a .p .S) (omega (arith, c .if1 .left))))
     (walked-none (a .p) v (a .gone) (a .seg) (l .addresses) (l .t .stamp .0) (l .t .counted)))
 
 pub load-groups-spec : {M : Type 1} → statement M

@@ -33,9 +33,11 @@ load-stripe-requires : tie.Need-load-stripe-requires
 load-stripe-requires c κs =
     let a = c .before .before .before .before .before .before .before .before .before .before .args in
     let q = c .before .before .before .before .before .before .before .before .before .before .pre in
+    let if1 = c .before .before .if1 in
+    let counts′ = c .before .before .before .counts in
     let k = q .1 .1 .0 .0 in
     let g : Segment = segmentIn (a .p) (a .image .now) (a .pointers .now) (a .w) in
-    let e : counts (a .p) (a .w .gone) g (a .w .base + a .k) ≡ true = sym (c .before .before .before .counts .ensures g (a .w .base) (k .reads .indexed) (k .stripe-in)) ∙ not-false (c .before .before .before .counts .result) (c .before .before .if1 .left) in
+    let e : counts (a .p) (a .w .gone) g (a .w .base + a .k) ≡ true = sym (counts′ .ensures g (a .w .base) (k .reads .indexed) (k .stripe-in)) ∙ not-false (counts′ .result) (if1 .left) in
     (q .0, (q .1 .0, (record { index = k; it-counts = e }, q .1 .1 .1)))
 
 add-t17 : tie.Need-add-t17
@@ -52,11 +54,15 @@ returns-2 : tie.Need-returns-2
 returns-2 c =
     let a = c .before .before .before .before .before .before .before .before .before .before .before .before .before .before .args in
     let q = c .before .before .before .before .before .before .before .before .before .before .before .before .before .before .pre in
+    let load-stripe = c .before .before .before .load-stripe in
+    let if1 = c .before .before .before .before .before .before .if1 in
+    let counts′ = c .before .before .before .before .before .before .before .counts in
     let k = q .1 .1 .0 .0 in
     let v : View = viewOf (a .p) (a .image .now) (a .pointers .now) in
     let g : Segment = segmentIn (a .p) (a .image .now) (a .pointers .now) (a .w) in
-    let e : counts (a .p) (a .w .gone) g (a .w .base + a .k) ≡ true = sym (c .before .before .before .before .before .before .before .counts .ensures g (a .w .base) (k .reads .indexed) (k .stripe-in)) ∙ not-false (c .before .before .before .before .before .before .before .counts .result) (c .before .before .before .before .before .before .if1 .left) in
-    walked-hit (a .p) v (a .w .gone) (a .w .seg) (a .w .base + a .k) (a .addresses .now) (c .before .before .before .load-stripe .last .1 .1 .1 .0) (a .t .stamp .0) (c .before .before .before .load-stripe .result .0) (a .t .counted) e (c .before .before .before .load-stripe .ensures .0) (c .before .before .before .load-stripe .ensures .1)
+    let e : counts (a .p) (a .w .gone) g (a .w .base + a .k) ≡ true = sym (counts′ .ensures g (a .w .base) (k .reads .indexed) (k .stripe-in)) ∙ not-false (counts′ .result) (if1 .left) in
+    walked-hit (a .p) v (a .w .gone) (a .w .seg) (a .w .base + a .k) (a .addresses .now) (load-stripe .last .1 .1 .1 .0) (a .t .stamp .0)
+    (load-stripe .result .0) (a .t .counted) e (load-stripe .ensures .0) (load-stripe .ensures .1)
 
 pub load-if-spec : {M : Type 1} → statement M
 load-if-spec =

@@ -27,19 +27,25 @@ loop-holds c =
     (omega arith, refl, toured-none (a .p) (viewOf (a .p) (a .image .now) (a .pointers .now)) (a .gone) (a .addresses .now) 0, omega arith, λ l. absurd (let q : ⊥ = omega arith in q))
 
 shared-slice-read-load-segment : tie.Need-shared-slice-read-load-segment Inv-loop μ-loop
-shared-slice-read-load-segment c = omega (arith, c .before .before .if1 .taken, c .before .before .before .before .before .before .before .before .before .before .before .pre .1 .1 .0 .0, ranged (c .before .before .before .before .before .before .before .before .before .before .before .args .p) (c .before .before .before .before .before .before .before .before .before .before .before .pre .0 .in-range) .zones-high)
+shared-slice-read-load-segment c =
+    let if1 = c .before .before .if1 in
+    let entry = c .before .before .before .before .before .before .before .before .before .before .before in
+    let args = entry .args in
+    let pre = entry .pre in
+    omega (arith, if1 .taken, pre .1 .1 .0 .0, ranged (args .p) (pre .0 .in-range) .zones-high)
 
 load-segment-requires : tie.Need-load-segment-requires Inv-loop μ-loop
 load-segment-requires c κs =
     let a = c .before .before .before .before .before .before .before .before .before .before .before .args in
     let q = c .before .before .before .before .before .before .before .before .before .before .before .pre in
     let l = c .before .before .before .before .loop in
+    let if1 = c .before .before .if1 in
     let v : View = viewOf (a .p) (a .image .now) (a .pointers .now) in (
       q .0,
       (
         q .1 .0,
         (
-          (c .before .before .if1 .taken, kept-is (a .p) v (a .gone) (l .g) (getD (a .kept .now) (l .g) false) (q .1 .1 .0 .1 (l .g) (c .before .before .if1 .taken))),
+          (if1 .taken, kept-is (a .p) v (a .gone) (l .g) (getD (a .kept .now) (l .g) false) (q .1 .1 .0 .1 (l .g) (if1 .taken))),
           tells-known (a .p) v (a .gone) (a .addresses .now) (l .addresses) (tourCands (a .p) v (a .gone) (below (l .g))) (l .inv .2 .tells) (q .1 .1 .1),
         ),
       ),
@@ -56,15 +62,17 @@ loop-again c =
     let a = c .before .before .before .before .before .before .before .before .before .before .before .before .before .before .args in
     let q = c .before .before .before .before .before .before .before .before .before .before .before .before .before .before .pre in
     let l = c .before .before .before .before .before .before .before .loop in
+    let load-segment = c .before .before .load-segment in
+    let if1 = c .before .before .before .before .before .if1 in
     let v : View = viewOf (a .p) (a .image .now) (a .pointers .now) in
     let b : Bool = getD (a .kept .now) (l .g) false in
-    let eb : b ≡ remains (a .p) v (a .gone) (l .g) = kept-is (a .p) v (a .gone) (l .g) b (q .1 .1 .0 .1 (l .g) (c .before .before .before .before .before .if1 .taken)) in
+    let eb : b ≡ remains (a .p) v (a .gone) (l .g) = kept-is (a .p) v (a .gone) (l .g) b (q .1 .1 .0 .1 (l .g) (if1 .taken)) in
     let f : ℕ → ℕ = λ x. length (counted (a .p) (a .gone) (segmentOf (a .p) v (a .gone) x)) in
-    let r = c .before .before .load-segment .result in
-    let e = c .before .before .load-segment .ensures in (
-      omega (arith, c .before .before .before .before .before .if1 .taken),
-      c .before .before .load-segment .kept .1 .1 .1 .0 ∙ l .inv .1,
-      toured-turn (a .p) v (a .gone) (l .g) (a .addresses .now) (l .addresses) (c .before .before .load-segment .last .1 .1 .1 .0) 0 (l .h .stamp .0) (r .stamp .0) (l .inv .2) (e .0),
+    let r = load-segment .result in
+    let e = load-segment .ensures in (
+      omega (arith, if1 .taken),
+      load-segment .kept .1 .1 .1 .0 ∙ l .inv .1,
+      toured-turn (a .p) v (a .gone) (l .g) (a .addresses .now) (l .addresses) (load-segment .last .1 .1 .1 .0) 0 (l .h .stamp .0) (r .stamp .0) (l .inv .2) (e .0),
       next-turn (a .p .S) (a .opened) (l .g) (f (l .g)) (l .h .next) (r .next) b (e .1) (l .inv .3) (counted-low (a .p) (a .gone) (segmentOf (a .p) v (a .gone) (l .g))),
       λ x y. next-now (a .opened) (l .g) (l .h .next) (r .next) f b (e .1) (λ z. l .inv .4 z y) (λ z. eb ∙ ap (remains (a .p) v (a .gone)) z ∙ y) x,
     )

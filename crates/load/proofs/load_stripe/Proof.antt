@@ -30,21 +30,26 @@ abbrev μ-loop : tie.MeasureT-loop
 mul-t20 : tie.Need-mul-t20 Inv-loop μ-loop
 mul-t20 c =
     let a = c .before .before .before .before .before .before .args in
-    omega (arith, standing-low (a .p) (a .image .now) (a .pointers .now) (a .w) (a .at .now) (a .k) (c .before .before .before .before .before .before .pre .1 .1 .0), ranged (a .p) (c .before .before .before .before .before .before .pre .0 .in-range) .zones-high)
+    let pre = c .before .before .before .before .before .before .pre in
+    omega (arith, standing-low (a .p) (a .image .now) (a .pointers .now) (a .w) (a .at .now) (a .k) (pre .1 .1 .0), ranged (a .p) (pre .0 .in-range) .zones-high)
 
 shared-slice-read-t22 : tie.Need-shared-slice-read-t22 Inv-loop μ-loop
 shared-slice-read-t22 c =
     let a = c .before .before .before .before .before .before .before .args in
-    omega (arith, standing-low (a .p) (a .image .now) (a .pointers .now) (a .w) (a .at .now) (a .k) (c .before .before .before .before .before .before .before .pre .1 .1 .0), ranged (a .p) (c .before .before .before .before .before .before .before .pre .0 .in-range) .zones-high, c .before .before .before .before .before .before .before .pre .1 .0 .0)
+    let pre = c .before .before .before .before .before .before .before .pre in
+    omega (arith, standing-low (a .p) (a .image .now) (a .pointers .now) (a .w) (a .at .now) (a .k) (pre .1 .1 .0), ranged (a .p) (pre .0 .in-range) .zones-high, pre .1 .0 .0)
 
 add-s : tie.Need-add-s Inv-loop μ-loop
 add-s c =
     let a = c .before .before .before .before .before .before .before .before .args in
-    let st = c .before .before .before .before .before .before .before .before .pre .1 .1 .0 in
-    omega (arith, stripe-below (a .p) (a .image .now) (a .pointers .now) (a .w) (a .at .now) (a .k) (st .index .base-low) (st .index .stripe-in), ranged (a .p) (c .before .before .before .before .before .before .before .before .pre .0 .in-range) .stripes-high)
+    let pre = c .before .before .before .before .before .before .before .before .pre in
+    let st = pre .1 .1 .0 in
+    omega (arith, stripe-below (a .p) (a .image .now) (a .pointers .now) (a .w) (a .at .now) (a .k) (st .index .base-low) (st .index .stripe-in), ranged (a .p) (pre .0 .in-range) .stripes-high)
 
 data-count-requires : tie.Need-data-count-requires Inv-loop μ-loop
-data-count-requires c κs = c .before .before .before .before .before .before .before .before .pre .0 .in-range
+data-count-requires c κs =
+    let pre = c .before .before .before .before .before .before .before .before .pre in
+    pre .0 .in-range
 
 loop-holds : tie.Need-loop-holds Inv-loop μ-loop
 loop-holds c =
@@ -59,7 +64,9 @@ loop-holds c =
     )
 
 data-drive-requires : tie.Need-data-drive-requires Inv-loop μ-loop
-data-drive-requires c κs = (c .before .before .before .before .before .before .before .before .before .before .before .pre .0 .in-range, subst (λ (x : ℕ). c .before .loop .i < x) (c .before .before .data-count .ensures .0) (c .loop-test .taken))
+data-drive-requires c κs =
+    let pre = c .before .before .before .before .before .before .before .before .before .before .before .pre in
+    (pre .0 .in-range, subst (λ (x : ℕ). c .before .loop .i < x) (c .before .before .data-count .ensures .0) (c .loop-test .taken))
 
 cand-of-requires : tie.Need-cand-of-requires Inv-loop μ-loop
 cand-of-requires c κs =
@@ -68,7 +75,14 @@ cand-of-requires c κs =
     let st = q .1 .1 .0 in (
       q .0 .in-range,
       (
-        (q .0 .whole .image-long, st .index .long, standing-low (a .p) (a .image .now) (a .pointers .now) (a .w) (a .at .now) (a .k) st, st .index .base-low, c .data-drive .ensures .1, st .index .stripe-in),
+        (
+          q .0 .whole .image-long,
+          st .index .long,
+          standing-low (a .p) (a .image .now) (a .pointers .now) (a .w) (a .at .now) (a .k) st,
+          st .index .base-low,
+          c .data-drive .ensures .1,
+          st .index .stripe-in,
+        ),
         (a .pointers .now, st .index .reads, st .it-counts),
       ),
     )
@@ -77,21 +91,26 @@ offer-requires : tie.Need-offer-requires Inv-loop μ-loop
 offer-requires c κs =
     let a = c .before .before .before .before .before .before .before .before .before .before .before .before .before .before .before .args in
     let q = c .before .before .before .before .before .before .before .before .before .before .before .before .before .before .before .pre in
+    let cand-of = c .before .before .cand-of in
+    let data-drive = c .before .before .before .data-drive in
+    let loop-test = c .before .before .before .before .loop-test in
+    let loop = c .before .before .before .before .before .loop in
+    let data-count = c .before .before .before .before .before .before .data-count in
     let st = q .1 .1 .0 in
-    let l = c .before .before .before .before .before .loop in
+    let l = loop in
     let v : View = viewOf (a .p) (a .image .now) (a .pointers .now) in
     let s = a .w .base + a .k in
     let g : Segment = segmentIn (a .p) (a .image .now) (a .pointers .now) (a .w) in
     let hz = standing-low (a .p) (a .image .now) (a .pointers .now) (a .w) (a .at .now) (a .k) st in
     let es = serial-there (a .p) v (a .w .gone) (a .w .seg) (getD (a .serials .now) (a .w .seg) 0) (q .1 .0 .1 (a .w .seg) hz) in
-    let ec : ranked (c .before .before .cand-of .result) ≡ candOf (a .p) (a .w .gone) g s (dataDrive (a .p) s (l .i)) =
-    c .before .before .cand-of .ensures (a .pointers .now) (st .index .reads) es ∙ ap (candOf (a .p) (a .w .gone) g s) (c .before .before .before .data-drive .ensures .0) in (
+    let ec : ranked (cand-of .result) ≡ candOf (a .p) (a .w .gone) g s (dataDrive (a .p) s (l .i)) =
+    cand-of .ensures (a .pointers .now) (st .index .reads) es ∙ ap (candOf (a .p) (a .w .gone) g s) (data-drive .ensures .0) in (
       q .0,
       (
         q .1 .0,
         (
-          cand-there (a .p) v (a .w .gone) (a .w .seg) s (l .i) (ranked (c .before .before .cand-of .result)) (standing-counted (a .p) (a .image .now) (a .pointers .now) (a .w) (a .at .now) (a .k) st)
-              (subst (λ (x : ℕ). l .i < x) (c .before .before .before .before .before .before .data-count .ensures .0) (c .before .before .before .before .loop-test .taken)) ec,
+          cand-there (a .p) v (a .w .gone) (a .w .seg) s (l .i) (ranked (cand-of .result)) (standing-counted (a .p) (a .image .now) (a .pointers .now) (a .w) (a .at .now) (a .k) st)
+              (subst (λ (x : ℕ). l .i < x) (data-count .ensures .0) (loop-test .taken)) ec,
           tells-known (a .p) v (a .w .gone) (a .addresses .now) (l .addresses) (firstCands (a .p) (a .w .gone) g s (l .i)) (l .inv .2) (q .1 .1 .1),
         ),
       ),
@@ -110,17 +129,24 @@ loop-again : tie.Need-loop-again Inv-loop μ-loop
 loop-again c =
     let a = c .before .before .before .before .before .before .before .before .before .before .before .before .before .before .before .before .before .before .before .args in
     let q = c .before .before .before .before .before .before .before .before .before .before .before .before .before .before .before .before .before .before .before .pre in
+    let offer = c .before .before .before .offer in
+    let cand-of = c .before .before .before .before .before .before .cand-of in
+    let data-drive = c .before .before .before .before .before .before .before .data-drive in
+    let loop-test = c .before .before .before .before .before .before .before .before .loop-test in
+    let loop = c .before .before .before .before .before .before .before .before .before .loop in
     let st = q .1 .1 .0 in
-    let l = c .before .before .before .before .before .before .before .before .before .loop in
+    let l = loop in
     let v : View = viewOf (a .p) (a .image .now) (a .pointers .now) in
     let s = a .w .base + a .k in
     let g : Segment = segmentIn (a .p) (a .image .now) (a .pointers .now) (a .w) in
     let hz = standing-low (a .p) (a .image .now) (a .pointers .now) (a .w) (a .at .now) (a .k) st in
     let es = serial-there (a .p) v (a .w .gone) (a .w .seg) (getD (a .serials .now) (a .w .seg) 0) (q .1 .0 .1 (a .w .seg) hz) in
-    let ec : ranked (c .before .before .before .before .before .before .cand-of .result) ≡ candOf (a .p) (a .w .gone) g s (dataDrive (a .p) s (l .i)) =
-    c .before .before .before .before .before .before .cand-of .ensures (a .pointers .now) (st .index .reads) es ∙ ap (candOf (a .p) (a .w .gone) g s) (c .before .before .before .before .before .before .before .data-drive .ensures .0) in
-    let t = stripe-turn (a .p) v (a .w .gone) (a .w .seg) s (l .i) (a .addresses .now) (l .addresses) (c .before .before .before .offer .last .1 .1 .1 .0) (a .stamp .0) (l .most .0) (c .greater .result .0) (ranked (c .before .before .before .before .before .before .cand-of .result)) ec (l .inv .2) (l .inv .3) (c .before .before .before .offer .ensures) (c .greater .ensures) in
-    (omega (arith, c .before .before .before .before .before .before .before .before .loop-test .taken), c .before .before .before .offer .kept .1 .1 .1 .0 ∙ l .inv .1, t .0, t .1)
+    let ec : ranked (cand-of .result) ≡ candOf (a .p) (a .w .gone) g s (dataDrive (a .p) s (l .i)) =
+    cand-of .ensures (a .pointers .now) (st .index .reads) es ∙ ap (candOf (a .p) (a .w .gone) g s) (data-drive .ensures .0) in
+    let t =
+    stripe-turn (a .p) v (a .w .gone) (a .w .seg) s (l .i) (a .addresses .now) (l .addresses) (offer .last .1 .1 .1 .0) (a .stamp .0) (l .most .0)
+    (c .greater .result .0) (ranked (cand-of .result)) ec (l .inv .2) (l .inv .3) (offer .ensures) (c .greater .ensures) in
+    (omega (arith, loop-test .taken), offer .kept .1 .1 .1 .0 ∙ l .inv .1, t .0, t .1)
 
 same-length : tie.Need-same-length Inv-loop μ-loop
 same-length c = c .before .loop .inv .1

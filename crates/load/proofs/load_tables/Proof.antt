@@ -22,9 +22,13 @@ load-segments-requires : tie.Need-load-segments-requires
 load-segments-requires c κs =
     let a = c .before .before .before .before .before .before .before .before .before .before .before .before .before .before .before .before .args in
     let q = c .before .before .before .before .before .before .before .before .before .before .before .before .before .before .before .before .pre in
+    let clear-table = c .before .before .before .before .clear-table in
+    let compacts = c .before .before .before .before .before .before .before .before .compacts in
     let v : View = viewOf (a .p) (a .image .now) (a .pointers .now) in
-    let e : c .before .before .before .before .clear-table .last .0 ≡ replicate (addressesLen (a .p)) 255 = c .before .before .before .before .clear-table .ensures ∙ ap (λ (n : ℕ). replicate {A = ℕ} n 255) (q .1 .1 .0 .0) in
-    (record { in-range = q .0; whole = q .1 .0; clean = q .1 .1 .1 .0; compact = c .before .before .before .before .before .before .before .before .compacts .ensures }, (q .1 .1 .1 .1 .0, (q .1 .1 .1 .1 .1, ([], nothing-told (a .p) v (a .gone) (c .before .before .before .before .clear-table .last .0) e))))
+    let e : clear-table .last .0 ≡ replicate (addressesLen (a .p)) 255 = clear-table .ensures ∙ ap (λ (n : ℕ). replicate {A = ℕ} n 255) (q .1 .1 .0 .0) in (
+      record { in-range = q .0; whole = q .1 .0; clean = q .1 .1 .1 .0; compact = compacts .ensures },
+      (q .1 .1 .1 .1 .0, (q .1 .1 .1 .1 .1, ([], nothing-told (a .p) v (a .gone) (clear-table .last .0) e))),
+    )
 
 same-length : tie.Need-same-length
 same-length c = search needs
@@ -36,10 +40,13 @@ returns : tie.Need-returns
 returns c =
     let a = c .before .before .before .before .before .before .before .before .before .before .before .before .before .before .before .before .before .before .before .args in
     let q = c .before .before .before .before .before .before .before .before .before .before .before .before .before .before .before .before .before .before .before .pre in
+    let load-segments = c .before .before .load-segments in
+    let clear-table = c .before .before .before .before .before .before .before .clear-table in
+    let compacts = c .before .before .before .before .before .before .before .before .before .before .before .compacts in
     let v : View = viewOf (a .p) (a .image .now) (a .pointers .now) in
-    let e : c .before .before .before .before .before .before .before .clear-table .last .0 ≡ replicate (addressesLen (a .p)) 255 = c .before .before .before .before .before .before .before .clear-table .ensures ∙ ap (λ (n : ℕ). replicate {A = ℕ} n 255) (q .1 .1 .0 .0) in
-    let t = toured-all (a .p) v (a .gone) (c .before .before .before .before .before .before .before .clear-table .last .0) (c .before .before .load-segments .last .1 .1 .1 .0) (c .before .before .load-segments .result .stamp .0) e (c .before .before .load-segments .ensures .0) in
-    (record { addresses = t .0; compact = c .before .before .before .before .before .before .before .before .before .before .before .compacts .ensures; most = t .1 }, c .before .before .load-segments .ensures .1)
+    let e : clear-table .last .0 ≡ replicate (addressesLen (a .p)) 255 = clear-table .ensures ∙ ap (λ (n : ℕ). replicate {A = ℕ} n 255) (q .1 .1 .0 .0) in
+    let t = toured-all (a .p) v (a .gone) (clear-table .last .0) (load-segments .last .1 .1 .1 .0) (load-segments .result .stamp .0) e (load-segments .ensures .0) in
+    (record { addresses = t .0; compact = compacts .ensures; most = t .1 }, load-segments .ensures .1)
 
 pub load-tables-spec : {M : Type 1} → statement M
 load-tables-spec =

@@ -46,8 +46,11 @@ idle-state-requires-3 c κs = search needs
 returns-3 : tie.Need-returns-3
 returns-3 c =
     let a = c .before .before .before .before .before .before .args in
+    let if1 = c .before .before .before .before .if1 in
     let b = eqb (a .gone) 0 && ltb (a .opened) (a .p .Z) in
-    let e : eqb (a .gone) 0 && ltb (a .opened) (a .p .Z) ≡ true = and-both (eqb (a .gone) 0) (ltb (a .opened) (a .p .Z)) (eq-eqb (a .gone) 0 (c .before .before .before .before .if1 .left)) (lt-ltb (a .opened) (a .p .Z) (c .before .before .if2 .left)) in
+    let e : eqb (a .gone) 0 && ltb (a .opened) (a .p .Z) ≡ true =
+    and-both (eqb (a .gone) 0) (ltb (a .opened) (a .p .Z)) (eq-eqb (a .gone) 0 (if1 .left))
+    (lt-ltb (a .opened) (a .p .Z) (c .before .before .if2 .left)) in
     c .idle-state3 .ensures ∙ ap₂ (idleState 1 (a .gone) (a .h .stamp .0) (a .serial .0)) (sym (cond-true b (a .opened + 1) 0 e)) (sym (cond-true b (a .h .next) 0 e))
 
 pub state-of-spec : {M : Type 1} → statement M

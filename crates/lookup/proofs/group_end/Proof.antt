@@ -14,7 +14,10 @@ returns c =
     ((λ o. none-below (a .first + a .p .G) (a .p .S) (a .pointer) o (c .if1 .taken)), (omega arith, omega arith))
 
 add-lower : tie.Need-add-lower
-add-lower c = omega (arith, ranged (c .before .before .args .p) (c .before .before .pre .0) .group-high, ranged (c .before .before .args .p) (c .before .before .pre .0) .stripes-high)
+add-lower c =
+    let args = c .before .before .args in
+    let pre = c .before .before .pre in
+    omega (arith, ranged (args .p) (pre .0) .group-high, ranged (args .p) (pre .0) .stripes-high)
 
 lower-requires : tie.Need-lower-requires
 lower-requires c κs = search needs

@@ -25,7 +25,9 @@ has-drive-requires c κs = search needs
 returns-3 : tie.Need-returns-3
 returns-3 c =
     let a = c .before .before .before .before .before .before .args in
-    sym (bad-data (a .p) (pointerOf (a .p) (a .pointers .now) (a .drive) (a .zone)) (a .gone) (a .drive) (a .block) (omega (arith, c .before .before .before .before .if1 .left)) (omega (arith, c .before .before .if2 .left)) true (sym (c .before .has-drive .ensures) ∙ c .if3 .taken))
+    let if1 = c .before .before .before .before .if1 in
+    sym (bad-data (a .p) (pointerOf (a .p) (a .pointers .now) (a .drive) (a .zone)) (a .gone) (a .drive) (a .block) (omega (arith, if1 .left))
+    (omega (arith, c .before .before .if2 .left)) true (sym (c .before .has-drive .ensures) ∙ c .if3 .taken))
 
 pointer-requires : tie.Need-pointer-requires
 pointer-requires c κs = search needs
@@ -36,8 +38,12 @@ cast-result c = search needs
 returns-4 : tie.Need-returns-4
 returns-4 c =
     let a = c .before .before .before .before .before .before .before .args in
+    let has-drive = c .before .before .has-drive in
+    let if2 = c .before .before .before .if2 in
+    let if1 = c .before .before .before .before .before .if1 in
     ap (λ (x : ℕ). leb x (a .block)) (c .pointer .ensures)
-    ∙ sym (bad-data (a .p) (pointerOf (a .p) (a .pointers .now) (a .drive) (a .zone)) (a .gone) (a .drive) (a .block) (omega (arith, c .before .before .before .before .before .if1 .left)) (omega (arith, c .before .before .before .if2 .left)) false (sym (c .before .before .has-drive .ensures) ∙ c .before .if3 .left))
+    ∙ sym (bad-data (a .p) (pointerOf (a .p) (a .pointers .now) (a .drive) (a .zone)) (a .gone) (a .drive) (a .block) (omega (arith, if1 .left))
+    (omega (arith, if2 .left)) false (sym (has-drive .ensures) ∙ c .before .if3 .left))
 
 pub is-bad-spec : {M : Type 1} → statement M
 is-bad-spec =

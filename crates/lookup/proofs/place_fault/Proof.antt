@@ -18,8 +18,12 @@ place-block-requires c κs = search needs
 returns : tie.Need-returns
 returns c =
     let a = c .before .before .before .before .before .before .args in
-    λ im h. fault-outside (a .p) im (a .pointers .now) (a .gone) (a .q .0) h (c .before .before .before .before .before .before .pre .1) (c .before .before .before .before .place-drive .result) (c .before .before .before .place-zone .result) (c .before .before .place-block .result)
-    (c .before .before .before .before .place-drive .ensures .0) (c .before .before .before .place-zone .ensures .0) (c .before .before .place-block .ensures .0) (omega (arith, ranged (a .p) (c .before .before .before .before .before .before .pre .0) .zones-low)) (c .if1 .taken)
+    let place-block = c .before .before .place-block in
+    let place-zone = c .before .before .before .place-zone in
+    let place-drive = c .before .before .before .before .place-drive in
+    let pre = c .before .before .before .before .before .before .pre in
+    λ im h. fault-outside (a .p) im (a .pointers .now) (a .gone) (a .q .0) h (pre .1) (place-drive .result) (place-zone .result) (place-block .result)
+    (place-drive .ensures .0) (place-zone .ensures .0) (place-block .ensures .0) (omega (arith, ranged (a .p) (pre .0) .zones-low)) (c .if1 .taken)
 
 is-bad-requires : tie.Need-is-bad-requires
 is-bad-requires c κs = search needs
@@ -27,15 +31,25 @@ is-bad-requires c κs = search needs
 returns-2 : tie.Need-returns-2
 returns-2 c =
     let a = c .before .before .before .before .before .before .before .before .args in
-    λ im h. fault-bad (a .p) im (a .pointers .now) (a .gone) (a .q .0) h (c .before .before .before .before .before .before .before .before .pre .1) (c .before .before .before .before .before .before .place-drive .result) (c .before .before .before .before .before .place-zone .result) (c .before .before .before .before .place-block .result)
-    (c .before .before .before .before .before .before .place-drive .ensures .0) (c .before .before .before .before .before .place-zone .ensures .0) (c .before .before .before .before .place-block .ensures .0) (omega (arith, c .before .before .if1 .left)) (c .before .before .before .before .before .place-zone .ensures .1)
+    let if1 = c .before .before .if1 in
+    let place-block = c .before .before .before .before .place-block in
+    let place-zone = c .before .before .before .before .before .place-zone in
+    let place-drive = c .before .before .before .before .before .before .place-drive in
+    let pre = c .before .before .before .before .before .before .before .before .pre in
+    λ im h. fault-bad (a .p) im (a .pointers .now) (a .gone) (a .q .0) h (pre .1) (place-drive .result) (place-zone .result) (place-block .result)
+    (place-drive .ensures .0) (place-zone .ensures .0) (place-block .ensures .0) (omega (arith, if1 .left)) (place-zone .ensures .1)
     (sym (c .before .is-bad .ensures) ∙ c .if2 .taken)
 
 returns-3 : tie.Need-returns-3
 returns-3 c =
     let a = c .before .before .before .before .before .before .before .before .args in
-    λ im h. fault-none (a .p) im (a .pointers .now) (a .gone) (a .q .0) h (c .before .before .before .before .before .before .before .before .pre .1) (c .before .before .before .before .before .before .place-drive .result) (c .before .before .before .before .before .place-zone .result) (c .before .before .before .before .place-block .result)
-    (c .before .before .before .before .before .before .place-drive .ensures .0) (c .before .before .before .before .before .place-zone .ensures .0) (c .before .before .before .before .place-block .ensures .0) (omega (arith, c .before .before .if1 .left)) (c .before .before .before .before .before .place-zone .ensures .1)
+    let if1 = c .before .before .if1 in
+    let place-block = c .before .before .before .before .place-block in
+    let place-zone = c .before .before .before .before .before .place-zone in
+    let place-drive = c .before .before .before .before .before .before .place-drive in
+    let pre = c .before .before .before .before .before .before .before .before .pre in
+    λ im h. fault-none (a .p) im (a .pointers .now) (a .gone) (a .q .0) h (pre .1) (place-drive .result) (place-zone .result) (place-block .result)
+    (place-drive .ensures .0) (place-zone .ensures .0) (place-block .ensures .0) (omega (arith, if1 .left)) (place-zone .ensures .1)
     (sym (c .before .is-bad .ensures) ∙ c .if2 .left)
 
 pub place-fault-spec : {M : Type 1} → statement M

@@ -20,7 +20,9 @@ same-length c = search needs
 
 returns : tie.Need-returns
 unfolding withMark
-returns c = ap (set (c .before .before .before .args .marks .now) (c .before .before .before .args .k / 8)) (c .with-drive .ensures)
+returns c =
+    let args = c .before .before .before .args in
+    ap (set (args .marks .now) (args .k / 8)) (c .with-drive .ensures)
 
 pub add-mark-spec : {M : Type 1} → statement M
 add-mark-spec =

@@ -39,13 +39,17 @@ add-result-2 c = search needs
 returns-2 : tie.Need-returns-2
 returns-2 c =
     let s = c .before .before .before .before .before .args in
+    let count-few2 = c .before .before .count-few2 in
+    let if1 = c .before .before .before .if1 in
     let f : ℕ → Bool = marked (s .marks .now) in
     let a : ℕ = (s .lo + 7) / 8 in
     let b : ℕ = s .hi / 8 in
-    let h = c .before .before .before .if1 .left in
+    let h = if1 .left in
     let e = kept-split f (s .lo) (8 * a) (s .hi) (omega arith) (omega arith) in
-    let g = kept-split f (8 * a) (8 * b) (s .hi) (omega arith) (omega arith) in
-    (omega (arith, c .count-few3 .ensures .0, c .before .count-bytes .ensures .0, c .before .before .count-few2 .ensures .0, e, g), omega (arith, c .count-few3 .ensures .1, c .before .count-bytes .ensures .1, c .before .before .count-few2 .ensures .1))
+    let g = kept-split f (8 * a) (8 * b) (s .hi) (omega arith) (omega arith) in (
+      omega (arith, c .count-few3 .ensures .0, c .before .count-bytes .ensures .0, count-few2 .ensures .0, e, g),
+      omega (arith, c .count-few3 .ensures .1, c .before .count-bytes .ensures .1, count-few2 .ensures .1),
+    )
 
 pub count-marks-spec : {M : Type 1} → statement M
 count-marks-spec =

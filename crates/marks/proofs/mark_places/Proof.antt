@@ -9,7 +9,8 @@ use Rattle.marks.proofs.mark_places.Statement.{statement}
 use Rattle.marks.proofs.mark_places.Tie as tie
 
 abbrev Inv-loop : tie.InvT-loop
-Inv-loop addresses n marks₀ first end a₀ marks a = (a ≤ n) × (length marks ≡ length marks₀) × ((q : ℕ) → first ≤ q → q < end → marked marks (q - first) ≡ (isPointed addresses a q || marked marks₀ (q - first)))
+Inv-loop addresses n marks₀ first end a₀ marks a =
+    (a ≤ n) × (length marks ≡ length marks₀) × ((q : ℕ) → first ≤ q → q < end → marked marks (q - first) ≡ (isPointed addresses a q || marked marks₀ (q - first)))
 
 abbrev μ-loop : tie.MeasureT-loop
 μ-loop addresses n marks₀ first end a₀ marks a = n - a
@@ -38,12 +39,16 @@ loop-again : tie.Need-loop-again Inv-loop μ-loop
 loop-again c =
     let s = c .before .before .before .before .before .before .before .before .before .before .args in
     let l = c .before .before .before .before .before .before .before .loop in
+    let mark-place = c .before .before .mark-place in
+    let whole = c .before .before .before .before .whole in
+    let place-at = c .before .before .before .before .before .place-at in
+    let pre = c .before .before .before .before .before .before .before .before .before .before .pre in
     let tb = s .addresses .now in
-    let e = c .before .before .before .before .whole .ensures ∙ c .before .before .before .before .before .place-at .ensures in (
+    let e = whole .ensures ∙ place-at .ensures in (
       omega arith,
-      c .before .before .mark-place .kept .0 ∙ l .inv .1,
-      turned tb (l .a) (s .marks .now) (l .marks) (c .before .before .mark-place .last .0) (s .first) (s .end) (omega (arith, c .before .before .before .before .before .before .before .before .before .before .pre, l .inv .1)) (l .inv .2)
-          (c .before .before .mark-place .ensures ∙ ap (λ (x : ℕ). cond (isWithin (s .first) (s .end) x) (withMark (l .marks) (x - s .first)) (l .marks)) e),
+      mark-place .kept .0 ∙ l .inv .1,
+      turned tb (l .a) (s .marks .now) (l .marks) (mark-place .last .0) (s .first) (s .end) (omega (arith, pre, l .inv .1)) (l .inv .2)
+          (mark-place .ensures ∙ ap (λ (x : ℕ). cond (isWithin (s .first) (s .end) x) (withMark (l .marks) (x - s .first)) (l .marks)) e),
     )
 
 same-length : tie.Need-same-length Inv-loop μ-loop

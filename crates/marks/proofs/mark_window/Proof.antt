@@ -20,8 +20,9 @@ same-length c = search needs
 returns : tie.Need-returns
 returns c =
     let s = c .before .before .before .before .before .before .before .before .before .before .args in
+    let clear = c .before .before .before .before .before .before .clear in
     λ q x y. c .before .before .mark-places .ensures q x y
-    ∙ ap (λ (b : Bool). isPointed (s .addresses .now) (s .n) q || b) (ap (λ (l : List ℕ). marked l (q - s .first)) (c .before .before .before .before .before .before .clear .ensures) ∙ marked-none (length (s .marks .now)) (q - s .first))
+    ∙ ap (λ (b : Bool). isPointed (s .addresses .now) (s .n) q || b) (ap (λ (l : List ℕ). marked l (q - s .first)) (clear .ensures) ∙ marked-none (length (s .marks .now)) (q - s .first))
     ∙ or-false (isPointed (s .addresses .now) (s .n) q)
 
 pub mark-window-spec : {M : Type 1} → statement M

@@ -43,8 +43,9 @@ loop-less c = omega arith
 loop-again : tie.Need-loop-again Inv-loop μ-loop
 loop-again c =
     let l = c .before .before .before .before .loop in
+    let args = c .before .before .before .before .before .before .args in
     let s = c .step-over .ensures in
-    (omega (arith, s .0), s .1, λ j x y. go (c .before .before .before .before .before .before .args .marks .now) (c .before .before .before .before .before .before .args .k) (l .i) (c .step-over .result) j (l .inv .2) (s .2) x y (decLt j (l .i)))
+    (omega (arith, s .0), s .1, λ j x y. go (args .marks .now) (args .k) (l .i) (c .step-over .result) j (l .inv .2) (s .2) x y (decLt j (l .i)))
 
 returns-2 : tie.Need-returns-2 Inv-loop μ-loop
 returns-2 c =

@@ -28,11 +28,15 @@ mul-j c = search needs
 
 add-j : tie.Need-add-j
 unfolding filledIn
-add-j c = omega (arith, c .before .before .wide .ensures, c .before .before .before .before .pre .1)
+add-j c =
+    let pre = c .before .before .before .before .pre in
+    omega (arith, c .before .before .wide .ensures, pre .1)
 
 add-next : tie.Need-add-next
 unfolding filledIn
-add-next c = omega (arith, c .before .before .before .before .pre .1)
+add-next c =
+    let pre = c .before .before .before .before .pre in
+    omega (arith, pre .1)
 
 element-write-next : tie.Need-element-write-next
 element-write-next c = search needs
@@ -42,27 +46,36 @@ element-write-next-2 c = search needs
 
 mul-next : tie.Need-mul-next
 unfolding filledIn
-mul-next c = omega (arith, c .before .before .wide .ensures, c .before .before .before .before .pre .1)
+mul-next c =
+    let pre = c .before .before .before .before .pre in
+    omega (arith, c .before .before .wide .ensures, pre .1)
 
 element-write-next-3 : tie.Need-element-write-next-3
 unfolding filledIn
-element-write-next-3 c = omega (arith, c .before .before .wide .ensures, c .before .before .before .before .pre .1)
+element-write-next-3 c =
+    let pre = c .before .before .before .before .pre in
+    omega (arith, c .before .before .wide .ensures, pre .1)
 
 mul-next-2 : tie.Need-mul-next-2
 unfolding filledIn
-mul-next-2 c = omega (arith, c .before .before .wide .ensures, c .before .before .before .before .pre .1)
+mul-next-2 c =
+    let pre = c .before .before .before .before .pre in
+    omega (arith, c .before .before .wide .ensures, pre .1)
 
 element-write-next-4 : tie.Need-element-write-next-4
 unfolding filledIn
-element-write-next-4 c = omega (arith, c .before .before .wide .ensures, c .before .before .before .before .pre .1)
+element-write-next-4 c =
+    let pre = c .before .before .before .before .pre in
+    omega (arith, c .before .before .wide .ensures, pre .1)
 
 returns : tie.Need-returns
 unfolding addEntry filledIn cell
 returns c =
     let a = c .before .before .before .before .args in
+    let wide = c .before .before .wide in
     let s = a .state in
     let f = getD (s .filled) (a .i) 0 in
-    let e : c .before .before .wide .result ≡ f = c .before .before .wide .ensures in
+    let e : wide .result ≡ f = wide .ensures in
     let w : c .with-write .result ≡ bitOr (getD (s .writes) (a .i) 0) (cond (a .write) 1 0 * only f) =
     c .with-write .ensures ∙ ap (λ (x : ℕ). bitOr (getD (s .writes) (a .i) 0) (cond (a .write) 1 0 * only x)) e in
     λ j. mkState (s .live) (s .missing) (s .stamp .0) (s .serial .0) (s .opened) (s .next) (s .numbers)

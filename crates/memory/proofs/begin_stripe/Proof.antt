@@ -27,7 +27,11 @@ add-next c = search needs
 
 returns : tie.Need-returns
 unfolding beginStripe
-returns c = let s = c .args .state in ap (λ (x : ℕ). mkState (s .live) (s .missing) (s .stamp .0) (s .serial .0) (s .opened) x (set (s .numbers) (c .args .i) (s .next)) (set (s .filled) (c .args .i) 0) (set (s .writes) (c .args .i) 0) (set (s .landed) (c .args .i) 0) (s .addresses) (s .stamps) (s .offsets)) (add-one (s .next))
+returns c =
+    let s = c .args .state in
+    ap (λ (x : ℕ). mkState (s .live) (s .missing) (s .stamp .0) (s .serial .0) (s .opened) x (set (s .numbers) (c .args .i) (s .next))
+    (set (s .filled) (c .args .i) 0) (set (s .writes) (c .args .i) 0) (set (s .landed) (c .args .i) 0) (s .addresses) (s .stamps) (s .offsets))
+    (add-one (s .next))
 
 pub begin-stripe-spec : {M : Type 1} → statement M
 begin-stripe-spec =

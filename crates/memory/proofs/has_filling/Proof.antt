@@ -13,7 +13,9 @@ filling-slot-requires c κs = search needs
 
 returns : tie.Need-returns
 unfolding hasFilling fillingSlot slots slotCount below upFrom
-returns c = let a = c .before .args in ap (λ (x : ℕ). ltb x 8) (c .filling-slot .ensures) ∙ indexOf-any (isFilling (a .p) (a .state)) (upFrom 0 8)
+returns c =
+    let a = c .before .args in
+    ap (λ (x : ℕ). ltb x 8) (c .filling-slot .ensures) ∙ indexOf-any (isFilling (a .p) (a .state)) (upFrom 0 8)
 
 pub has-filling-spec : {M : Type 1} → statement M
 has-filling-spec = tie.close (tie.spec filling-slot-requires returns)

@@ -34,7 +34,8 @@ loop-less c = omega arith
 
 loop-again : tie.Need-loop-again Inv-loop μ-loop
 loop-again c =
-    let s = c .before .before .before .before .args .state in
+    let args = c .before .before .before .before .args in
+    let s = args .state in
     let l = c .before .before .before .loop in
     let f : ℕ → Bool = λ k. not (isFree s k) in
     let r : c .if1 .n + length (keep f (upFrom (l .i + 1) (8 - (l .i + 1)))) ≡ l .n + length (keep f (upFrom (l .i) (8 - l .i))) =

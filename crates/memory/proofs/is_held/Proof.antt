@@ -34,8 +34,9 @@ returns-2 : tie.Need-returns-2
 unfolding holdsAt filledIn
 returns-2 c =
     let a = c .before .before .before .before .before .before .args in
+    let wide = c .before .before .before .before .wide in
     let s = a .t1 in
-    let e1 : ltb (a .j % 8) (filledIn s (a .j / 8)) ≡ true = lt-ltb (a .j % 8) (filledIn s (a .j / 8)) (omega (arith, c .before .before .before .if1 .left, c .before .before .before .before .wide .ensures)) in
+    let e1 : ltb (a .j % 8) (filledIn s (a .j / 8)) ≡ true = lt-ltb (a .j % 8) (filledIn s (a .j / 8)) (omega (arith, c .before .before .before .if1 .left, wide .ensures)) in
     let e2 : eqb (getD (s .addresses) (a .j) 0) (a .address .0) ≡ false = ne-eqb (getD (s .addresses) (a .j) 0) (a .address .0) (c .if2 .taken) in
     λ j. sym e1 j && sym e2 j && (eqb (getD (s .stamps) (a .j) 0) (a .stamp .0))
 
@@ -49,9 +50,12 @@ returns-3 : tie.Need-returns-3
 unfolding holdsAt filledIn
 returns-3 c =
     let a = c .before .before .before .before .before .before .before .before .args in
+    let if2 = c .before .before .if2 in
+    let if1 = c .before .before .before .before .before .if1 in
+    let wide = c .before .before .before .before .before .before .wide in
     let s = a .t1 in
-    let e1 : ltb (a .j % 8) (filledIn s (a .j / 8)) ≡ true = lt-ltb (a .j % 8) (filledIn s (a .j / 8)) (omega (arith, c .before .before .before .before .before .if1 .left, c .before .before .before .before .before .before .wide .ensures)) in
-    let e2 : eqb (getD (s .addresses) (a .j) 0) (a .address .0) ≡ true = eq-eqb (getD (s .addresses) (a .j) 0) (a .address .0) (c .before .before .if2 .left) in
+    let e1 : ltb (a .j % 8) (filledIn s (a .j / 8)) ≡ true = lt-ltb (a .j % 8) (filledIn s (a .j / 8)) (omega (arith, if1 .left, wide .ensures)) in
+    let e2 : eqb (getD (s .addresses) (a .j) 0) (a .address .0) ≡ true = eq-eqb (getD (s .addresses) (a .j) 0) (a .address .0) (if2 .left) in
     let e3 : _≡_ {A = Bool} (eqb (getD (s .stamps) (a .j) 0) (a .stamp .0)) (eqb (getD (s .stamps) (a .j) 0) (a .stamp .0)) = refl in
     λ j. sym e1 j && sym e2 j && e3 j
 

@@ -32,7 +32,11 @@ element-write-next-2 c = search needs
 
 returns : tie.Need-returns
 unfolding markLanded landedMask landedIn cell
-returns c = let a = c .before .before .args in let s = a .state in ap (λ (x : ℕ). mkState (s .live) (s .missing) (s .stamp .0) (s .serial .0) (s .opened) (s .next) (s .numbers) (s .filled) (s .writes) (set (s .landed) (a .i) x) (s .addresses) (s .stamps) (set (s .offsets) (8 * a .i + a .d) (a .o))) (c .with-drive .ensures)
+returns c =
+    let a = c .before .before .args in
+    let s = a .state in
+    ap (λ (x : ℕ). mkState (s .live) (s .missing) (s .stamp .0) (s .serial .0) (s .opened) (s .next) (s .numbers) (s .filled) (s .writes)
+    (set (s .landed) (a .i) x) (s .addresses) (s .stamps) (set (s .offsets) (8 * a .i + a .d) (a .o))) (c .with-drive .ensures)
 
 pub mark-landed-spec : {M : Type 1} → statement M
 mark-landed-spec =

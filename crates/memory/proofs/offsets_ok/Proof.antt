@@ -35,7 +35,11 @@ returns : tie.Need-returns Inv-loop μ-loop
 returns c =
     let a = c .before .before .before .before .before .before .args in
     let l = c .before .before .before .before .loop in
-    sym (all-broken-in (λ o. ltb o (a .p .S)) (a .state .offsets) (l .j) (omega (arith, long (c .before .before .before .before .before .before))) (le-ltb (getD (a .state .offsets) (l .j) 0) (a .p .S) (omega (arith, c .if1 .taken, c .before .before .whole .ensures)))) ∙ l .inv .1
+    let whole = c .before .before .whole in
+    let at = c .before .before .before .before .before .before in
+    sym (all-broken-in (λ o. ltb o (a .p .S)) (a .state .offsets) (l .j) (omega (arith, long (at)))
+    (le-ltb (getD (a .state .offsets) (l .j) 0) (a .p .S) (omega (arith, c .if1 .taken, whole .ensures))))
+    ∙ l .inv .1
 
 add-j : tie.Need-add-j Inv-loop μ-loop
 add-j c = omega arith
@@ -47,7 +51,13 @@ loop-again : tie.Need-loop-again Inv-loop μ-loop
 loop-again c =
     let a = c .before .before .before .before .before .before .args in
     let l = c .before .before .before .before .loop in
-    (omega arith, sym (all-passed-in (λ o. ltb o (a .p .S)) (a .state .offsets) (l .j) (omega (arith, long (c .before .before .before .before .before .before))) (lt-ltb (getD (a .state .offsets) (l .j) 0) (a .p .S) (omega (arith, c .if1 .left, c .before .before .whole .ensures)))) ∙ l .inv .1)
+    let whole = c .before .before .whole in
+    let at = c .before .before .before .before .before .before in (
+      omega arith,
+      sym (all-passed-in (λ o. ltb o (a .p .S)) (a .state .offsets) (l .j) (omega (arith, long (at)))
+          (lt-ltb (getD (a .state .offsets) (l .j) 0) (a .p .S) (omega (arith, c .if1 .left, whole .ensures))))
+          ∙ l .inv .1,
+    )
 
 returns-2 : tie.Need-returns-2 Inv-loop μ-loop
 returns-2 c =

@@ -14,7 +14,10 @@ cast-next c = search needs
 
 returns : tie.Need-returns
 unfolding setOpen
-returns c = let s = c .args .state in ap (λ (x : ℕ). mkState (s .live) (s .missing) (s .stamp .0) (c .args .serial .0) x 0 (s .numbers) (s .filled) (s .writes) (s .landed) (s .addresses) (s .stamps) (s .offsets)) (add-one (c .args .g))
+returns c =
+    let s = c .args .state in
+    ap (λ (x : ℕ). mkState (s .live) (s .missing) (s .stamp .0) (c .args .serial .0) x 0 (s .numbers) (s .filled) (s .writes) (s .landed)
+    (s .addresses) (s .stamps) (s .offsets)) (add-one (c .args .g))
 
 pub set-open-spec : {M : Type 1} → statement M
 set-open-spec = tie.close (tie.spec add-next cast-next returns)

@@ -27,9 +27,11 @@ returns : tie.Need-returns
 unfolding slotOk stripeIn filledIn landedIn
 returns c =
     let a = c .before .before .before .before .before .args in
+    let whole = c .before .before .whole in
+    let data-count = c .before .before .before .before .data-count in
     let s = a .state in
-    let n : c .before .before .before .before .data-count .result ≡ dataCount (a .p) = c .before .before .before .before .data-count .ensures in
-    let e1 : ltb (stripeIn s (a .i)) (a .p .S) ≡ false = le-ltb (stripeIn s (a .i)) (a .p .S) (omega (arith, c .if1 .taken, c .before .before .whole .ensures)) in
+    let n : data-count .result ≡ dataCount (a .p) = data-count .ensures in
+    let e1 : ltb (stripeIn s (a .i)) (a .p .S) ≡ false = le-ltb (stripeIn s (a .i)) (a .p .S) (omega (arith, c .if1 .taken, whole .ensures)) in
     λ j. sym e1 j && (leb (filledIn s (a .i)) (dataCount (a .p))) && (ltb (getD (s .writes) (a .i) 0) (2 ^ dataCount (a .p))) && (ltb (landedIn s (a .i)) (2 ^ a .p .N))
 
 array-read-wide : tie.Need-array-read-wide
@@ -42,9 +44,12 @@ returns-2 : tie.Need-returns-2
 unfolding slotOk stripeIn filledIn landedIn
 returns-2 c =
     let a = c .before .before .before .before .before .before .before .before .args in
+    let if1 = c .before .before .before .if1 in
+    let whole = c .before .before .before .before .before .whole in
+    let data-count = c .before .before .before .before .before .before .before .data-count in
     let s = a .state in
-    let n : c .before .before .before .before .before .before .before .data-count .result ≡ dataCount (a .p) = c .before .before .before .before .before .before .before .data-count .ensures in
-    let e1 : ltb (stripeIn s (a .i)) (a .p .S) ≡ true = lt-ltb (stripeIn s (a .i)) (a .p .S) (omega (arith, c .before .before .before .if1 .left, c .before .before .before .before .before .whole .ensures)) in
+    let n : data-count .result ≡ dataCount (a .p) = data-count .ensures in
+    let e1 : ltb (stripeIn s (a .i)) (a .p .S) ≡ true = lt-ltb (stripeIn s (a .i)) (a .p .S) (omega (arith, if1 .left, whole .ensures)) in
     let e2 : leb (filledIn s (a .i)) (dataCount (a .p)) ≡ false = lt-leb (filledIn s (a .i)) (dataCount (a .p)) (omega (arith, c .if2 .taken, c .before .wide .ensures, n)) in
     λ j. sym e1 j && sym e2 j && (ltb (getD (s .writes) (a .i) 0) (2 ^ dataCount (a .p))) && (ltb (landedIn s (a .i)) (2 ^ a .p .N))
 
@@ -58,11 +63,19 @@ returns-3 : tie.Need-returns-3
 unfolding slotOk stripeIn filledIn landedIn
 returns-3 c =
     let a = c .before .before .before .before .before .before .before .before .before .before .before .args in
+    let if2 = c .before .before .before .if2 in
+    let wide = c .before .before .before .before .wide in
+    let if1 = c .before .before .before .before .before .before .if1 in
+    let whole = c .before .before .before .before .before .before .before .before .whole in
+    let data-count = c .before .before .before .before .before .before .before .before .before .before .data-count in
     let s = a .state in
-    let n : c .before .before .before .before .before .before .before .before .before .before .data-count .result ≡ dataCount (a .p) = c .before .before .before .before .before .before .before .before .before .before .data-count .ensures in
-    let e1 : ltb (stripeIn s (a .i)) (a .p .S) ≡ true = lt-ltb (stripeIn s (a .i)) (a .p .S) (omega (arith, c .before .before .before .before .before .before .if1 .left, c .before .before .before .before .before .before .before .before .whole .ensures)) in
-    let e2 : leb (filledIn s (a .i)) (dataCount (a .p)) ≡ true = le-leb (filledIn s (a .i)) (dataCount (a .p)) (omega (arith, c .before .before .before .if2 .left, c .before .before .before .before .wide .ensures, n)) in
-    let e3 : ltb (getD (s .writes) (a .i) 0) (2 ^ dataCount (a .p)) ≡ false = ap (λ (x : ℕ). ltb (getD (s .writes) (a .i) 0) (2 ^ x)) (sym n) ∙ sym (c .before .below-power .ensures) ∙ not-true (c .before .below-power .result) (c .if3 .taken) in
+    let n : data-count .result ≡ dataCount (a .p) = data-count .ensures in
+    let e1 : ltb (stripeIn s (a .i)) (a .p .S) ≡ true = lt-ltb (stripeIn s (a .i)) (a .p .S) (omega (arith, if1 .left, whole .ensures)) in
+    let e2 : leb (filledIn s (a .i)) (dataCount (a .p)) ≡ true = le-leb (filledIn s (a .i)) (dataCount (a .p)) (omega (arith, if2 .left, wide .ensures, n)) in
+    let e3 : ltb (getD (s .writes) (a .i) 0) (2 ^ dataCount (a .p)) ≡ false =
+    ap (λ (x : ℕ). ltb (getD (s .writes) (a .i) 0) (2 ^ x)) (sym n)
+    ∙ sym (c .before .below-power .ensures)
+    ∙ not-true (c .before .below-power .result) (c .if3 .taken) in
     λ j. sym e1 j && sym e2 j && sym e3 j && (ltb (landedIn s (a .i)) (2 ^ a .p .N))
 
 array-read-m : tie.Need-array-read-m
@@ -75,11 +88,19 @@ returns-4 : tie.Need-returns-4
 unfolding slotOk stripeIn filledIn landedIn
 returns-4 c =
     let a = c .before .before .before .before .before .before .before .before .before .before .before .before .before .args in
+    let if3 = c .before .before .if3 in
+    let below-power = c .before .before .before .below-power in
+    let if2 = c .before .before .before .before .before .if2 in
+    let wide = c .before .before .before .before .before .before .wide in
+    let if1 = c .before .before .before .before .before .before .before .before .if1 in
+    let whole = c .before .before .before .before .before .before .before .before .before .before .whole in
+    let data-count = c .before .before .before .before .before .before .before .before .before .before .before .before .data-count in
     let s = a .state in
-    let n : c .before .before .before .before .before .before .before .before .before .before .before .before .data-count .result ≡ dataCount (a .p) = c .before .before .before .before .before .before .before .before .before .before .before .before .data-count .ensures in
-    let e1 : ltb (stripeIn s (a .i)) (a .p .S) ≡ true = lt-ltb (stripeIn s (a .i)) (a .p .S) (omega (arith, c .before .before .before .before .before .before .before .before .if1 .left, c .before .before .before .before .before .before .before .before .before .before .whole .ensures)) in
-    let e2 : leb (filledIn s (a .i)) (dataCount (a .p)) ≡ true = le-leb (filledIn s (a .i)) (dataCount (a .p)) (omega (arith, c .before .before .before .before .before .if2 .left, c .before .before .before .before .before .before .wide .ensures, n)) in
-    let e3 : ltb (getD (s .writes) (a .i) 0) (2 ^ dataCount (a .p)) ≡ true = ap (λ (x : ℕ). ltb (getD (s .writes) (a .i) 0) (2 ^ x)) (sym n) ∙ sym (c .before .before .before .below-power .ensures) ∙ not-false (c .before .before .before .below-power .result) (c .before .before .if3 .left) in
+    let n : data-count .result ≡ dataCount (a .p) = data-count .ensures in
+    let e1 : ltb (stripeIn s (a .i)) (a .p .S) ≡ true = lt-ltb (stripeIn s (a .i)) (a .p .S) (omega (arith, if1 .left, whole .ensures)) in
+    let e2 : leb (filledIn s (a .i)) (dataCount (a .p)) ≡ true = le-leb (filledIn s (a .i)) (dataCount (a .p)) (omega (arith, if2 .left, wide .ensures, n)) in
+    let e3 : ltb (getD (s .writes) (a .i) 0) (2 ^ dataCount (a .p)) ≡ true =
+    ap (λ (x : ℕ). ltb (getD (s .writes) (a .i) 0) (2 ^ x)) (sym n) ∙ sym (below-power .ensures) ∙ not-false (below-power .result) (if3 .left) in
     let e4 : c .below-power2 .result ≡ ltb (landedIn s (a .i)) (2 ^ a .p .N) = c .below-power2 .ensures in
     λ j. sym e1 j && sym e2 j && sym e3 j && e4 j
 

@@ -17,7 +17,13 @@ returns c =
     let a = c .before .before .args in
     let s = a .state in
     let e1 : eqb (s .live) 1 ≡ false = ne-eqb (s .live) 1 (c .if1 .taken) in
-    λ j. sym e1 j && (ltb (s .missing) (2 ^ a .p .N)) && (leb (ones (s .missing)) 1) && (leb (s .opened) (a .p .Z)) && (leb (s .next) (a .p .S)) && (all (slotOk (a .p) s) slots) && (all (λ o. ltb o (a .p .S)) (s .offsets))
+    λ j. sym e1 j
+    && (ltb (s .missing) (2 ^ a .p .N))
+    && (leb (ones (s .missing)) 1)
+    && (leb (s .opened) (a .p .Z))
+    && (leb (s .next) (a .p .S))
+    && (all (slotOk (a .p) s) slots)
+    && (all (λ o. ltb o (a .p .S)) (s .offsets))
 
 below-power-requires : tie.Need-below-power-requires
 below-power-requires c κs = search needs
@@ -38,9 +44,12 @@ returns-3 : tie.Need-returns-3
 unfolding stateOk
 returns-3 c =
     let a = c .before .before .before .before .before .before .args in
+    let if2 = c .before .before .if2 in
+    let below-power = c .before .before .before .below-power in
+    let if1 = c .before .before .before .before .if1 in
     let s = a .state in
-    let e1 : eqb (s .live) 1 ≡ true = eq-eqb (s .live) 1 (c .before .before .before .before .if1 .left) in
-    let e2 : ltb (s .missing) (2 ^ a .p .N) ≡ true = sym (c .before .before .before .below-power .ensures) ∙ not-false (c .before .before .before .below-power .result) (c .before .before .if2 .left) in
+    let e1 : eqb (s .live) 1 ≡ true = eq-eqb (s .live) 1 (if1 .left) in
+    let e2 : ltb (s .missing) (2 ^ a .p .N) ≡ true = sym (below-power .ensures) ∙ not-false (below-power .result) (if2 .left) in
     let e3 : leb (ones (s .missing)) 1 ≡ false = lt-leb (ones (s .missing)) 1 (omega (arith, c .if3 .taken, c .before .count .ensures .0)) in
     λ j. sym e1 j && sym e2 j && sym e3 j && (leb (s .opened) (a .p .Z)) && (leb (s .next) (a .p .S)) && (all (slotOk (a .p) s) slots) && (all (λ o. ltb o (a .p .S)) (s .offsets))
 
@@ -51,11 +60,17 @@ returns-4 : tie.Need-returns-4
 unfolding stateOk
 returns-4 c =
     let a = c .before .before .before .before .before .before .before .before .before .args in
+    let whole = c .before .before .whole in
+    let if3 = c .before .before .before .if3 in
+    let count = c .before .before .before .before .count in
+    let if2 = c .before .before .before .before .before .if2 in
+    let below-power = c .before .before .before .before .before .before .below-power in
+    let if1 = c .before .before .before .before .before .before .before .if1 in
     let s = a .state in
-    let e1 : eqb (s .live) 1 ≡ true = eq-eqb (s .live) 1 (c .before .before .before .before .before .before .before .if1 .left) in
-    let e2 : ltb (s .missing) (2 ^ a .p .N) ≡ true = sym (c .before .before .before .before .before .before .below-power .ensures) ∙ not-false (c .before .before .before .before .before .before .below-power .result) (c .before .before .before .before .before .if2 .left) in
-    let e3 : leb (ones (s .missing)) 1 ≡ true = le-leb (ones (s .missing)) 1 (omega (arith, c .before .before .before .if3 .left, c .before .before .before .before .count .ensures .0)) in
-    let e4 : leb (s .opened) (a .p .Z) ≡ false = lt-leb (s .opened) (a .p .Z) (omega (arith, c .if4 .taken, c .before .before .whole .ensures)) in
+    let e1 : eqb (s .live) 1 ≡ true = eq-eqb (s .live) 1 (if1 .left) in
+    let e2 : ltb (s .missing) (2 ^ a .p .N) ≡ true = sym (below-power .ensures) ∙ not-false (below-power .result) (if2 .left) in
+    let e3 : leb (ones (s .missing)) 1 ≡ true = le-leb (ones (s .missing)) 1 (omega (arith, if3 .left, count .ensures .0)) in
+    let e4 : leb (s .opened) (a .p .Z) ≡ false = lt-leb (s .opened) (a .p .Z) (omega (arith, c .if4 .taken, whole .ensures)) in
     λ j. sym e1 j && sym e2 j && sym e3 j && sym e4 j && (leb (s .next) (a .p .S)) && (all (slotOk (a .p) s) slots) && (all (λ o. ltb o (a .p .S)) (s .offsets))
 
 whole-requires-2 : tie.Need-whole-requires-2
@@ -65,12 +80,20 @@ returns-5 : tie.Need-returns-5
 unfolding stateOk
 returns-5 c =
     let a = c .before .before .before .before .before .before .before .before .before .before .before .before .args in
+    let whole2 = c .before .before .whole2 in
+    let if4 = c .before .before .before .if4 in
+    let whole = c .before .before .before .before .before .whole in
+    let if3 = c .before .before .before .before .before .before .if3 in
+    let count = c .before .before .before .before .before .before .before .count in
+    let if2 = c .before .before .before .before .before .before .before .before .if2 in
+    let below-power = c .before .before .before .before .before .before .before .before .before .below-power in
+    let if1 = c .before .before .before .before .before .before .before .before .before .before .if1 in
     let s = a .state in
-    let e1 : eqb (s .live) 1 ≡ true = eq-eqb (s .live) 1 (c .before .before .before .before .before .before .before .before .before .before .if1 .left) in
-    let e2 : ltb (s .missing) (2 ^ a .p .N) ≡ true = sym (c .before .before .before .before .before .before .before .before .before .below-power .ensures) ∙ not-false (c .before .before .before .before .before .before .before .before .before .below-power .result) (c .before .before .before .before .before .before .before .before .if2 .left) in
-    let e3 : leb (ones (s .missing)) 1 ≡ true = le-leb (ones (s .missing)) 1 (omega (arith, c .before .before .before .before .before .before .if3 .left, c .before .before .before .before .before .before .before .count .ensures .0)) in
-    let e4 : leb (s .opened) (a .p .Z) ≡ true = le-leb (s .opened) (a .p .Z) (omega (arith, c .before .before .before .if4 .left, c .before .before .before .before .before .whole .ensures)) in
-    let e5 : leb (s .next) (a .p .S) ≡ false = lt-leb (s .next) (a .p .S) (omega (arith, c .if5 .taken, c .before .before .whole2 .ensures)) in
+    let e1 : eqb (s .live) 1 ≡ true = eq-eqb (s .live) 1 (if1 .left) in
+    let e2 : ltb (s .missing) (2 ^ a .p .N) ≡ true = sym (below-power .ensures) ∙ not-false (below-power .result) (if2 .left) in
+    let e3 : leb (ones (s .missing)) 1 ≡ true = le-leb (ones (s .missing)) 1 (omega (arith, if3 .left, count .ensures .0)) in
+    let e4 : leb (s .opened) (a .p .Z) ≡ true = le-leb (s .opened) (a .p .Z) (omega (arith, if4 .left, whole .ensures)) in
+    let e5 : leb (s .next) (a .p .S) ≡ false = lt-leb (s .next) (a .p .S) (omega (arith, c .if5 .taken, whole2 .ensures)) in
     λ j. sym e1 j && sym e2 j && sym e3 j && sym e4 j && sym e5 j && (all (slotOk (a .p) s) slots) && (all (λ o. ltb o (a .p .S)) (s .offsets))
 
 slots-ok-requires : tie.Need-slots-ok-requires
@@ -80,12 +103,21 @@ returns-6 : tie.Need-returns-6
 unfolding stateOk
 returns-6 c =
     let a = c .before .before .before .before .before .before .before .before .before .before .before .before .before .before .args in
+    let if5 = c .before .before .if5 in
+    let whole2 = c .before .before .before .before .whole2 in
+    let if4 = c .before .before .before .before .before .if4 in
+    let whole = c .before .before .before .before .before .before .before .whole in
+    let if3 = c .before .before .before .before .before .before .before .before .if3 in
+    let count = c .before .before .before .before .before .before .before .before .before .count in
+    let if2 = c .before .before .before .before .before .before .before .before .before .before .if2 in
+    let below-power = c .before .before .before .before .before .before .before .before .before .before .before .below-power in
+    let if1 = c .before .before .before .before .before .before .before .before .before .before .before .before .if1 in
     let s = a .state in
-    let e1 : eqb (s .live) 1 ≡ true = eq-eqb (s .live) 1 (c .before .before .before .before .before .before .before .before .before .before .before .before .if1 .left) in
-    let e2 : ltb (s .missing) (2 ^ a .p .N) ≡ true = sym (c .before .before .before .before .before .before .before .before .before .before .before .below-power .ensures) ∙ not-false (c .before .before .before .before .before .before .before .before .before .before .before .below-power .result) (c .before .before .before .before .before .before .before .before .before .before .if2 .left) in
-    let e3 : leb (ones (s .missing)) 1 ≡ true = le-leb (ones (s .missing)) 1 (omega (arith, c .before .before .before .before .before .before .before .before .if3 .left, c .before .before .before .before .before .before .before .before .before .count .ensures .0)) in
-    let e4 : leb (s .opened) (a .p .Z) ≡ true = le-leb (s .opened) (a .p .Z) (omega (arith, c .before .before .before .before .before .if4 .left, c .before .before .before .before .before .before .before .whole .ensures)) in
-    let e5 : leb (s .next) (a .p .S) ≡ true = le-leb (s .next) (a .p .S) (omega (arith, c .before .before .if5 .left, c .before .before .before .before .whole2 .ensures)) in
+    let e1 : eqb (s .live) 1 ≡ true = eq-eqb (s .live) 1 (if1 .left) in
+    let e2 : ltb (s .missing) (2 ^ a .p .N) ≡ true = sym (below-power .ensures) ∙ not-false (below-power .result) (if2 .left) in
+    let e3 : leb (ones (s .missing)) 1 ≡ true = le-leb (ones (s .missing)) 1 (omega (arith, if3 .left, count .ensures .0)) in
+    let e4 : leb (s .opened) (a .p .Z) ≡ true = le-leb (s .opened) (a .p .Z) (omega (arith, if4 .left, whole .ensures)) in
+    let e5 : leb (s .next) (a .p .S) ≡ true = le-leb (s .next) (a .p .S) (omega (arith, if5 .left, whole2 .ensures)) in
     let e6 : all (slotOk (a .p) s) slots ≡ false = sym (c .before .slots-ok .ensures) ∙ not-true (c .before .slots-ok .result) (c .if6 .taken) in
     λ j. sym e1 j && sym e2 j && sym e3 j && sym e4 j && sym e5 j && sym e6 j && (all (λ o. ltb o (a .p .S)) (s .offsets))
 
@@ -96,13 +128,23 @@ returns-7 : tie.Need-returns-7
 unfolding stateOk
 returns-7 c =
     let a = c .before .before .before .before .before .before .before .before .before .before .before .before .before .before .before .args in
+    let slots-ok = c .before .before .slots-ok in
+    let if5 = c .before .before .before .if5 in
+    let whole2 = c .before .before .before .before .before .whole2 in
+    let if4 = c .before .before .before .before .before .before .if4 in
+    let whole = c .before .before .before .before .before .before .before .before .whole in
+    let if3 = c .before .before .before .before .before .before .before .before .before .if3 in
+    let count = c .before .before .before .before .before .before .before .before .before .before .count in
+    let if2 = c .before .before .before .before .before .before .before .before .before .before .before .if2 in
+    let below-power = c .before .before .before .before .before .before .before .before .before .before .before .before .below-power in
+    let if1 = c .before .before .before .before .before .before .before .before .before .before .before .before .before .if1 in
     let s = a .state in
-    let e1 : eqb (s .live) 1 ≡ true = eq-eqb (s .live) 1 (c .before .before .before .before .before .before .before .before .before .before .before .before .before .if1 .left) in
-    let e2 : ltb (s .missing) (2 ^ a .p .N) ≡ true = sym (c .before .before .before .before .before .before .before .before .before .before .before .before .below-power .ensures) ∙ not-false (c .before .before .before .before .before .before .before .before .before .before .before .before .below-power .result) (c .before .before .before .before .before .before .before .before .before .before .before .if2 .left) in
-    let e3 : leb (ones (s .missing)) 1 ≡ true = le-leb (ones (s .missing)) 1 (omega (arith, c .before .before .before .before .before .before .before .before .before .if3 .left, c .before .before .before .before .before .before .before .before .before .before .count .ensures .0)) in
-    let e4 : leb (s .opened) (a .p .Z) ≡ true = le-leb (s .opened) (a .p .Z) (omega (arith, c .before .before .before .before .before .before .if4 .left, c .before .before .before .before .before .before .before .before .whole .ensures)) in
-    let e5 : leb (s .next) (a .p .S) ≡ true = le-leb (s .next) (a .p .S) (omega (arith, c .before .before .before .if5 .left, c .before .before .before .before .before .whole2 .ensures)) in
-    let e6 : all (slotOk (a .p) s) slots ≡ true = sym (c .before .before .slots-ok .ensures) ∙ not-false (c .before .before .slots-ok .result) (c .before .if6 .left) in
+    let e1 : eqb (s .live) 1 ≡ true = eq-eqb (s .live) 1 (if1 .left) in
+    let e2 : ltb (s .missing) (2 ^ a .p .N) ≡ true = sym (below-power .ensures) ∙ not-false (below-power .result) (if2 .left) in
+    let e3 : leb (ones (s .missing)) 1 ≡ true = le-leb (ones (s .missing)) 1 (omega (arith, if3 .left, count .ensures .0)) in
+    let e4 : leb (s .opened) (a .p .Z) ≡ true = le-leb (s .opened) (a .p .Z) (omega (arith, if4 .left, whole .ensures)) in
+    let e5 : leb (s .next) (a .p .S) ≡ true = le-leb (s .next) (a .p .S) (omega (arith, if5 .left, whole2 .ensures)) in
+    let e6 : all (slotOk (a .p) s) slots ≡ true = sym (slots-ok .ensures) ∙ not-false (slots-ok .result) (c .before .if6 .left) in
     let e7 : c .offsets-ok .result ≡ all (λ o. ltb o (a .p .S)) (s .offsets) = c .offsets-ok .ensures in
     λ j. sym e1 j && sym e2 j && sym e3 j && sym e4 j && sym e5 j && sym e6 j && e7 j
 

@@ -47,7 +47,8 @@ loop-again : tie.Need-loop-again Inv-loop μ-loop
 loop-again c =
     let a = c .before .before .before .before .before .before .args in
     let l = c .before .before .before .loop in
-    let m = c .before .before .before .before .wide .result in
+    let wide = c .before .before .before .before .wide in
+    let m = wide .result in
     let f : ℕ → Bool = isWrite (a .t1) (a .i) in
     let t : List ℕ = upFrom (l .k + 1) (m - (l .k + 1)) in
     let r : c .if1 .n + length (keep f t) ≡ l .n + length (keep f (upFrom (l .k) (m - l .k))) =

@@ -13,13 +13,45 @@ abbrev zeros : List ℕ
 zeros = replicate 4096 0
 
 array-borrow-prefix-block : tie.Need-array-borrow-prefix-block
-array-borrow-prefix-block c = omega (arith, (ranged (c .before .before .before .before .before .args .p) (c .before .before .before .before .before .pre .0)) .block-high)
+array-borrow-prefix-block c =
+    let entry = c .before .before .before .before .before in
+    let args = entry .args in
+    let pre = entry .pre in
+    omega (arith, (ranged (args .p) (pre .0)) .block-high)
 
 slice-aggregate-move-with : tie.Need-slice-aggregate-move-with
-slice-aggregate-move-with c = sym (length-take-le (c .before .before .before .before .before .before .args .p .B) zeros ((ranged (c .before .before .before .before .before .before .args .p) (c .before .before .before .before .before .before .pre .0)) .block-high))
+slice-aggregate-move-with c =
+    let entry = c .before .before .before .before .before .before in
+    let args = entry .args in
+    let pre = entry .pre in
+    sym (length-take-le (args .p .B) zeros ((ranged (args .p) (pre .0)) .block-high))
 
 move-with-requires : tie.Need-move-with-requires
-move-with-requires c κs = (c .before .before .before .before .before .before .pre .0, (c .before .before .before .before .before .before .pre .1 .0, (c .before .before .before .before .before .before .pre .1 .1 .0, (c .before .before .before .before .before .before .pre .1 .1 .1 .0, (c .before .before .before .before .before .before .pre .1 .1 .1 .1 .0, (c .before .before .before .before .before .before .pre .1 .1 .1 .1 .1 .0, c .before .before .before .before .before .before .pre .1 .1 .1 .1 .1 .1, c .before .before .before .before .before .before .pre .1 .1 .1 .1 .1 .2, (length-take-le (c .before .before .before .before .before .before .args .p .B) zeros ((ranged (c .before .before .before .before .before .before .args .p) (c .before .before .before .before .before .before .pre .0)) .block-high)), c .before .before .before .before .before .before .pre .1 .1 .1 .1 .1 .3))))))
+move-with-requires c κs =
+    let entry = c .before .before .before .before .before .before in
+    let args = entry .args in
+    let pre = entry .pre in (
+      pre .0,
+      (
+        pre .1 .0,
+        (
+          pre .1 .1 .0,
+          (
+            pre .1 .1 .1 .0,
+            (
+              pre .1 .1 .1 .1 .0,
+              (
+                pre .1 .1 .1 .1 .1 .0,
+                pre .1 .1 .1 .1 .1 .1,
+                pre .1 .1 .1 .1 .1 .2,
+                (length-take-le (args .p .B) zeros ((ranged (args .p) (pre .0)) .block-high)),
+                pre .1 .1 .1 .1 .1 .3,
+              ),
+            ),
+          ),
+        ),
+      ),
+    )
 
 same-length : tie.Need-same-length
 same-length c = search needs

@@ -11,7 +11,9 @@ use Rattle.moving.proofs.move_with.Statement.{statement}
 use Rattle.moving.proofs.move_with.Tie as tie
 
 moved-chunk-requires : tie.Need-moved-chunk-requires
-moved-chunk-requires c κs = (c .before .before .before .before .before .before .pre .0, (c .before .before .before .before .before .before .pre .1 .1 .0, (c .before .before .before .before .before .before .pre .1 .1 .1 .0, (c .before .before .before .before .before .before .pre .1 .0 .image-long, c .before .before .before .before .before .before .pre .1 .1 .1 .1 .1 .3, c .before .before .before .before .before .before .pre .1 .1 .1 .1 .1 .0, c .before .before .before .before .before .before .pre .1 .1 .1 .1 .1 .2))))
+moved-chunk-requires c κs =
+    let pre = c .before .before .before .before .before .before .pre in
+    (pre .0, (pre .1 .1 .0, (pre .1 .1 .1 .0, (pre .1 .0 .image-long, pre .1 .1 .1 .1 .1 .3, pre .1 .1 .1 .1 .1 .0, pre .1 .1 .1 .1 .1 .2))))
 
 slice-aggregate-write-record : tie.Need-slice-aggregate-write-record
 slice-aggregate-write-record c = search needs
@@ -26,8 +28,28 @@ slice-aggregate-put-limited : tie.Need-slice-aggregate-put-limited
 slice-aggregate-put-limited c = search needs
 
 put-limited-requires : tie.Need-put-limited-requires
-put-limited-requires c κs = let z : c .before .before .before .before .zone-on .result ≡ zoneOn (c .before .before .before .before .before .before .before .before .before .before .before .before .before .before .before .before .before .args .to) (c .before .before .before .before .before .before .before .before .before .before .before .before .before .before .before .before .before .args .drive) = c .before .before .before .before .zone-on .ensures in
-    (c .before .before .before .before .before .before .before .before .before .before .before .before .before .before .before .before .before .pre .0, (c .before .before .before .before .before .before .before .before .before .before .before .before .before .before .before .before .before .pre .1 .0, ((c .before .before .before .before .before .before .before .before .before .before .before .before .before .before .before .before .before .pre .1 .1 .1 .1 .1 .0, rw z (zone-on-lt (c .before .before .before .before .before .before .before .before .before .before .before .before .before .before .before .before .before .args .p) (c .before .before .before .before .before .before .before .before .before .before .before .before .before .before .before .before .before .args .to) (c .before .before .before .before .before .before .before .before .before .before .before .before .before .before .before .before .before .args .drive) (c .before .before .before .before .before .before .before .before .before .before .before .before .before .before .before .before .before .pre .1 .1 .1 .1 .1 .1)), rw z (c .before .before .before .before .before .before .before .before .before .before .before .before .before .before .before .before .before .pre .1 .1 .1 .1 .1 .4)), (c .before .before .before .before .before .before .before .before .before .before .moved-chunk .kept .1 .1 .1 .1 .1 .1 .1 .0 ∙ c .before .before .before .before .before .before .before .before .before .before .before .before .before .before .before .before .before .pre .1 .1 .1 .1 .1 .3, ap length (c .before .before .before .before .before .before .write-record .ensures) ∙ record-long (recVal (c .before .before .before .before .before .before .before .before .before .before .moved-chunk .result))))))
+put-limited-requires c κs =
+    let zone-on = c .before .before .before .before .zone-on in
+    let write-record = c .before .before .before .before .before .before .write-record in
+    let moved-chunk = c .before .before .before .before .before .before .before .before .before .before .moved-chunk in
+    let entry = c .before .before .before .before .before .before .before .before .before .before .before .before .before .before .before .before .before in
+    let args = entry .args in
+    let pre = entry .pre in
+    let z : zone-on .result ≡ zoneOn (args .to) (args .drive) = zone-on .ensures in (
+      pre .0,
+      (
+        pre .1 .0,
+        (
+          (pre .1 .1 .1 .1 .1 .0, rw z (zone-on-lt (args .p) (args .to) (args .drive) (pre .1 .1 .1 .1 .1 .1)), rw z (pre .1 .1 .1 .1 .1 .4)),
+          (
+            moved-chunk .kept .1 .1 .1 .1 .1 .1 .1 .0
+                ∙ pre .1 .1 .1 .1 .1 .3,
+            ap length (write-record .ensures)
+                ∙ record-long (recVal (moved-chunk .result)),
+          ),
+        ),
+      ),
+    )
 
 same-length : tie.Need-same-length
 same-length c = search needs
@@ -39,9 +61,17 @@ same-length-3 : tie.Need-same-length-3
 same-length-3 c = search needs
 
 returns : tie.Need-returns
-returns c = let a = c .before .before .before .before .before .before .before .before .before .before .before .before .before .before .before .before .before .before .before .before .before .before .args in
-    put-moved (a .p) (a .count) (segmentIn (a .p) (a .image .now) (a .pointers .now) (a .w)) (a .to) (a .w .base + a .k) (a .s) (a .drive) (c .before .before .before .before .before .before .before .before .before .zone-on .result) (c .before .before .before .before .before .before .before .before .before .before .before .before .before .before .before .moved-chunk .last .1 .1 .1 .1 .1 .1 .1 .0) (c .before .before .before .before .before .before .before .before .before .before .before .write-record .last .0) (recVal (c .before .before .before .before .before .before .before .before .before .before .before .before .before .before .before .moved-chunk .result)) (mkDisk (c .before .before .before .before .before .before .before .before .before .before .before .before .before .before .before .before .before .before .before .before .before .before .args .image .now) (c .before .before .before .before .before .before .before .before .before .before .before .before .before .before .before .before .before .before .before .before .before .before .args .pointers .now)) (c .before .before .before .before .put-limited .result) (mkDisk (c .before .before .before .before .put-limited .last .1 .0) (c .before .before .before .before .put-limited .last .1 .1 .0))
-    (c .before .before .before .before .before .before .before .before .before .zone-on .ensures) (c .before .before .before .before .before .before .before .before .before .before .before .before .before .before .before .moved-chunk .ensures (a .pointers .now) (c .before .before .before .before .before .before .before .before .before .before .before .before .before .before .before .before .before .before .before .before .before .before .pre .1 .1 .1 .1 .0)) (c .before .before .before .before .before .before .before .before .before .before .before .write-record .ensures) (c .before .before .before .before .put-limited .ensures)
+returns c =
+    let a = c .before .before .before .before .before .before .before .before .before .before .before .before .before .before .before .before .before .before .before .before .before .before .args in
+    let put-limited = c .before .before .before .before .put-limited in
+    let zone-on = c .before .before .before .before .before .before .before .before .before .zone-on in
+    let write-record = c .before .before .before .before .before .before .before .before .before .before .before .write-record in
+    let moved-chunk = c .before .before .before .before .before .before .before .before .before .before .before .before .before .before .before .moved-chunk in
+    let pre = c .before .before .before .before .before .before .before .before .before .before .before .before .before .before .before .before .before .before .before .before .before .before .pre in
+    put-moved (a .p) (a .count) (segmentIn (a .p) (a .image .now) (a .pointers .now) (a .w)) (a .to) (a .w .base + a .k) (a .s) (a .drive)
+    (zone-on .result) (moved-chunk .last .1 .1 .1 .1 .1 .1 .1 .0) (write-record .last .0) (recVal (moved-chunk .result))
+    (mkDisk (a .image .now) (a .pointers .now)) (put-limited .result) (mkDisk (put-limited .last .1 .0) (put-limited .last .1 .1 .0))
+    (zone-on .ensures) (moved-chunk .ensures (a .pointers .now) (pre .1 .1 .1 .1 .0)) (write-record .ensures) (put-limited .ensures)
 
 pub move-with-spec : {M : Type 1} → statement M
 move-with-spec =

@@ -27,17 +27,21 @@ shown-at-requires c κs =
     let a = c .before .before .before .before .before .before .args in
     let q = c .before .before .before .before .before .before .pre in
     let v : View = viewOf (a .p) (a .image .now) (a .pointers .now) in
-    let hz : c .zone-on .result < a .p .Z = subst (λ (x : ℕ). x < a .p .Z) (sym (c .zone-on .ensures ∙ zone-is (a .segment) (a .drive))) (counted-low (a .p) v (a .gone) (a .segment) (a .s) (q .1 .1)) in
+    let hz : c .zone-on .result < a .p .Z =
+    subst (λ (x : ℕ). x < a .p .Z) (sym (c .zone-on .ensures ∙ zone-is (a .segment) (a .drive)))
+    (counted-low (a .p) v (a .gone) (a .segment) (a .s) (q .1 .1)) in
     (q .0 .in-range, ((q .0 .whole .pointers-long, ground-long (a .p) (a .image .now) (a .pointers .now) (a .gone) (a .compact .now) (q .0)), (q .1 .0, hz, q .1 .1 .stripe-low)))
 
 record-in-requires : tie.Need-record-in-requires
 record-in-requires c κs =
     let a = c .before .before .before .before .before .before .before .args in
     let q = c .before .before .before .before .before .before .before .pre in
+    let if1 = c .before .before .if1 in
+    let has-drive = c .before .before .before .has-drive in
     let r : Ranged (a .p) = ranged (a .p) (q .0 .in-range) in
     let v : View = viewOf (a .p) (a .image .now) (a .pointers .now) in
     let ez : c .before .zone-on .result ≡ a .segment = c .before .zone-on .ensures ∙ zone-is (a .segment) (a .drive) in
-    let pr : isIn (a .gone) (a .drive) ≡ false = sym (c .before .before .before .has-drive .ensures) ∙ c .before .before .if1 .left in
+    let pr : isIn (a .gone) (a .drive) ≡ false = sym (has-drive .ensures) ∙ if1 .left in
     let hz : c .before .zone-on .result < a .p .Z = subst (λ (x : ℕ). x < a .p .Z) (sym ez) (counted-low (a .p) v (a .gone) (a .segment) (a .s) (q .1 .1)) in
     let eo : c .shown-at .result ≡ offsetOn (segmentOf (a .p) v (a .gone) (a .segment)) (a .drive) (a .s) =
     shown-there (a .p) r v (a .gone) (a .segment) (a .s) (q .0 .clean) (q .1 .1) (a .drive) (q .1 .0) pr (a .compact .now) (c .shown-at .result) (q .0 .compact)
@@ -49,17 +53,22 @@ returns-2 : tie.Need-returns-2
 returns-2 c =
     let a = c .before .before .before .before .before .before .before .before .before .before .args in
     let q = c .before .before .before .before .before .before .before .before .before .before .pre in
+    let record-in = c .before .before .record-in in
+    let shown-at = c .before .before .before .shown-at in
+    let zone-on = c .before .before .before .before .zone-on in
+    let if1 = c .before .before .before .before .before .if1 in
+    let has-drive = c .before .before .before .before .before .before .has-drive in
     let r : Ranged (a .p) = ranged (a .p) (q .0 .in-range) in
     let v : View = viewOf (a .p) (a .image .now) (a .pointers .now) in
-    let ez : c .before .before .before .before .zone-on .result ≡ a .segment = c .before .before .before .before .zone-on .ensures ∙ zone-is (a .segment) (a .drive) in
-    let pr : isIn (a .gone) (a .drive) ≡ false = sym (c .before .before .before .before .before .before .has-drive .ensures) ∙ c .before .before .before .before .before .if1 .left in
-    let eo : c .before .before .before .shown-at .result ≡ offsetOn (segmentOf (a .p) v (a .gone) (a .segment)) (a .drive) (a .s) =
-    shown-there (a .p) r v (a .gone) (a .segment) (a .s) (q .0 .clean) (q .1 .1) (a .drive) (q .1 .0) pr (a .compact .now) (c .before .before .before .shown-at .result) (q .0 .compact)
-    (c .before .before .before .shown-at .ensures .0 (a .image .now) (q .0 .whole .image-long) ∙ ap (λ (z : ℕ). firstOr (a .p .S) (shownAt (a .p) v (a .compact .now) (a .drive) z (a .s))) ez) in
-    let er : recVal (c .before .before .record-in .result) ≡ storedRec (segmentOf (a .p) v (a .gone) (a .segment)) (a .s) (a .drive) =
-    record-there (a .p) r v (a .gone) (a .segment) (a .s) (q .0 .clean) (q .1 .1) (a .drive) (q .1 .0) pr (a .full) (c .before .before .before .shown-at .result) (recVal (c .before .before .record-in .result)) (q .1 .2) eo
-    (c .before .before .record-in .ensures (a .pointers .now) (q .0 .whole .pointers-long) ∙ ap (λ (z : ℕ). recordIn (a .p) (a .full) (zoneAt v (a .drive) z) (c .before .before .before .shown-at .result)) ez) in
-    add-here (isIn (a .gone) (a .drive)) (a .t .0) (storedRec (segmentOf (a .p) v (a .gone) (a .segment)) (a .s) (a .drive) .stamp) (c .before .before .record-in .result .stamp .0) pr (ap (λ (x : Rec). x .stamp) er)
+    let ez : zone-on .result ≡ a .segment = zone-on .ensures ∙ zone-is (a .segment) (a .drive) in
+    let pr : isIn (a .gone) (a .drive) ≡ false = sym (has-drive .ensures) ∙ if1 .left in
+    let eo : shown-at .result ≡ offsetOn (segmentOf (a .p) v (a .gone) (a .segment)) (a .drive) (a .s) =
+    shown-there (a .p) r v (a .gone) (a .segment) (a .s) (q .0 .clean) (q .1 .1) (a .drive) (q .1 .0) pr (a .compact .now) (shown-at .result) (q .0 .compact)
+    (shown-at .ensures .0 (a .image .now) (q .0 .whole .image-long) ∙ ap (λ (z : ℕ). firstOr (a .p .S) (shownAt (a .p) v (a .compact .now) (a .drive) z (a .s))) ez) in
+    let er : recVal (record-in .result) ≡ storedRec (segmentOf (a .p) v (a .gone) (a .segment)) (a .s) (a .drive) =
+    record-there (a .p) r v (a .gone) (a .segment) (a .s) (q .0 .clean) (q .1 .1) (a .drive) (q .1 .0) pr (a .full) (shown-at .result) (recVal (record-in .result)) (q .1 .2) eo
+    (record-in .ensures (a .pointers .now) (q .0 .whole .pointers-long) ∙ ap (λ (z : ℕ). recordIn (a .p) (a .full) (zoneAt v (a .drive) z) (shown-at .result)) ez) in
+    add-here (isIn (a .gone) (a .drive)) (a .t .0) (storedRec (segmentOf (a .p) v (a .gone) (a .segment)) (a .s) (a .drive) .stamp) (record-in .result .stamp .0) pr (ap (λ (x : Rec). x .stamp) er)
 
 pub add-stamp-spec : {M : Type 1} → statement M
 add-stamp-spec =

@@ -12,7 +12,8 @@ use Rattle.offers.proofs.lost_stamp.Statement.{statement}
 use Rattle.offers.proofs.lost_stamp.Tie as tie
 
 abbrev Inv-loop : tie.InvT-loop
-Inv-loop p image pointers compact gone full segment s t₀ d₀ t d = (d ≤ p .N) × (t .0 ≡ xorAll (map (λ e. storedRec (segmentOf p (viewOf p image pointers) gone segment) s e .stamp) (keep (λ e. not (isIn gone e)) (below d))))
+Inv-loop p image pointers compact gone full segment s t₀ d₀ t d =
+    (d ≤ p .N) × (t .0 ≡ xorAll (map (λ e. storedRec (segmentOf p (viewOf p image pointers) gone segment) s e .stamp) (keep (λ e. not (isIn gone e)) (below d))))
 
 abbrev μ-loop : tie.MeasureT-loop
 μ-loop p image pointers compact gone full segment s t₀ d₀ t d = p .N - d

@@ -32,7 +32,8 @@ returns-2 : tie.Need-returns-2
 unfolding landedCand
 returns-2 c v cs h =
     let a = c .before .before .before .before .before .before .args in
-    let e = ap (λ (r : Rec). r .address) (c .before .before .before .before .before .entry .ensures) in
+    let entry = c .before .before .before .before .before .entry in
+    let e = ap (λ (r : Rec). r .address) (entry .ensures) in
     same-address (a .address .0) (rankedBest (a .b)) (rankedBest (c .better .result)) (landedCand (a .p) v (a .segment) (alone (a .row)) 0 (a .k)) cs
     (sym e ∙ c .before .before .if1 .left) (c .better .ensures ∙ ap (better (rankedBest (a .b))) (c .before .landed-cand .ensures v h))
 

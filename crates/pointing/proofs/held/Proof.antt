@@ -18,7 +18,9 @@ use Rattle.pointing.proofs.held.Tie as tie
 
 place-at-requires : tie.Need-place-at-requires
 unfolding addressesLen
-place-at-requires c κs = omega (arith, c .before .before .before .pre .1 .1 .0, c .before .before .before .pre .1 .1 .1)
+place-at-requires c κs =
+    let pre = c .before .before .before .pre in
+    omega (arith, pre .1 .1 .0, pre .1 .1 .1)
 
 returns : tie.Need-returns
 unfolding held
@@ -33,16 +35,18 @@ held-cand-requires : tie.Need-held-cand-requires
 held-cand-requires c κs =
     let a = c .before .before .before .before .before .before .args in
     let q = c .before .before .before .before .before .before .pre in
-    (q .0, (q .1 .0, subst (λ (x : ℕ). IsData (a .p) x) (sym (c .before .before .place-at .ensures)) (q .1 .1 .2 (λ e. c .if1 .left (c .before .before .place-at .ensures ∙ e)))))
+    let place-at = c .before .before .place-at in
+    (q .0, (q .1 .0, subst (λ (x : ℕ). IsData (a .p) x) (sym (place-at .ensures)) (q .1 .1 .2 (λ e. c .if1 .left (place-at .ensures ∙ e)))))
 
 returns-2 : tie.Need-returns-2
 unfolding held
 returns-2 c =
     let a = c .before .before .before .before .before .before .before .args in
+    let place-at = c .before .before .before .place-at in
     let v : View = viewOf (a .p) (a .image .now) (a .pointers .now) in
     let q = placeAt (a .addresses .now) (a .address .0) in
-    ap some (c .held-cand .ensures ∙ ap (heldCand (a .p) v (a .address .0)) (c .before .before .before .place-at .ensures))
-    ∙ ap (λ (x : Bool). cond {A = Opt Cand} x none (some (heldCand (a .p) v (a .address .0) q))) (sym (ne-eqb q neverPlace (λ e. c .before .if1 .left (c .before .before .before .place-at .ensures ∙ e))))
+    ap some (c .held-cand .ensures ∙ ap (heldCand (a .p) v (a .address .0)) (place-at .ensures))
+    ∙ ap (λ (x : Bool). cond {A = Opt Cand} x none (some (heldCand (a .p) v (a .address .0) q))) (sym (ne-eqb q neverPlace (λ e. c .before .if1 .left (place-at .ensures ∙ e))))
 
 pub held-spec : {M : Type 1} → statement M
 held-spec = tie.close (tie.spec place-at-requires returns held-cand-requires returns-2)

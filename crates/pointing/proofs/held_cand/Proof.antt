@@ -30,15 +30,20 @@ returns : tie.Need-returns
 unfolding heldCand placeSegment
 returns c =
     let a = c .before .before .before .before .before .before .before .before .args in
+    let record-at = c .before .before .record-at in
+    let place-block = c .before .before .before .place-block in
+    let place-zone = c .before .before .before .before .place-zone in
+    let place-drive = c .before .before .before .before .before .place-drive in
+    let pre = c .before .before .before .before .before .before .before .before .pre in
     let p = a .p in
     let q = a .place .0 in
     let v : View = viewOf p (a .image .now) (a .pointers .now) in
-    let d : c .before .before .before .before .before .place-drive .result ≡ placeDrive p q = c .before .before .before .before .before .place-drive .ensures .0 in
-    let g : c .before .before .before .before .place-zone .result ≡ placeZone p q = c .before .before .before .before .place-zone .ensures .0 in
-    let o : c .before .before .before .place-block .result - 1 ≡ placeBlock p q - 1 = ap (λ (x : ℕ). x - 1) (c .before .before .before .place-block .ensures .0) in
-    let s : c .before .before .record-at .result .stamp .0 ≡ recordAt p v 0 (placeDrive p q) (placeZone p q) (placeBlock p q - 1) .stamp =
-    ap (λ (r : Rec). r .stamp) (c .before .before .record-at .ensures) ∙ (λ j. recordAt p v 0 (d j) (g j) (o j) .stamp) in
-    let t : c .serial-at .result .0 ≡ serialAt v (placeZone p q) = c .serial-at .ensures (a .pointers .now) (c .before .before .before .before .before .before .before .before .pre .1 .0 .pointers-long) ∙ ap (serialAt v) g in
+    let d : place-drive .result ≡ placeDrive p q = place-drive .ensures .0 in
+    let g : place-zone .result ≡ placeZone p q = place-zone .ensures .0 in
+    let o : place-block .result - 1 ≡ placeBlock p q - 1 = ap (λ (x : ℕ). x - 1) (place-block .ensures .0) in
+    let s : record-at .result .stamp .0 ≡ recordAt p v 0 (placeDrive p q) (placeZone p q) (placeBlock p q - 1) .stamp =
+    ap (λ (r : Rec). r .stamp) (record-at .ensures) ∙ (λ j. recordAt p v 0 (d j) (g j) (o j) .stamp) in
+    let t : c .serial-at .result .0 ≡ serialAt v (placeZone p q) = c .serial-at .ensures (a .pointers .now) (pre .1 .0 .pointers-long) ∙ ap (serialAt v) g in
     λ j. record { address = a .address .0; stamp = s j; serial = t j; drive = d j; offset = o j; place = q }
 
 pub held-cand-spec : {M : Type 1} → statement M

@@ -22,38 +22,55 @@ data-drive-requires : tie.Need-data-drive-requires
 data-drive-requires c κs = search needs
 
 offset-in-requires : tie.Need-offset-in-requires
-offset-in-requires c κs = let q = c .before .before .before .before .before .pre in omega (arith, c .data-drive .ensures .1, ranged (c .before .before .before .before .before .args .p) (q .0) .drives-high)
+offset-in-requires c κs =
+    let q = c .before .before .before .before .before .pre in
+    let args = c .before .before .before .before .before .args in
+    omega (arith, c .data-drive .ensures .1, ranged (args .p) (q .0) .drives-high)
 
 zone-on-requires : tie.Need-zone-on-requires
 zone-on-requires c κs = search needs
 
 -- the offset is one of a data block
 low : (c : tie.After-zone-on) → c .before .offset-in .result < c .before .before .before .before .before .before .before .args .p .S
-low c = subst (λ (x : ℕ). x < c .before .before .before .before .before .before .before .args .p .S) (sym (c .before .offset-in .ensures)) (c .before .before .before .before .before .before .before .pre .1 .2 (c .before .before .data-drive .result) (c .before .before .data-drive .ensures .1))
+low c =
+    let data-drive = c .before .before .data-drive in
+    let entry = c .before .before .before .before .before .before .before in
+    let args = entry .args in
+    let pre = entry .pre in
+    subst (λ (x : ℕ). x < args .p .S) (sym (c .before .offset-in .ensures)) (pre .1 .2 (data-drive .result) (data-drive .ensures .1))
 
 add-place-of : tie.Need-add-place-of
-add-place-of c = omega (arith, low c, ranged (c .before .before .before .before .before .before .before .args .p) (c .before .before .before .before .before .before .before .pre .0) .stripes-high)
+add-place-of c =
+    let entry = c .before .before .before .before .before .before .before in
+    let args = entry .args in
+    let pre = entry .pre in
+    omega (arith, low c, ranged (args .p) (pre .0) .stripes-high)
 
 place-of-requires : tie.Need-place-of-requires
 place-of-requires c κs =
     let q = c .before .before .before .before .before .before .before .pre in
-    let p = c .before .before .before .before .before .before .before .args .p in
-    let z = zone-on-lt p (c .before .before .before .before .before .before .before .args .segment) (c .before .before .data-drive .result) (q .1 .0) in
-    (q .0, (c .before .before .data-drive .ensures .1, omega (arith, c .zone-on .ensures, z), data-below p (ranged p (q .0)) (1 + c .before .offset-in .result) (omega (arith, low c))))
+    let data-drive = c .before .before .data-drive in
+    let args = c .before .before .before .before .before .before .before .args in
+    let p = args .p in
+    let z = zone-on-lt p (args .segment) (data-drive .result) (q .1 .0) in
+    (q .0, (data-drive .ensures .1, omega (arith, c .zone-on .ensures, z), data-below p (ranged p (q .0)) (1 + c .before .offset-in .result) (omega (arith, low c))))
 
 returns : tie.Need-returns
 unfolding landedCand entryIn
 returns c v h =
     let a = c .before .before .before .before .before .before .before .before .args in
+    let offset-in = c .before .before .offset-in in
+    let data-drive = c .before .before .before .data-drive in
+    let entry = c .before .before .before .before .before .before .before .entry in
     let p = a .p in
     let st = alone (a .row) in
     let i : ℕ = 0 in
     let s = stripeIn st i in
-    let e = c .before .before .before .before .before .before .before .entry .ensures in
-    let n = c .before .before .before .before .before .before .before .entry .result .stripe in
+    let e = entry .ensures in
+    let n = entry .result .stripe in
     let f : n ≡ s = ap (λ (r : Rec). r .stripe) e in
-    let d : c .before .before .before .data-drive .result ≡ dataDrive p s (a .k) = c .before .before .before .data-drive .ensures .0 ∙ ap (λ (x : ℕ). dataDrive p x (a .k)) f in
-    let o : c .before .before .offset-in .result ≡ offsetIn st i (dataDrive p s (a .k)) = c .before .before .offset-in .ensures ∙ ap (offsetIn st i) d in
+    let d : data-drive .result ≡ dataDrive p s (a .k) = data-drive .ensures .0 ∙ ap (λ (x : ℕ). dataDrive p x (a .k)) f in
+    let o : offset-in .result ≡ offsetIn st i (dataDrive p s (a .k)) = offset-in .ensures ∙ ap (offsetIn st i) d in
     let z : c .before .zone-on .result ≡ zoneOn (a .segment) (dataDrive p s (a .k)) = c .before .zone-on .ensures ∙ ap (zoneOn (a .segment)) d in
     let w : c .place-of .result .0 ≡ placeOf p (dataDrive p s (a .k)) (zoneOn (a .segment) (dataDrive p s (a .k))) (1 + offsetIn st i (dataDrive p s (a .k))) =
     c .place-of .ensures .0 ∙ (λ j. placeOf p (d j) (z j) (1 + o j)) in

@@ -7,12 +7,15 @@ use Rattle.pointing.proofs.point.Statement.{statement}
 use Rattle.pointing.proofs.point.Tie as tie
 
 serial-at-requires : tie.Need-serial-at-requires
-serial-at-requires c κs = let q = c .before .before .before .pre in (q .0, (q .1 .0 .image-long, q .1 .1 .1 .0))
+serial-at-requires c κs =
+    let q = c .before .before .before .pre in
+    (q .0, (q .1 .0 .image-long, q .1 .1 .1 .0))
 
 winners-requires : tie.Need-winners-requires
 winners-requires c κs =
     let q = c .before .before .before .before .before .pre in
-    (q .0, (q .1 .0, (q .1 .1 .0, (q .1 .1 .1, c .before .serial-at .ensures (c .before .before .before .before .before .args .pointers .now) (q .1 .0 .pointers-long)))))
+    let args = c .before .before .before .before .before .args in
+    (q .0, (q .1 .0, (q .1 .1 .0, (q .1 .1 .1, c .before .serial-at .ensures (args .pointers .now) (q .1 .0 .pointers-long)))))
 
 put-places-requires : tie.Need-put-places-requires
 put-places-requires c κs = search needs
@@ -23,8 +26,10 @@ same-length c = search needs
 returns : tie.Need-returns
 returns c =
     let a = c .before .before .before .before .before .before .before .before .before .before .args in
+    let put-places = c .before .before .put-places in
+    let winners = c .before .before .before .before .winners in
     let v : View = viewOf (a .p) (a .image .now) (a .pointers .now) in
-    c .before .before .put-places .ensures ∙ puts-are (a .p) (alone (a .row)) 0 (c .before .before .before .before .winners .result) v (a .addresses .now) (a .segment) (c .before .before .before .before .winners .ensures)
+    put-places .ensures ∙ puts-are (a .p) (alone (a .row)) 0 (winners .result) v (a .addresses .now) (a .segment) (winners .ensures)
 
 pub point-spec : {M : Type 1} → statement M
 point-spec = tie.close (tie.spec serial-at-requires winners-requires put-places-requires same-length returns)

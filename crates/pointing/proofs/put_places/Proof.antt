@@ -35,8 +35,12 @@ loop-holds c =
 -- a filled position
 low : (c : tie.In-loop Inv-loop μ-loop) → c .before .loop .k < 8
 low c =
-    let p = c .before .before .before .before .args .p in
-    omega (arith, c .loop-test .taken, c .before .before .filled-in .ensures, c .before .before .before .before .pre .1 .1, data-count-high p (ranged p (c .before .before .before .before .pre .0)))
+    let filled-in = c .before .before .filled-in in
+    let entry = c .before .before .before .before in
+    let args = entry .args in
+    let pre = entry .pre in
+    let p = args .p in
+    omega (arith, c .loop-test .taken, filled-in .ensures, pre .1 .1, data-count-high p (ranged p (pre .0)))
 
 entry-requires : tie.Need-entry-requires Inv-loop μ-loop
 entry-requires c κs = low c
@@ -49,7 +53,10 @@ array-read-t19 c = omega (arith, low (c .before .before .before))
 
 set-place-requires : tie.Need-set-place-requires Inv-loop μ-loop
 unfolding addressesLen
-set-place-requires c κs = omega (arith, c .before .if1 .taken, c .before .before .before .before .loop .inv .2, c .before .before .before .before .before .before .before .pre .1 .0)
+set-place-requires c κs =
+    let loop = c .before .before .before .before .loop in
+    let pre = c .before .before .before .before .before .before .before .pre in
+    omega (arith, c .before .if1 .taken, loop .inv .2, pre .1 .0)
 
 add-k : tie.Need-add-k Inv-loop μ-loop
 add-k c = omega arith
@@ -60,11 +67,14 @@ loop-less c = omega arith
 loop-again : tie.Need-loop-again Inv-loop μ-loop
 loop-again c =
     let a = c .before .before .before .before .before .before .args in
+    let loop-test = c .before .before .loop-test in
+    let loop = c .before .before .before .loop in
+    let filled-in = c .before .before .before .before .filled-in in
     let p = a .p in
     let st = alone (a .row) in
     let i : ℕ = 0 in
-    let l = c .before .before .before .loop in
-    let n = c .before .before .before .before .filled-in .result in
+    let l = loop in
+    let n = filled-in .result in
     let k = l .k in
     let qs = a .t4 in
     let e : c .before .entry .result .address .0 ≡ entryIn st i k .address = ap (λ (r : Rec). r .address) (c .before .entry .ensures) in
@@ -72,10 +82,10 @@ loop-again c =
     let f : putAll p st i qs t (c .if1 .addresses) ≡ putAll p st i qs (upFrom k (n - k)) (l .addresses) =
     ⊎-elim
     (λ w. ap (putAll p st i qs t) (w .5 ∙ w .2 .ensures ∙ ap (λ (x : ℕ). setPlace (l .addresses) x (getD qs k 0)) e)
-    ∙ put-one p st i qs k n (l .addresses) (omega (arith, c .before .before .loop-test .taken)) (omega (arith, w .0 .taken, e)))
-    (λ w. ap (putAll p st i qs t) (w .1) ∙ put-none p st i qs k n (l .addresses) (omega (arith, c .before .before .loop-test .taken)) (omega (arith, w .0 .left, e))) (c .if1 .came) in
+    ∙ put-one p st i qs k n (l .addresses) (omega (arith, loop-test .taken)) (omega (arith, w .0 .taken, e)))
+    (λ w. ap (putAll p st i qs t) (w .1) ∙ put-none p st i qs k n (l .addresses) (omega (arith, loop-test .taken)) (omega (arith, w .0 .left, e))) (c .if1 .came) in
     let g : length (c .if1 .addresses) ≡ length (l .addresses) = ⊎-elim (λ w. ap length (w .5) ∙ w .2 .kept .0) (λ w. ap length (w .1)) (c .if1 .came) in
-    (l .inv .0, omega (arith, c .before .before .loop-test .taken), g ∙ l .inv .2, f ∙ l .inv .3)
+    (l .inv .0, omega (arith, loop-test .taken), g ∙ l .inv .2, f ∙ l .inv .3)
 
 same-length : tie.Need-same-length Inv-loop μ-loop
 same-length c = c .before .loop .inv .2

@@ -21,12 +21,17 @@ zone-on-requires c κs = search needs
 block-byte-requires : tie.Need-block-byte-requires
 block-byte-requires c κs =
     let q = c .before .before .pre in
-    let p = c .before .before .args .p in
+    let args = c .before .before .args in
+    let p = args .p in
     let r = ranged p (q .0) in
-    (q .0, (omega (arith, r .drives-low), omega (arith, c .zone-on .ensures, zone-on-lt p (c .before .before .args .segment) 0 (q .1 .1)), omega (arith, capacity-low p r)))
+    (q .0, (omega (arith, r .drives-low), omega (arith, c .zone-on .ensures, zone-on-lt p (args .segment) 0 (q .1 .1)), omega (arith, capacity-low p r)))
 
 add-e : tie.Need-add-e
-add-e c = omega (arith, c .before .block-byte .ensures .2, ranged (c .before .before .before .before .args .p) (c .before .before .before .before .pre .0) .block-high)
+add-e c =
+    let entry = c .before .before .before .before in
+    let args = entry .args in
+    let pre = entry .pre in
+    omega (arith, c .before .block-byte .ensures .2, ranged (args .p) (pre .0) .block-high)
 
 sub-header-serial : tie.Need-sub-header-serial
 sub-header-serial c = search needs
@@ -36,30 +41,37 @@ part-header-serial-start c = search needs
 
 part-header-serial-end : tie.Need-part-header-serial-end
 unfolding unitLen
-part-header-serial-end c = omega (arith, c .before .block-byte .ensures .1, c .before .before .before .before .pre .1 .0)
+part-header-serial-end c =
+    let pre = c .before .before .before .before .pre in
+    omega (arith, c .before .block-byte .ensures .1, pre .1 .0)
 
 header-serial-requires : tie.Need-header-serial-requires
 unfolding unitLen
 header-serial-requires c κs =
     let a = c .before .before .before .before .before .args in
-    let t = c .before .before .block-byte .result in
-    let l : length (part t (a .p .B) (a .image .now)) ≡ a .p .B = length-part t (a .p .B) (a .image .now) (omega (arith, c .before .before .block-byte .ensures .1, c .before .before .before .before .before .pre .1 .0)) in
-    subst (λ (x : List ℕ). 41 ≤ length x) (sym (part-lent t (a .p .B) (a .image .now))) (omega (arith, l, ranged (a .p) (c .before .before .before .before .before .pre .0) .block-low))
+    let block-byte = c .before .before .block-byte in
+    let pre = c .before .before .before .before .before .pre in
+    let t = block-byte .result in
+    let l : length (part t (a .p .B) (a .image .now)) ≡ a .p .B = length-part t (a .p .B) (a .image .now) (omega (arith, block-byte .ensures .1, pre .1 .0)) in
+    subst (λ (x : List ℕ). 41 ≤ length x) (sym (part-lent t (a .p .B) (a .image .now))) (omega (arith, l, ranged (a .p) (pre .0) .block-low))
 
 returns : tie.Need-returns
 unfolding serialAt
 returns c ps h =
     let a = c .before .before .before .before .before .before .args in
     let q = c .before .before .before .before .before .before .pre in
+    let block-byte = c .before .before .before .block-byte in
+    let zone-on = c .before .before .before .before .zone-on in
     let p = a .p in
     let im = a .image .now in
     let r = ranged p (q .0) in
-    let t = c .before .before .before .block-byte .result in
-    let z : c .before .before .before .before .zone-on .result ≡ zoneOn (a .segment) 0 = c .before .before .before .before .zone-on .ensures in
-    let e : t ≡ placeByte p (placeOf p 0 (zoneOn (a .segment) 0) 0) = c .before .before .before .block-byte .ensures .0 ∙ ap (λ (x : ℕ). placeByte p (placeOf p 0 x 0)) z in
+    let t = block-byte .result in
+    let z : zone-on .result ≡ zoneOn (a .segment) 0 = zone-on .ensures in
+    let e : t ≡ placeByte p (placeOf p 0 (zoneOn (a .segment) 0) 0) = block-byte .ensures .0 ∙ ap (λ (x : ℕ). placeByte p (placeOf p 0 x 0)) z in
     c .header-serial .ensures
     ∙ ap headerSerial (part-lent t (p .B) im ∙ ap (λ (x : ℕ). part x (p .B) im) e
-    ∙ sym (block-view p (mkDisk im ps) 0 (zoneOn (a .segment) 0) (omega (arith, r .drives-low)) (zone-on-lt p (a .segment) 0 (q .1 .1)) (record { image-long = q .1 .0; pointers-long = h }) 0 (omega (arith, capacity-low p r))))
+    ∙ sym (block-view p (mkDisk im ps) 0 (zoneOn (a .segment) 0) (omega (arith, r .drives-low)) (zone-on-lt p (a .segment) 0 (q .1 .1))
+    (record { image-long = q .1 .0; pointers-long = h }) 0 (omega (arith, capacity-low p r))))
 
 pub serial-at-spec : {M : Type 1} → statement M
 serial-at-spec =

@@ -27,7 +27,9 @@ filled-in-requires : tie.Need-filled-in-requires Inv-loop μ-loop
 filled-in-requires c κs = tt
 
 held-requires : tie.Need-held-requires Inv-loop μ-loop
-held-requires c κs = let q = c .before .before .before .before .pre in (q .0, (q .1 .0, q .1 .1 .0))
+held-requires c κs =
+    let q = c .before .before .before .before .pre in
+    (q .0, (q .1 .0, q .1 .1 .0))
 
 loop-holds : tie.Need-loop-holds Inv-loop μ-loop
 loop-holds c =
@@ -55,12 +57,14 @@ loop-again : tie.Need-loop-again Inv-loop μ-loop
 loop-again c =
     let a = c .before .before .before .before .before .before .before .before .args in
     let l = c .before .before .loop in
+    let filled-in = c .before .before .before .before .filled-in in
+    let pre = c .before .before .before .before .before .before .before .before .pre in
     let v : View = viewOf (a .p) (a .image .now) (a .pointers .now) in
-    let n = c .before .before .before .before .filled-in .result in (
+    let n = filled-in .result in (
       l .inv .0,
       omega arith,
       rest-turn (a .p) v (a .segment) (alone (a .row)) 0 (a .address .0) (rankedBest (l .b)) (rankedBest (c .compete .result)) (l .k) n (omega (arith, c .before .loop-test .taken))
-          (λ cs. c .compete .ensures v cs (c .before .before .before .before .before .before .before .before .pre .1 .1 .1 .1)) ∙ l .inv .2,
+          (λ cs. c .compete .ensures v cs (pre .1 .1 .1 .1)) ∙ l .inv .2,
     )
 
 place-or-requires : tie.Need-place-or-requires Inv-loop μ-loop
@@ -70,8 +74,9 @@ returns : tie.Need-returns Inv-loop μ-loop
 returns c =
     let a = c .before .before .before .before .before .before .before .before .args in
     let l = c .before .before .loop in
+    let filled-in = c .before .before .before .before .filled-in in
     let v : View = viewOf (a .p) (a .image .now) (a .pointers .now) in
-    let n = c .before .before .before .before .filled-in .result in
+    let n = filled-in .result in
     c .place-or .ensures
     ∙ ap placeOr (sym (rest-last (a .p) v (a .segment) (alone (a .row)) 0 (a .address .0) (rankedBest (l .b)) (l .k) n (omega (arith, c .before .loop-test .left))) ∙ l .inv .2)
 

@@ -32,8 +32,12 @@ loop-holds c = (c .filled-in .ensures, omega arith, refl, λ h l. absurd (let q 
 -- a filled position
 low : (c : tie.In-loop Inv-loop μ-loop) → c .before .loop .k < 8
 low c =
-    let p = c .before .before .before .before .before .before .args .p in
-    omega (arith, c .loop-test .taken, c .before .before .filled-in .ensures, c .before .before .before .before .before .before .pre .1 .1 .1 .0 .1, data-count-high p (ranged p (c .before .before .before .before .before .before .pre .0)))
+    let filled-in = c .before .before .filled-in in
+    let entry = c .before .before .before .before .before .before in
+    let args = entry .args in
+    let pre = entry .pre in
+    let p = args .p in
+    omega (arith, c .loop-test .taken, filled-in .ensures, pre .1 .1 .1 .0 .1, data-count-high p (ranged p (pre .0)))
 
 entry-requires : tie.Need-entry-requires Inv-loop μ-loop
 entry-requires c κs = low c
@@ -42,16 +46,24 @@ winner-requires : tie.Need-winner-requires Inv-loop μ-loop
 winner-requires c κs =
     let a = c .before .before .before .before .before .before .before .before .before .before .args in
     let q = c .before .before .before .before .before .before .before .before .before .before .pre in
-    let k = c .before .before .before .before .before .loop .k in
-    let e : c .before .before .before .entry .result .address .0 ≡ entryIn (alone (a .row)) 0 k .address = ap (λ (r : Rec). r .address) (c .before .before .before .entry .ensures) in
-    let s = q .1 .1 .0 .1 k (omega (arith, c .before .before .before .before .loop-test .taken, c .before .before .before .before .before .before .filled-in .ensures)) (omega (arith, c .if1 .taken, e)) in
+    let entry = c .before .before .before .entry in
+    let loop-test = c .before .before .before .before .loop-test in
+    let loop = c .before .before .before .before .before .loop in
+    let filled-in = c .before .before .before .before .before .before .filled-in in
+    let k = loop .k in
+    let e : entry .result .address .0 ≡ entryIn (alone (a .row)) 0 k .address = ap (λ (r : Rec). r .address) (entry .ensures) in
+    let s = q .1 .1 .0 .1 k (omega (arith, loop-test .taken, filled-in .ensures)) (omega (arith, c .if1 .taken, e)) in
     (q .0, (q .1 .0, ((q .1 .1 .0 .0, omega (arith, c .if1 .taken), subst (λ (x : ℕ). Sane (a .p) (placeAt (a .addresses .now) x)) (sym e) s), q .1 .1 .1)))
 
 mul-out : tie.Need-mul-out Inv-loop μ-loop
-mul-out c = omega (arith, low (c .before .before .before .before .before))
+mul-out c =
+    let at = c .before .before .before .before .before in
+    omega (arith, low (at))
 
 array-write-out : tie.Need-array-write-out Inv-loop μ-loop
-array-write-out c = omega (arith, low (c .before .before .before .before .before))
+array-write-out c =
+    let at = c .before .before .before .before .before in
+    omega (arith, low (at))
 
 add-k : tie.Need-add-k Inv-loop μ-loop
 add-k c = omega arith
@@ -62,22 +74,26 @@ loop-less c = omega arith
 loop-again : tie.Need-loop-again Inv-loop μ-loop
 loop-again c =
     let a = c .before .before .before .before .before .before .before .before .before .before .args in
+    let entry = c .before .before .before .entry in
+    let at = c .before .before .before .before in
+    let loop-test = c .before .before .before .before .loop-test in
+    let loop = c .before .before .before .before .before .loop in
     let p = a .p in
     let st = alone (a .row) in
     let i : ℕ = 0 in
-    let l = c .before .before .before .before .before .loop in
+    let l = loop in
     let k = l .k in
     let v : View = viewOf p (a .image .now) (a .pointers .now) in
     let f : ℕ → ℕ = winnerOf p v (a .addresses .now) (landedCands p v (a .segment) st i) in
-    let m : k < 8 = low (c .before .before .before .before) in
-    let e : c .before .before .before .entry .result .address .0 ≡ entryIn st i k .address = ap (λ (r : Rec). r .address) (c .before .before .before .entry .ensures) in
+    let m : k < 8 = low (at) in
+    let e : entry .result .address .0 ≡ entryIn st i k .address = ap (λ (r : Rec). r .address) (entry .ensures) in
     let g : length (c .if1 .out) ≡ 8 = ⊎-elim (λ w. ap length (w .2) ∙ length-set (l .out) k (w .1 .result .0) ∙ l .inv .2) (λ w. ap length (w .1) ∙ l .inv .2) (c .if1 .came) in
     let T : List ℕ → Type 0 = λ x. (h : ℕ) → h < k + 1 → entryIn st i h .address < p .L → getD x h 0 ≡ f (entryIn st i h .address) in
     let b : T (c .if1 .out) =
     ⊎-elim
     (λ w. subst T (sym (w .2)) (set-winner p st i f (l .out) k (l .inv .3) (w .1 .result .0) (omega (arith, m, l .inv .2)) (w .1 .ensures ∙ ap f e)))
     (λ w. subst T (sym (w .1)) (keep-winner p st i f (l .out) k (l .inv .3) (omega (arith, w .0 .left, e)))) (c .if1 .came) in
-    (l .inv .0, omega (arith, c .before .before .before .before .loop-test .taken), g, b)
+    (l .inv .0, omega (arith, loop-test .taken), g, b)
 
 returns : tie.Need-returns Inv-loop μ-loop
 returns c k h = c .before .loop .inv .3 k (omega (arith, c .loop-test .left, c .before .before .filled-in .ensures))

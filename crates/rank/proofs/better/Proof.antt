@@ -18,9 +18,10 @@ beats-requires c κs = search needs
 returns : tie.Need-returns
 returns c =
     let a = c .before .before .before .before .before .args in
-    let h = c .before .before .before .b .given .0 .0 in
+    let b = c .before .before .before .b in
+    let h = b .given .0 .0 in
     better-new (ranked h) (ranked (a .c)) (sym (c .before .beats .ensures) ∙ c .if1 .taken)
-    ∙ ap (λ (x : Best). better (rankedBest x) (ranked (a .c))) (sym (c .before .before .before .b .given .1))
+    ∙ ap (λ (x : Best). better (rankedBest x) (ranked (a .c))) (sym (b .given .1))
 
 returns-2 : tie.Need-returns-2
 returns-2 c =
@@ -30,9 +31,10 @@ returns-2 c =
 returns-3 : tie.Need-returns-3
 returns-3 c =
     let a = c .before .before .before .before .before .args in
-    let h = c .before .before .before .b .given .0 .0 in
+    let b = c .before .before .before .b in
+    let h = b .given .0 .0 in
     better-old (ranked h) (ranked (a .c)) (sym (c .before .beats .ensures) ∙ c .if1 .left)
-    ∙ ap (λ (x : Best). better (rankedBest x) (ranked (a .c))) (sym (c .before .before .before .b .given .1))
+    ∙ ap (λ (x : Best). better (rankedBest x) (ranked (a .c))) (sym (b .given .1))
 
 pub better-spec : {M : Type 1} → statement M
 better-spec = tie.close (tie.spec enum-told enum-known-b beats-requires returns returns-2 returns-3)

@@ -17,8 +17,9 @@ returns c = place-none ∙ ap (λ (x : Best). placeOr (rankedBest x)) (sym (c .e
 
 returns-2 : tie.Need-returns-2
 returns-2 c =
-    let h = c .before .before .b .given .0 .0 in
-    place-some (ranked h) ∙ ap (λ (x : Best). placeOr (rankedBest x)) (sym (c .before .before .b .given .1))
+    let b = c .before .before .b in
+    let h = b .given .0 .0 in
+    place-some (ranked h) ∙ ap (λ (x : Best). placeOr (rankedBest x)) (sym (b .given .1))
 
 pub place-or-spec : {M : Type 1} → statement M
 place-or-spec = tie.close (tie.spec enum-told enum-known-b returns returns-2)

@@ -23,7 +23,9 @@ returns c =
     sym (ap (λ (y : Bool). cond y (a .block .now) x) (sym (c .before .has-drive .ensures) ∙ c .if1 .taken))
 
 shown-at-requires : tie.Need-shown-at-requires
-shown-at-requires c κs = (c .before .before .before .before .before .before .pre .0, ((c .before .before .before .before .before .before .pre .1 .0 .pointers-long, c .before .before .before .before .before .before .pre .1 .1 .0 .0), c .before .before .before .before .before .before .pre .1 .1 .1 .0))
+shown-at-requires c κs =
+    let pre = c .before .before .before .before .before .before .pre in
+    (pre .0, ((pre .1 .0 .pointers-long, pre .1 .1 .0 .0), pre .1 .1 .1 .0))
 
 here! : (c : tie.After-shown-at) → isIn (c .before .before .before .before .before .before .before .args .missing) (c .before .before .before .before .before .before .before .args .drive) ≡ false
 here! c = sym (c .before .before .has-drive .ensures) ∙ c .before .if1 .left
@@ -37,8 +39,21 @@ in-zone c =
     (c .shown-at .result) (c .shown-at .ensures .0 (a .image .now) (q .1 .0 .image-long))
 
 -- and its bytes
-chunk-at : (c : tie.After-shown-at) → shownBlock (c .before .before .before .before .before .before .before .args .p) (viewOf (c .before .before .before .before .before .before .before .args .p) (c .before .before .before .before .before .before .before .args .image .now) (c .before .before .before .before .before .before .before .args .pointers .now)) (c .before .before .before .before .before .before .before .args .compact .now) (c .before .before .before .before .before .before .before .args .zone) (c .before .before .before .before .before .before .before .args .s) (c .before .before .before .before .before .before .before .args .drive)
-    ≡ part (placeByte (c .before .before .before .before .before .before .before .args .p) (placeOf (c .before .before .before .before .before .before .before .args .p) (c .before .before .before .before .before .before .before .args .drive) (c .before .before .before .before .before .before .before .args .zone) (1 + c .shown-at .result))) (c .before .before .before .before .before .before .before .args .p .B) (c .before .before .before .before .before .before .before .args .image .now)
+chunk-at :
+    (c : tie.After-shown-at)
+    → shownBlock (c .before .before .before .before .before .before .before .args .p)
+    (viewOf (c .before .before .before .before .before .before .before .args .p)
+    (c .before .before .before .before .before .before .before .args .image .now)
+    (c .before .before .before .before .before .before .before .args .pointers .now))
+    (c .before .before .before .before .before .before .before .args .compact .now)
+    (c .before .before .before .before .before .before .before .args .zone) (c .before .before .before .before .before .before .before .args .s)
+    (c .before .before .before .before .before .before .before .args .drive)
+    ≡ part (placeByte (c .before .before .before .before .before .before .before .args .p)
+    (placeOf (c .before .before .before .before .before .before .before .args .p)
+    (c .before .before .before .before .before .before .before .args .drive)
+    (c .before .before .before .before .before .before .before .args .zone) (1 + c .shown-at .result)))
+    (c .before .before .before .before .before .before .before .args .p .B)
+    (c .before .before .before .before .before .before .before .args .image .now)
 chunk-at c =
     let a = c .before .before .before .before .before .before .before .args in
     let q = c .before .before .before .before .before .before .before .pre in
@@ -46,10 +61,16 @@ chunk-at c =
     (c .shown-at .result) (c .shown-at .ensures .0 (a .image .now) (q .1 .0 .image-long))
 
 add-block-byte : tie.Need-add-block-byte
-add-block-byte c = omega (arith, c .shown-at .ensures .1 .1, ranged (c .before .before .before .before .before .before .before .args .p) (c .before .before .before .before .before .before .before .pre .0) .stripes-high)
+add-block-byte c =
+    let entry = c .before .before .before .before .before .before .before in
+    let args = entry .args in
+    let pre = entry .pre in
+    omega (arith, c .shown-at .ensures .1 .1, ranged (args .p) (pre .0) .stripes-high)
 
 block-byte-requires : tie.Need-block-byte-requires
-block-byte-requires c κs = (c .before .before .before .before .before .before .before .pre .0, (c .before .before .before .before .before .before .before .pre .1 .1 .1 .0 .0, c .before .before .before .before .before .before .before .pre .1 .1 .1 .0 .1, in-zone c))
+block-byte-requires c κs =
+    let pre = c .before .before .before .before .before .before .before .pre in
+    (pre .0, (pre .1 .1 .1 .0 .0, pre .1 .1 .1 .0 .1, in-zone c))
 
 add-end : tie.Need-add-end
 add-end c = search needs
@@ -62,7 +83,9 @@ part-xor-into-start c = search needs
 
 part-xor-into-end : tie.Need-part-xor-into-end
 unfolding unitLen
-part-xor-into-end c = omega (arith, c .before .before .block-byte .ensures .1, c .before .before .before .before .before .before .before .before .before .before .pre .1 .0 .image-long)
+part-xor-into-end c =
+    let pre = c .before .before .before .before .before .before .before .before .before .before .pre in
+    omega (arith, c .before .before .block-byte .ensures .1, pre .1 .0 .image-long)
 
 xor-into-requires : tie.Need-xor-into-requires
 xor-into-requires c κs = search needs
@@ -73,11 +96,14 @@ same-length c = search needs
 returns-2 : tie.Need-returns-2
 returns-2 c =
     let a = c .before .before .before .before .before .before .before .before .before .before .before .before .before .before .args in
+    let xor-into = c .before .before .xor-into in
+    let block-byte = c .before .before .before .before .before .before .block-byte in
+    let at = c .before .before .before .before .before .before .before in
     let v = viewOf (a .p) (a .image .now) (a .pointers .now) in
     let g = shownBlock (a .p) v (a .compact .now) (a .zone) (a .s) (a .drive) in
-    c .before .before .xor-into .ensures
-    ∙ ap (xors (a .block .now)) (part-lent (c .before .before .before .before .before .before .block-byte .result) (a .p .B) (a .image .now) ∙ ap (λ (x : ℕ). part x (a .p .B) (a .image .now)) (c .before .before .before .before .before .before .block-byte .ensures .0) ∙ sym (chunk-at (c .before .before .before .before .before .before .before)))
-    ∙ sym (ap (λ (x : Bool). cond x (a .block .now) (xors (a .block .now) g)) (here! (c .before .before .before .before .before .before .before)))
+    xor-into .ensures
+    ∙ ap (xors (a .block .now)) (part-lent (block-byte .result) (a .p .B) (a .image .now) ∙ ap (λ (x : ℕ). part x (a .p .B) (a .image .now)) (block-byte .ensures .0) ∙ sym (chunk-at (at)))
+    ∙ sym (ap (λ (x : Bool). cond x (a .block .now) (xors (a .block .now) g)) (here! (at)))
 
 pub add-chunk-spec : {M : Type 1} → statement M
 add-chunk-spec =

@@ -25,7 +25,9 @@ returns c = sym (ap (λ (x : Found). readAnswer (c .before .before .args .p) (fo
 
 returns-2 : tie.Need-returns-2
 unfolding readAnswer
-returns-2 c = ap Part (c .place-byte .ensures .0) ∙ sym (ap (λ (x : Found). readAnswer (c .before .before .before .before .args .p) (foundOf x)) (c .before .before .f .given .1))
+returns-2 c =
+    let args = c .before .before .before .before .args in
+    ap Part (c .place-byte .ensures .0) ∙ sym (ap (λ (x : Found). readAnswer (args .p) (foundOf x)) (c .before .before .f .given .1))
 
 returns-3 : tie.Need-returns-3
 unfolding readAnswer

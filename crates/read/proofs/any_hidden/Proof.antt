@@ -14,7 +14,11 @@ use Rattle.read.proofs.any_hidden.Tie as tie
 -- the drives from d on hide the stripe just if all do
 abbrev Inv-loop : tie.InvT-loop
 Inv-loop p pointers gone compact zone s d₀ d =
-    (d ≤ p .N) × ((im : List ℕ) → length im ≡ imageLen p → any (hides p (viewOf p im pointers) gone compact zone s) (upFrom d (p .N - d)) ≡ any (hides p (viewOf p im pointers) gone compact zone s) (below (p .N)))
+    (d ≤ p .N)
+    × ((im : List ℕ)
+    → length im ≡ imageLen p
+    → any (hides p (viewOf p im pointers) gone compact zone s) (upFrom d (p .N - d)) ≡ any (hides p (viewOf p im pointers) gone compact zone s)
+    (below (p .N)))
 
 abbrev μ-loop : tie.MeasureT-loop
 μ-loop p pointers gone compact zone s d₀ d = p .N - d
@@ -25,13 +29,16 @@ loop-holds c =
     (omega arith, λ im h. any-start (hides (a .p) (viewOf (a .p) im (a .pointers .now)) (a .gone) (a .compact .now) (a .zone) (a .s)) (a .p .N))
 
 is-hidden-requires : tie.Need-is-hidden-requires Inv-loop μ-loop
-is-hidden-requires c κs = (c .before .before .before .before .before .pre .0, (c .before .before .before .before .before .pre .1 .0, (c .if1 .taken, c .before .before .before .before .before .pre .1 .1 .0, c .before .before .before .before .before .pre .1 .1 .1)))
+is-hidden-requires c κs =
+    let pre = c .before .before .before .before .before .pre in
+    (pre .0, (pre .1 .0, (c .if1 .taken, pre .1 .1 .0, pre .1 .1 .1)))
 
 returns : tie.Need-returns Inv-loop μ-loop
 returns c =
     let a = c .before .before .before .before .before .before .before .args in
     let l = c .before .before .before .before .loop in
-    λ im h. sym (any-found (hides (a .p) (viewOf (a .p) im (a .pointers .now)) (a .gone) (a .compact .now) (a .zone) (a .s)) (l .d) (a .p .N) (c .before .before .if1 .taken) (sym (c .before .is-hidden .ensures im h) ∙ c .if2 .taken))
+    λ im h. sym (any-found (hides (a .p) (viewOf (a .p) im (a .pointers .now)) (a .gone) (a .compact .now) (a .zone) (a .s)) (l .d) (a .p .N)
+    (c .before .before .if1 .taken) (sym (c .before .is-hidden .ensures im h) ∙ c .if2 .taken))
     ∙ l .inv .1 im h ∙ hidden-any (a .p) (viewOf (a .p) im (a .pointers .now)) (a .gone) (a .compact .now) (a .zone) (a .s)
 
 add-d : tie.Need-add-d Inv-loop μ-loop
@@ -43,9 +50,11 @@ loop-less c = omega (arith, c .before .before .if1 .taken)
 loop-again : tie.Need-loop-again Inv-loop μ-loop
 loop-again c =
     let a = c .before .before .before .before .before .before .before .args in
-    let l = c .before .before .before .before .loop in (
-      omega (arith, c .before .before .if1 .taken),
-      λ im h. sym (any-passed (hides (a .p) (viewOf (a .p) im (a .pointers .now)) (a .gone) (a .compact .now) (a .zone) (a .s)) (l .d) (a .p .N) (c .before .before .if1 .taken) (sym (c .before .is-hidden .ensures im h) ∙ c .if2 .left))
+    let l = c .before .before .before .before .loop in
+    let if1 = c .before .before .if1 in (
+      omega (arith, if1 .taken),
+      λ im h. sym (any-passed (hides (a .p) (viewOf (a .p) im (a .pointers .now)) (a .gone) (a .compact .now) (a .zone) (a .s)) (l .d) (a .p .N)
+          (if1 .taken) (sym (c .before .is-hidden .ensures im h) ∙ c .if2 .left))
           ∙ l .inv .1 im h,
     )
 

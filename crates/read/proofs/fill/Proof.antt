@@ -35,15 +35,17 @@ missing-requires c κs = search needs
 fill-found-requires : tie.Need-fill-found-requires
 fill-found-requires c κs =
     let s = c .before .before .before .before .before .before .before .before .before .before .before .before .before in
+    let sought2 = c .before .before .before .sought2 in
+    let seek = c .before .before .before .before .before .seek in
     let p = s .args .p in
     let k = disk s in
     let m = memory s in
     let a = s .args .address .0 in
     let n = length (s .args .block .now) in
-    let none! : refusal p k m a n ≡ none = sym (c .before .before .before .before .before .seek .ensures .0) ∙ ap refusedBy (c .before .before .before .sought2 .given .1) in
+    let none! : refusal p k m a n ≡ none = sym (seek .ensures .0) ∙ ap refusedBy (sought2 .given .1) in
     let r = ready p k m a n none! in
     let f = found p k m a n in
-    let e = subst (λ (x : Sought). liesAt x f) (c .before .before .before .sought2 .given .1) (c .before .before .before .before .before .seek .ensures .1) in
+    let e = subst (λ (x : Sought). liesAt x f) (sought2 .given .1) (seek .ensures .1) in
     let h : placedAt p f = found-placed p (viewOf p (k .image) (k .pointers)) (m .state .missing) f (r .faultless) in
     (r .ranged, (r .whole, (r .compact-long, r .block-long, subst (placedAt p) (sym e) h)))
 

@@ -23,7 +23,12 @@ part-copy-start c = search needs
 
 part-copy-end : tie.Need-part-copy-end
 unfolding unitLen
-part-copy-end c = omega (arith, c .before .before .place-byte .ensures .0, place-in (c .before .before .before .before .before .args .p) (c .before .before .before .before .before .args .q .0) (c .before .before .before .before .before .pre .0) (c .before .before .before .before .before .pre .1 .2), c .before .before .before .before .before .pre .1 .0)
+part-copy-end c =
+    let place-byte = c .before .before .place-byte in
+    let entry = c .before .before .before .before .before in
+    let args = entry .args in
+    let pre = entry .pre in
+    omega (arith, place-byte .ensures .0, place-in (args .p) (args .q .0) (pre .0) (pre .1 .2), pre .1 .0)
 
 copy-requires : tie.Need-copy-requires
 copy-requires c κs = search needs
@@ -34,7 +39,9 @@ same-length c = search needs
 returns : tie.Need-returns
 returns c =
     let a = c .before .before .before .before .before .before .before .before .before .args in
-    c .before .before .copy .ensures ∙ part-lent (c .before .before .before .before .before .before .place-byte .result) (a .p .B) (a .image .now) ∙ ap (λ (x : ℕ). part x (a .p .B) (a .image .now)) (c .before .before .before .before .before .before .place-byte .ensures .0)
+    let copy = c .before .before .copy in
+    let place-byte = c .before .before .before .before .before .before .place-byte in
+    copy .ensures ∙ part-lent (place-byte .result) (a .p .B) (a .image .now) ∙ ap (λ (x : ℕ). part x (a .p .B) (a .image .now)) (place-byte .ensures .0)
 
 pub fill-here-spec : {M : Type 1} → statement M
 fill-here-spec =

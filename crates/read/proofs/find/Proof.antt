@@ -49,12 +49,14 @@ returns c =
 returns-2 : tie.Need-returns-2
 returns-2 c =
     let s = c .before .before .before .before .before .before .before .before .before .before .before in
+    let sought2 = c .before .before .sought2 in
+    let seek = c .before .before .before .before .seek in
     let p = s .args .p in
     let k = disk s in
     let m = memory s in
     let a = s .args .address .0 in
-    let none! : refusal p k m a (p .B) ≡ none = sym (c .before .before .before .before .seek .ensures .0) ∙ ap refusedBy (c .before .before .sought2 .given .1) in
-    let e = subst (λ (x : Sought). liesAt x (found p k m a (p .B))) (c .before .before .sought2 .given .1) (c .before .before .before .before .seek .ensures .1) in
+    let none! : refusal p k m a (p .B) ≡ none = sym (seek .ensures .0) ∙ ap refusedBy (sought2 .given .1) in
+    let e = subst (λ (x : Sought). liesAt x (found p k m a (p .B))) (sought2 .given .1) (seek .ensures .1) in
     read-done p k m a (c .answer-of .result) none! (c .answer-of .ensures ∙ ap (readAnswer p) e)
 
 pub find-spec : {M : Type 1} → statement M

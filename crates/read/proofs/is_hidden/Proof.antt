@@ -13,7 +13,9 @@ has-drive-requires c κs = search needs
 returns : tie.Need-returns
 returns c =
     let a = c .before .before .before .before .args in
-    λ im h. sym (ap (λ (x : Bool). not x && isNil (shownAt (a .p) (viewOf (a .p) im (a .pointers .now)) (a .compact .now) (a .drive) (a .zone) (a .s))) (sym (c .before .has-drive .ensures) ∙ c .if1 .taken))
+    λ im h. sym (ap
+    (λ (x : Bool). not x && isNil (shownAt (a .p) (viewOf (a .p) im (a .pointers .now)) (a .compact .now) (a .drive) (a .zone) (a .s)))
+    (sym (c .before .has-drive .ensures) ∙ c .if1 .taken))
 
 shown-at-requires : tie.Need-shown-at-requires
 shown-at-requires c κs = search needs
@@ -22,7 +24,8 @@ returns-2 : tie.Need-returns-2
 returns-2 c =
     let a = c .before .before .before .before .before .before .args in
     λ im h. c .before .shown-at .ensures .1 .0 im h
-    ∙ sym (ap (λ (x : Bool). not x && isNil (shownAt (a .p) (viewOf (a .p) im (a .pointers .now)) (a .compact .now) (a .drive) (a .zone) (a .s))) (sym (c .before .before .before .has-drive .ensures) ∙ c .before .before .if1 .left))
+    ∙ sym (ap (λ (x : Bool). not x && isNil (shownAt (a .p) (viewOf (a .p) im (a .pointers .now)) (a .compact .now) (a .drive) (a .zone) (a .s)))
+    (sym (c .before .before .before .has-drive .ensures) ∙ c .before .before .if1 .left))
 
 pub is-hidden-spec : {M : Type 1} → statement M
 is-hidden-spec =

@@ -35,13 +35,26 @@ find-requires c κs = search needs
 enum-known-answer : tie.Need-enum-known-answer
 enum-known-answer c = search needs
 
-answered : (c : tie.After-find) → c .find .result ≡ callDisk (c .before .before .before .before .before .before .before .args .p) (mkDisk (c .before .before .before .before .before .before .before .args .image .now) (c .before .before .before .before .before .before .before .args .pointers .now)) (mkMemory (stateOf (c .before .before .before .before .before .before .before .args .state .now)) (c .before .before .before .before .before .before .before .args .addresses .now) (c .before .before .before .before .before .before .before .args .compact .now) (c .before .before .before .before .before .before .before .args .inflight .now)) (read (c .before .before .before .before .before .before .before .args .address .0)) .answer
+answered :
+    (c : tie.After-find)
+    → c .find .result ≡ callDisk (c .before .before .before .before .before .before .before .args .p)
+    (mkDisk (c .before .before .before .before .before .before .before .args .image .now)
+    (c .before .before .before .before .before .before .before .args .pointers .now))
+    (mkMemory (stateOf (c .before .before .before .before .before .before .before .args .state .now))
+    (c .before .before .before .before .before .before .before .args .addresses .now)
+    (c .before .before .before .before .before .before .before .args .compact .now)
+    (c .before .before .before .before .before .before .before .args .inflight .now))
+    (read (c .before .before .before .before .before .before .before .args .address .0)) .answer
 answered c = ap (λ (x : After Disk). x .answer) (c .find .ensures)
 
-within : (c : tie.After-answer) → c .answer .given .0 .0 + c .before .before .before .before .before .before .before .before .before .args .p .B ≤ length (c .before .before .before .before .before .before .before .before .before .args .image .now)
+within :
+    (c : tie.After-answer)
+    → c .answer .given .0 .0 + c .before .before .before .before .before .before .before .before .before .args .p .B ≤ length
+    (c .before .before .before .before .before .before .before .before .before .args .image .now)
 within c =
     let a = c .before .before .before .before .before .before .before .before .before .args in
-    part-within (a .p) (mkDisk (a .image .now) (a .pointers .now)) (mkMemory (stateOf (a .state .now)) (a .addresses .now) (a .compact .now) (a .inflight .now)) (a .address .0) (c .answer .given .0 .0)
+    part-within (a .p) (mkDisk (a .image .now) (a .pointers .now))
+    (mkMemory (stateOf (a .state .now)) (a .addresses .now) (a .compact .now) (a .inflight .now)) (a .address .0) (c .answer .given .0 .0)
     (sym (answered (c .before .before)) ∙ c .answer .given .1)
 
 add-e : tie.Need-add-e
@@ -59,8 +72,10 @@ part-result-end c = within (c .before .before)
 returns : tie.Need-returns
 returns c =
     let a = c .before .before .before .before .before .before .before .before .before .before .before .before .args in
-    let at = c .before .before .before .answer .given .0 .0 in
-    let e = sym (answered (c .before .before .before .before .before)) ∙ c .before .before .before .answer .given .1 in
+    let answer = c .before .before .before .answer in
+    let at′ = c .before .before .before .before .before in
+    let at = answer .given .0 .0 in
+    let e = sym (answered (at′)) ∙ answer .given .1 in
     let e₁ = ap partAt e ∙ part-here (a .p) at .0 in
     let e₂ = ap (partLen (a .p)) e ∙ part-here (a .p) at .1 in
     record {
@@ -107,9 +122,11 @@ no-part Rebuilt h = refl
 returns-2 : tie.Need-returns-2
 returns-2 c =
     let a = c .before .before .before .before .before .before .before .before .before .args in
-    let e = part-none (a .p) (c .before .before .find .result) (no-part (c .before .before .find .result) (c .before .match .keys2)) in
-    let e₁ = e .0 ∙ ap partAt (answered (c .before .before)) in
-    let e₂ = e .1 ∙ ap (partLen (a .p)) (answered (c .before .before)) in
+    let at = c .before .before in
+    let find = c .before .before .find in
+    let e = part-none (a .p) (find .result) (no-part (find .result) (c .before .match .keys2)) in
+    let e₁ = e .0 ∙ ap partAt (answered (at)) in
+    let e₂ = e .1 ∙ ap (partLen (a .p)) (answered (at)) in
     record {
       bytes = sym (part-zero 0 (a .image .now)) ∙ (λ j. part (e₁ j) (e₂ j) (a .image .now));
       object = refl;

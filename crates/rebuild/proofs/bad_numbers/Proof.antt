@@ -22,7 +22,8 @@ names-missing-requires c κs = tt
 returns-2 : tie.Need-returns-2
 returns-2 c =
     let a = c .before .before .before .args in
-    ap not (c .names-missing .ensures) ∙ sym (numbers-named (a .p) (a .missing) (a .drive) (sym (c .before .before .in-range .ensures) ∙ not-false (c .before .before .in-range .result) (c .before .if1 .left)))
+    let in-range = c .before .before .in-range in
+    ap not (c .names-missing .ensures) ∙ sym (numbers-named (a .p) (a .missing) (a .drive) (sym (in-range .ensures) ∙ not-false (in-range .result) (c .before .if1 .left)))
 
 pub bad-numbers-spec : {M : Type 1} → statement M
 bad-numbers-spec = tie.close (tie.spec in-range-requires returns names-missing-requires returns-2)

@@ -39,7 +39,8 @@ returns-2 c =
     let d = a .drive in
     let k = mkDisk (a .image .now) (a .pointers .now) in
     let m = mkMemory (a .state) (a .addresses .now) (a .compact .now) (a .inflight .now) in
-    lengths-fail p k m d (sym (c .before .before .before .bad-numbers .ensures) ∙ c .before .before .if1 .left) (sym (c .before .lent-ok .ensures (a .state)) ∙ not-true (c .before .lent-ok .result) (c .if2 .taken))
+    lengths-fail p k m d (sym (c .before .before .before .bad-numbers .ensures) ∙ c .before .before .if1 .left)
+    (sym (c .before .lent-ok .ensures (a .state)) ∙ not-true (c .before .lent-ok .result) (c .if2 .taken))
 
 only-drive-requires : tie.Need-only-drive-requires
 only-drive-requires c κs = tt
@@ -47,40 +48,69 @@ only-drive-requires c κs = tt
 pointer-fault-requires : tie.Need-pointer-fault-requires
 pointer-fault-requires c κs =
     let a = c .before .before .before .before .before .before .before .before .before .before .args in
+    let lent-ok = c .before .before .lent-ok in
+    let if1 = c .before .before .before .if1 in
+    let bad-numbers = c .before .before .before .before .bad-numbers in
     let p = a .p in
     let d = a .drive in
     let k = mkDisk (a .image .now) (a .pointers .now) in
-    let m = mkMemory (a .state) (a .addresses .now) (a .compact .now) (a .inflight .now) in
-    (numbers-good p (a .state .missing) d (sym (c .before .before .before .before .bad-numbers .ensures) ∙ c .before .before .before .if1 .left) .0, whole-of p k m (sym (c .before .before .lent-ok .ensures (a .state)) ∙ not-false (c .before .before .lent-ok .result) (c .before .if2 .left)) .pointers-long)
+    let m = mkMemory (a .state) (a .addresses .now) (a .compact .now) (a .inflight .now) in (
+      numbers-good p (a .state .missing) d (sym (bad-numbers .ensures) ∙ if1 .left) .0,
+      whole-of p k m (sym (lent-ok .ensures (a .state)) ∙ not-false (lent-ok .result) (c .before .if2 .left)) .pointers-long,
+    )
 
 -- the zone that is found is the first of those above
-found : (c : tie.After-pointer-fault) → c .pointer-fault .result ≡ firstOr (c .before .before .before .before .before .before .before .before .before .before .before .args .p .Z) (pointerFaults (c .before .before .before .before .before .before .before .before .before .before .before .args .p) (viewOf (c .before .before .before .before .before .before .before .before .before .before .before .args .p) (c .before .before .before .before .before .before .before .before .before .before .before .args .image .now) (c .before .before .before .before .before .before .before .before .before .before .before .args .pointers .now)) (named (c .before .before .before .before .before .before .before .before .before .before .before .args .drive)))
+found :
+    (c : tie.After-pointer-fault)
+    → c .pointer-fault .result ≡ firstOr (c .before .before .before .before .before .before .before .before .before .before .before .args .p .Z)
+    (pointerFaults (c .before .before .before .before .before .before .before .before .before .before .before .args .p)
+    (viewOf (c .before .before .before .before .before .before .before .before .before .before .before .args .p)
+    (c .before .before .before .before .before .before .before .before .before .before .before .args .image .now)
+    (c .before .before .before .before .before .before .before .before .before .before .before .args .pointers .now))
+    (named (c .before .before .before .before .before .before .before .before .before .before .before .args .drive)))
 found c =
     let a = c .before .before .before .before .before .before .before .before .before .before .before .args in
+    let if2 = c .before .before .if2 in
+    let lent-ok = c .before .before .before .lent-ok in
     let p = a .p in
     let d = a .drive in
     let k = mkDisk (a .image .now) (a .pointers .now) in
     let m = mkMemory (a .state) (a .addresses .now) (a .compact .now) (a .inflight .now) in
-    c .pointer-fault .ensures .1 (a .image .now) (whole-of p k m (sym (c .before .before .before .lent-ok .ensures (a .state)) ∙ not-false (c .before .before .before .lent-ok .result) (c .before .before .if2 .left)) .image-long) ∙ ap (λ (x : ℕ). firstOr (p .Z) (pointerFaults p (viewOf p (a .image .now) (a .pointers .now)) x)) (c .before .only-drive .ensures ∙ only-named d)
+    c .pointer-fault .ensures .1 (a .image .now)
+    (whole-of p k m (sym (lent-ok .ensures (a .state)) ∙ not-false (lent-ok .result) (if2 .left)) .image-long)
+    ∙ ap (λ (x : ℕ). firstOr (p .Z) (pointerFaults p (viewOf p (a .image .now) (a .pointers .now)) x))
+    (c .before .only-drive .ensures ∙ only-named d)
 
 returns-3 : tie.Need-returns-3
 returns-3 c =
     let a = c .before .before .before .before .before .before .before .before .before .before .before .before .before .args in
+    let at = c .before .before in
+    let pointer-fault = c .before .before .pointer-fault in
+    let if2 = c .before .before .before .before .if2 in
+    let lent-ok = c .before .before .before .before .before .lent-ok in
+    let if1 = c .before .before .before .before .before .before .if1 in
+    let bad-numbers = c .before .before .before .before .before .before .before .bad-numbers in
     let p = a .p in
     let d = a .drive in
     let k = mkDisk (a .image .now) (a .pointers .now) in
     let m = mkMemory (a .state) (a .addresses .now) (a .compact .now) (a .inflight .now) in
-    pointers-fail p k m d (sym (c .before .before .before .before .before .before .before .bad-numbers .ensures) ∙ c .before .before .before .before .before .before .if1 .left) (sym (c .before .before .before .before .before .lent-ok .ensures (a .state)) ∙ not-false (c .before .before .before .before .before .lent-ok .result) (c .before .before .before .before .if2 .left)) (c .before .before .pointer-fault .result) (found (c .before .before)) (c .if3 .taken)
+    pointers-fail p k m d (sym (bad-numbers .ensures) ∙ if1 .left) (sym (lent-ok .ensures (a .state)) ∙ not-false (lent-ok .result) (if2 .left)) (pointer-fault .result) (found (at)) (c .if3 .taken)
 
 returns-4 : tie.Need-returns-4
 returns-4 c =
     let a = c .before .before .before .before .before .before .before .before .before .before .before .before .before .args in
+    let at = c .before .before in
+    let pointer-fault = c .before .before .pointer-fault in
+    let if2 = c .before .before .before .before .if2 in
+    let lent-ok = c .before .before .before .before .before .lent-ok in
+    let if1 = c .before .before .before .before .before .before .if1 in
+    let bad-numbers = c .before .before .before .before .before .before .before .bad-numbers in
     let p = a .p in
     let d = a .drive in
     let k = mkDisk (a .image .now) (a .pointers .now) in
     let m = mkMemory (a .state) (a .addresses .now) (a .compact .now) (a .inflight .now) in
-    let z : c .before .before .pointer-fault .result ≡ p .Z = omega (arith, c .if3 .left, c .before .before .pointer-fault .ensures .0) in
-    pointers-pass p k m d (sym (c .before .before .before .before .before .before .before .bad-numbers .ensures) ∙ c .before .before .before .before .before .before .if1 .left) (sym (c .before .before .before .before .before .lent-ok .ensures (a .state)) ∙ not-false (c .before .before .before .before .before .lent-ok .result) (c .before .before .before .before .if2 .left)) (sym (found (c .before .before)) ∙ z)
+    let z : pointer-fault .result ≡ p .Z = omega (arith, c .if3 .left, pointer-fault .ensures .0) in
+    pointers-pass p k m d (sym (bad-numbers .ensures) ∙ if1 .left) (sym (lent-ok .ensures (a .state)) ∙ not-false (lent-ok .result) (if2 .left)) (sym (found (at)) ∙ z)
 
 pub checks-spec : {M : Type 1} → statement M
 checks-spec = tie.close (tie.spec bad-numbers-requires returns lent-ok-requires returns-2 only-drive-requires pointer-fault-requires returns-3 returns-4)

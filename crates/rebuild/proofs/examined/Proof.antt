@@ -26,12 +26,13 @@ only-drive-requires c κs = tt
 serials-requires : tie.Need-serials-requires
 serials-requires c κs =
     let a = c .before .before .before .before .before .before .before .args in
+    let pre = c .before .before .before .before .before .before .before .pre in
     let p = a .p in
     let d = a .drive in
     let v = viewOf p (a .image .now) (a .pointers .now) in
     let k = mkDisk (a .image .now) (a .pointers .now) in
     let m = mkMemory (a .state) (a .addresses .now) (a .compact .now) (a .inflight .now) in
-    let rd = ready p k m d (c .before .before .before .before .before .before .before .pre) in
+    let rd = ready p k m d (pre) in
     let w = whole-of p k m (rd .lent) in
     (rd .in-range, w .image-long)
 
@@ -41,12 +42,13 @@ slice-aggregate-kept c = search needs
 kept-requires : tie.Need-kept-requires
 kept-requires c κs =
     let a = c .before .before .before .before .before .before .before .before .before .before .before .args in
+    let pre = c .before .before .before .before .before .before .before .before .before .before .before .pre in
     let p = a .p in
     let d = a .drive in
     let v = viewOf p (a .image .now) (a .pointers .now) in
     let k = mkDisk (a .image .now) (a .pointers .now) in
     let m = mkMemory (a .state) (a .addresses .now) (a .compact .now) (a .inflight .now) in
-    let rd = ready p k m d (c .before .before .before .before .before .before .before .before .before .before .before .pre) in
+    let rd = ready p k m d (pre) in
     let w = whole-of p k m (rd .lent) in
     (rd .in-range, (w, c .before .before .before .serials .ensures (a .pointers .now) (w .pointers-long)))
 
@@ -59,14 +61,17 @@ slice-aggregate-examine-2 c = search needs
 examine-requires : tie.Need-examine-requires
 examine-requires c κs =
     let a = c .before .before .before .before .before .before .before .before .before .before .before .before .before .before .before .before .args in
+    let kept = c .before .before .before .before .kept in
+    let serials = c .before .before .before .before .before .before .before .before .serials in
+    let pre = c .before .before .before .before .before .before .before .before .before .before .before .before .before .before .before .before .pre in
     let p = a .p in
     let d = a .drive in
     let v = viewOf p (a .image .now) (a .pointers .now) in
     let k = mkDisk (a .image .now) (a .pointers .now) in
     let m = mkMemory (a .state) (a .addresses .now) (a .compact .now) (a .inflight .now) in
-    let rd = ready p k m d (c .before .before .before .before .before .before .before .before .before .before .before .before .before .before .before .before .pre) in
+    let rd = ready p k m d (pre) in
     let w = whole-of p k m (rd .lent) in
-    (rd .in-range, (w, (c .before .before .before .before .kept .ensures, c .before .before .before .before .before .before .before .before .serials .ensures (a .pointers .now) (w .pointers-long))))
+    (rd .in-range, (w, (kept .ensures, serials .ensures (a .pointers .now) (w .pointers-long))))
 
 same-length : tie.Need-same-length
 same-length c = search needs
@@ -77,31 +82,48 @@ same-length-2 c = search needs
 returns : tie.Need-returns
 returns c =
     let a = c .before .before .before .before .before .before .before .before .before .before .before .before .before .before .before .before .before .before .before .before .args in
+    let examine = c .before .before .before .examine in
+    let only-drive = c .before .before .before .before .before .before .before .before .before .before .before .before .before .before .only-drive in
+    let pre = c .before .before .before .before .before .before .before .before .before .before .before .before .before .before .before .before .before .before .before .before .pre in
     let p = a .p in
     let d = a .drive in
     let v = viewOf p (a .image .now) (a .pointers .now) in
     let k = mkDisk (a .image .now) (a .pointers .now) in
     let m = mkMemory (a .state) (a .addresses .now) (a .compact .now) (a .inflight .now) in
-    let ex : Examined p (named d) (segments p v (named d)) (c .before .before .before .examine .result) =
-    subst (λ (x : ℕ). Examined p x (segments p v x) (c .before .before .before .examine .result)) (c .before .before .before .before .before .before .before .before .before .before .before .before .before .before .only-drive .ensures ∙ only-named d) (c .before .before .before .examine .ensures) in
-    ends-refused p k m d (a .count) (BadZone (c .before .before .before .examine .result .zone)) (front-passed p k m d (c .before .before .before .before .before .before .before .before .before .before .before .before .before .before .before .before .before .before .before .before .pre) ∙ names-zone p v (named d) (c .before .before .before .examine .result) [] ex (c .if1 .taken))
+    let ex : Examined p (named d) (segments p v (named d)) (examine .result) =
+    subst (λ (x : ℕ). Examined p x (segments p v x) (examine .result)) (only-drive .ensures ∙ only-named d) (examine .ensures) in
+    ends-refused p k m d (a .count) (BadZone (examine .result .zone)) (front-passed p k m d (pre) ∙ names-zone p v (named d) (examine .result) [] ex (c .if1 .taken))
 
 slice-aggregate-restore : tie.Need-slice-aggregate-restore
 slice-aggregate-restore c = search needs
 
 restore-requires : tie.Need-restore-requires
 restore-requires c κs =
-    let a = c .before .before .before .before .before .before .before .before .before .before .before .before .before .before .before .before .before .before .before .before .before .before .before .before .before .args in
+    let if1′ = c .before .before .before .before .before .if1 in
+    let examine′ = c .before .before .before .before .before .before .before .before .examine in
+    let kept′ = c .before .before .before .before .before .before .before .before .before .before .before .before .before .kept in
+    let at = c .before .before .before .before .before .before .before .before .before .before .before .before .before .before .before .before .before in
+    let only-drive′ = c .before .before .before .before .before .before .before .before .before .before .before .before .before .before .before .before .before .before .before .only-drive in
+    let a =
+    at
+    .before .before .before .before .before .before .before .before .args in
+    let if1 = if1′ in
+    let examine = examine′ in
+    let kept = kept′ in
+    let only-drive = only-drive′ in
+    let pre =
+    at
+    .before .before .before .before .before .before .before .before .pre in
     let p = a .p in
     let d = a .drive in
     let v = viewOf p (a .image .now) (a .pointers .now) in
     let k = mkDisk (a .image .now) (a .pointers .now) in
     let m = mkMemory (a .state) (a .addresses .now) (a .compact .now) (a .inflight .now) in
-    let e = c .before .before .before .before .before .before .before .before .before .before .before .before .before .before .before .before .before .before .before .only-drive .ensures ∙ only-named d in
-    let ex : Examined p (named d) (segments p v (named d)) (c .before .before .before .before .before .before .before .before .examine .result) = subst (λ (x : ℕ). Examined p x (segments p v x) (c .before .before .before .before .before .before .before .before .examine .result)) e (c .before .before .before .before .before .before .before .before .examine .ensures) in
-    let l = zone-le p v (named d) (c .before .before .before .before .before .before .before .before .examine .result) ex in
-    let z : c .before .before .before .before .before .before .before .before .examine .result .zone ≡ p .Z = omega (arith, c .before .before .before .before .before .if1 .left, l) in
-    (c .before .before .before .before .before .before .before .before .before .before .before .before .before .before .before .before .before .before .before .before .before .before .before .before .before .pre, (no-faults p v (named d) (c .before .before .before .before .before .before .before .before .examine .result) ex z, subst (λ (x : ℕ). Keeps p v x (c .before .before .before .before .before .before .before .before .before .before .before .before .before .kept .result)) e (c .before .before .before .before .before .before .before .before .before .before .before .before .before .kept .ensures)))
+    let e = only-drive .ensures ∙ only-named d in
+    let ex : Examined p (named d) (segments p v (named d)) (examine .result) = subst (λ (x : ℕ). Examined p x (segments p v x) (examine .result)) e (examine .ensures) in
+    let l = zone-le p v (named d) (examine .result) ex in
+    let z : examine .result .zone ≡ p .Z = omega (arith, if1 .left, l) in
+    (pre, (no-faults p v (named d) (examine .result) ex z, subst (λ (x : ℕ). Keeps p v x (kept .result)) e (kept .ensures)))
 
 same-length-3 : tie.Need-same-length-3
 same-length-3 c = search needs
@@ -116,7 +138,12 @@ same-length-6 : tie.Need-same-length-6
 same-length-6 c = search needs
 
 returns-2 : tie.Need-returns-2
-returns-2 c = c .before .before .before .before .before .before .before .before .restore .ensures
+returns-2 c =
+    let restore = c .before .before .before .before .before .before .before .before .restore in
+    restore .ensures
 
 pub examined-spec : {M : Type 1} → statement M
-examined-spec = tie.close (tie.spec only-drive-requires serials-requires slice-aggregate-kept kept-requires slice-aggregate-examine slice-aggregate-examine-2 examine-requires same-length same-length-2 returns slice-aggregate-restore restore-requires same-length-3 same-length-4 same-length-5 same-length-6 returns-2)
+examined-spec =
+    tie.close (tie.spec only-drive-requires serials-requires slice-aggregate-kept kept-requires slice-aggregate-examine slice-aggregate-examine-2
+    examine-requires same-length same-length-2 returns slice-aggregate-restore restore-requires same-length-3 same-length-4 same-length-5
+    same-length-6 returns-2)

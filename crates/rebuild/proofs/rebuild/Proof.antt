@@ -43,7 +43,10 @@ enum-told : tie.Need-enum-told
 enum-told c = search needs
 
 examined-requires : tie.Need-examined-requires
-examined-requires c κs = sym (c .before .before .before .before .before .before .checks .ensures) ∙ ap checked (c .before .before .before .before .enum-told .given .1)
+examined-requires c κs =
+    let enum-told = c .before .before .before .before .enum-told in
+    let checks = c .before .before .before .before .before .before .checks in
+    sym (checks .ensures) ∙ ap checked (enum-told .given .1)
 
 same-length-5 : tie.Need-same-length-5
 same-length-5 c = search needs
@@ -58,7 +61,11 @@ same-length-8 : tie.Need-same-length-8
 same-length-8 c = search needs
 
 returns-2 : tie.Need-returns-2
-returns-2 c = c .before .before .before .before .before .before .before .before .examined .ensures
+returns-2 c =
+    let examined = c .before .before .before .before .before .before .before .before .examined in
+    examined .ensures
 
 pub rebuild-spec : {M : Type 1} → statement M
-rebuild-spec = tie.close (tie.spec checks-requires enum-known-c same-length same-length-2 same-length-3 same-length-4 returns enum-told examined-requires same-length-5 same-length-6 same-length-7 same-length-8 returns-2)
+rebuild-spec =
+    tie.close (tie.spec checks-requires enum-known-c same-length same-length-2 same-length-3 same-length-4 returns enum-told examined-requires
+    same-length-5 same-length-6 same-length-7 same-length-8 returns-2)

@@ -21,21 +21,24 @@ only-drive-requires c κs = tt
 rebuild-stores-requires : tie.Need-rebuild-stores-requires
 rebuild-stores-requires c κs =
     let a = c .before .before .before .before .before .before .before .before .before .args in
+    let only-drive = c .before .before .only-drive in
+    let slice-known = c .before .before .before .before .before .before .before .before .slice-known in
+    let pre = c .before .before .before .before .before .before .before .before .before .pre in
     let p = a .p in
     let d = a .drive in
     let k = mkDisk (a .image .now) (a .pointers .now) in
     let m = mkMemory (a .state) (a .addresses .now) (a .compact .now) (a .inflight .now) in
-    let q = c .before .before .before .before .before .before .before .before .before .pre in
+    let q = pre in
     let rd = ready p k m d (q .0) in
     let l : p .Z ≤ length (a .kept .now) = omega (arith, q .1 .1 .0, ranged p (rd .in-range) .zones-high) in (
       rd .in-range,
       (
         whole-of p k m (rd .lent),
         (
-          (c .before .before .only-drive .ensures ∙ only-named d, rd .drive-low, l),
+          (only-drive .ensures ∙ only-named d, rd .drive-low, l),
           (
             good-recs p k m d rd (q .1 .0) (a .kept .now) (q .1 .1),
-            stores-fit p k m d rd (q .1 .0) (a .kept .now) (q .1 .1) (λ i. omega (arith, c .before .before .before .before .before .before .before .before .slice-known .given i)),
+            stores-fit p k m d rd (q .1 .0) (a .kept .now) (q .1 .1) (λ i. omega (arith, slice-known .given i)),
           ),
         ),
       ),
@@ -59,15 +62,19 @@ same-length-4 c = search needs
 returns : tie.Need-returns
 returns c =
     let a = c .before .before .before .before .before .before .before .before .before .before .before .before .before .before .before .before .before .before .before .before .before .before .args in
+    let cut = c .before .before .before .before .cut in
+    let if1 = c .before .before .before .before .before .before .before .if1 in
+    let rebuild-stores = c .before .before .before .before .before .before .before .before .before .before .before .before .rebuild-stores in
+    let pre = c .before .before .before .before .before .before .before .before .before .before .before .before .before .before .before .before .before .before .before .before .before .before .pre in
     let p = a .p in
     let d = a .drive in
     let k = mkDisk (a .image .now) (a .pointers .now) in
     let m = mkMemory (a .state) (a .addresses .now) (a .compact .now) (a .inflight .now) in
-    let q = c .before .before .before .before .before .before .before .before .before .before .before .before .before .before .before .before .before .before .before .before .before .before .pre in
+    let q = pre in
     let rd = ready p k m d (q .0) in
-    let k′ = mkDisk (c .before .before .before .before .before .before .before .before .before .before .before .before .rebuild-stores .last .1 .0) (c .before .before .before .before .before .before .before .before .before .before .before .before .rebuild-stores .last .1 .1 .0) in
-    ends-cut p k m d (a .count) (all-passed p k m d (q .0) (q .1 .0)) (c .before .before .before .before .before .before .before .before .before .before .before .before .rebuild-stores .result) k′ (a .kept .now) (q .1 .1) (c .before .before .before .before .before .before .before .before .before .before .before .before .rebuild-stores .ensures) (c .before .before .before .before .before .before .before .if1 .taken) (rd .lent)
-    (c .before .before .before .before .cut .result) (c .before .before .before .before .cut .last .0) (c .before .before .before .before .cut .last .1 .0) (c .before .before .before .before .cut .ensures .0 .0) (c .before .before .before .before .cut .ensures .0 .1) (c .before .before .before .before .cut .ensures .1 .0) (c .before .before .before .before .cut .ensures .1 .1)
+    let k′ = mkDisk (rebuild-stores .last .1 .0) (rebuild-stores .last .1 .1 .0) in
+    ends-cut p k m d (a .count) (all-passed p k m d (q .0) (q .1 .0)) (rebuild-stores .result) k′ (a .kept .now) (q .1 .1) (rebuild-stores .ensures) (if1 .taken) (rd .lent)
+    (cut .result) (cut .last .0) (cut .last .1 .0) (cut .ensures .0 .0) (cut .ensures .0 .1) (cut .ensures .1 .0) (cut .ensures .1 .1)
 
 same-length-5 : tie.Need-same-length-5
 same-length-5 c = search needs
@@ -78,13 +85,15 @@ same-length-6 c = search needs
 returns-2 : tie.Need-returns-2
 returns-2 c =
     let a = c .before .before .before .before .before .before .before .before .before .before .before .before .before .before .before .args in
+    let rebuild-stores = c .before .before .before .before .before .rebuild-stores in
+    let pre = c .before .before .before .before .before .before .before .before .before .before .before .before .before .before .before .pre in
     let p = a .p in
     let d = a .drive in
     let k = mkDisk (a .image .now) (a .pointers .now) in
     let m = mkMemory (a .state) (a .addresses .now) (a .compact .now) (a .inflight .now) in
-    let q = c .before .before .before .before .before .before .before .before .before .before .before .before .before .before .before .pre in
-    let k′ = mkDisk (c .before .before .before .before .before .rebuild-stores .last .1 .0) (c .before .before .before .before .before .rebuild-stores .last .1 .1 .0) in
-    ends-done p k m d (a .count) (all-passed p k m d (q .0) (q .1 .0)) (c .before .before .before .before .before .rebuild-stores .result) k′ (a .kept .now) (q .1 .1) (c .before .before .before .before .before .rebuild-stores .ensures) (c .if1 .left)
+    let q = pre in
+    let k′ = mkDisk (rebuild-stores .last .1 .0) (rebuild-stores .last .1 .1 .0) in
+    ends-done p k m d (a .count) (all-passed p k m d (q .0) (q .1 .0)) (rebuild-stores .result) k′ (a .kept .now) (q .1 .1) (rebuild-stores .ensures) (c .if1 .left)
 
 pub restore-spec : {M : Type 1} → statement M
 restore-spec = tie.close (tie.spec only-drive-requires rebuild-stores-requires cut-requires same-length same-length-2 same-length-3 same-length-4 returns same-length-5 same-length-6 returns-2)

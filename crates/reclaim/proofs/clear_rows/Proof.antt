@@ -28,15 +28,20 @@ zone-on-requires c κs = tt
 compact-at-requires : tie.Need-compact-at-requires Inv-loop μ-loop
 compact-at-requires c κs =
     let a = c .before .before .before .before .before .args in
-    let z = zone-on-lt (a .p) (a .segment) (c .before .before .before .loop .d) (c .before .before .before .before .before .pre .1 .1) in
-    (c .before .before .before .before .before .pre .0, (c .before .if1 .taken, omega (arith, c .zone-on .ensures, z), omega (arith, ranged (a .p) (c .before .before .before .before .before .pre .0) .stripes-low)))
+    let loop = c .before .before .before .loop in
+    let pre = c .before .before .before .before .before .pre in
+    let z = zone-on-lt (a .p) (a .segment) (loop .d) (pre .1 .1) in
+    (pre .0, (c .before .if1 .taken, omega (arith, c .zone-on .ensures, z), omega (arith, ranged (a .p) (pre .0) .stripes-low)))
 
 clear-part-requires : tie.Need-clear-part-requires Inv-loop μ-loop
 clear-part-requires c κs =
     let a = c .before .before .before .before .before .before .before .args in
     let l = c .before .before .before .before .before .loop in
-    let z = zone-on-lt (a .p) (a .segment) (l .d) (c .before .before .before .before .before .before .before .pre .1 .1) in
-    omega (arith, c .before .compact-at .ensures .0, row-within (a .p) (l .d) (c .before .before .zone-on .result) (c .before .before .before .if1 .taken) (omega (arith, c .before .before .zone-on .ensures, z)), l .inv .1, c .before .before .before .before .before .before .before .pre .1 .0)
+    let zone-on = c .before .before .zone-on in
+    let if1 = c .before .before .before .if1 in
+    let pre = c .before .before .before .before .before .before .before .pre in
+    let z = zone-on-lt (a .p) (a .segment) (l .d) (pre .1 .1) in
+    omega (arith, c .before .compact-at .ensures .0, row-within (a .p) (l .d) (zone-on .result) (if1 .taken) (omega (arith, zone-on .ensures, z)), l .inv .1, pre .1 .0)
 
 add-d : tie.Need-add-d Inv-loop μ-loop
 add-d c = omega arith
@@ -48,11 +53,15 @@ loop-again : tie.Need-loop-again Inv-loop μ-loop
 loop-again c =
     let a = c .before .before .before .before .before .before .before .before .before .before .args in
     let l = c .before .before .before .before .before .before .before .before .loop in
-    let t = c .before .before .before .before .before .before .if1 .taken in
-    let e : c .before .before .before .before .compact-at .result ≡ compactAt (a .p) (l .d) (zoneOn (a .segment) (l .d)) 0 = c .before .before .before .before .compact-at .ensures .0 ∙ ap (λ (z : ℕ). compactAt (a .p) (l .d) z 0) (c .before .before .before .before .before .zone-on .ensures) in (
+    let clear-part = c .before .before .clear-part in
+    let compact-at = c .before .before .before .before .compact-at in
+    let zone-on = c .before .before .before .before .before .zone-on in
+    let if1 = c .before .before .before .before .before .before .if1 in
+    let t = if1 .taken in
+    let e : compact-at .result ≡ compactAt (a .p) (l .d) (zoneOn (a .segment) (l .d)) 0 = compact-at .ensures .0 ∙ ap (λ (z : ℕ). compactAt (a .p) (l .d) z 0) (zone-on .ensures) in (
       omega (arith, t),
-      c .before .before .clear-part .kept .0 ∙ l .inv .1,
-      rows-turn (a .p) (a .segment) (l .d) (l .compact) (c .before .before .clear-part .last .0) t (c .before .before .clear-part .ensures ∙ ap (λ (x : ℕ). splice (l .compact) x (replicate (a .p .S) 0)) e) ∙ l .inv .2,
+      clear-part .kept .0 ∙ l .inv .1,
+      rows-turn (a .p) (a .segment) (l .d) (l .compact) (clear-part .last .0) t (clear-part .ensures ∙ ap (λ (x : ℕ). splice (l .compact) x (replicate (a .p .S) 0)) e) ∙ l .inv .2,
     )
 
 same-length : tie.Need-same-length Inv-loop μ-loop

@@ -12,15 +12,22 @@ use Rattle.reclaim.proofs.copy_rules.Tie as tie
 
 -- what the tests say of the state
 aimed : (c : tie.After-aim-of) → c .aim-of .result ≡ aimOf (c .before .before .before .args .p) (c .before .before .before .args .state)
-aimed c = c .aim-of .ensures ∙ front-aim (c .before .before .before .args .p) (c .before .before .before .args .state) (c .before .front-of .result) (c .before .front-of .ensures)
+aimed c =
+    let args = c .before .before .before .args in
+    c .aim-of .ensures ∙ front-aim (args .p) (args .state) (c .before .front-of .result) (c .before .front-of .ensures)
 
 serial-is : (c : tie.After-no-serial) → noSerial (c .before .before .before .before .args .p) (c .before .before .before .before .args .state) ≡ c .no-serial .result
 serial-is c =
-    sym (front-serial (c .before .before .before .before .args .p) (c .before .before .before .before .args .state) (c .before .before .front-of .result) (c .before .before .front-of .ensures) (c .before .aim-of .result) (aimed (c .before)))
+    let front-of = c .before .before .front-of in
+    let args = c .before .before .before .before .args in
+    sym (front-serial (args .p) (args .state) (front-of .result) (front-of .ensures) (c .before .aim-of .result) (aimed (c .before)))
     ∙ sym (c .no-serial .ensures)
 
 wait-is : (c : tie.After-must-wait) → mustWait (c .before .before .before .before .before .before .args .p) (c .before .before .before .before .before .before .args .state) ≡ c .must-wait .result
-wait-is c = sym (front-wait (c .before .before .before .before .before .before .args .p) (c .before .before .before .before .before .before .args .state) (c .before .before .before .before .front-of .result) (c .before .before .before .before .front-of .ensures)) ∙ sym (c .must-wait .ensures)
+wait-is c =
+    let front-of = c .before .before .before .before .front-of in
+    let args = c .before .before .before .before .before .before .args in
+    sym (front-wait (args .p) (args .state) (front-of .result) (front-of .ensures)) ∙ sym (c .must-wait .ensures)
 
 opens-is : (c : tie.After-aim-of) → opens (c .before .before .before .args .p) (c .before .before .before .args .state) ≡ c .aim-of .result .opens
 opens-is c = ap (λ (x : Aim). x .opens) (sym (aimed c))
@@ -40,7 +47,9 @@ returns c =
     λ im h. rules-serial (a .p) (viewOf (a .p) im (a .pointers .now)) (a .state) (serial-is (c .before) ∙ c .if1 .taken)
 
 must-wait-requires : tie.Need-must-wait-requires
-must-wait-requires c κs = (c .before .before .before .before .before .pre .0, c .before .before .aim-of .ensures)
+must-wait-requires c κs =
+    let pre = c .before .before .before .before .before .pre in
+    (pre .0, c .before .before .aim-of .ensures)
 
 returns-2 : tie.Need-returns-2
 returns-2 c =
@@ -50,8 +59,14 @@ returns-2 c =
 returns-3 : tie.Need-returns-3
 returns-3 c =
     let a = c .before .before .before .before .before .before .before .before .before .args in
-    λ im h. rules-open (a .p) (viewOf (a .p) im (a .pointers .now)) (a .state) (serial-is (c .before .before .before .before .before) ∙ c .before .before .before .before .if1 .left) (wait-is (c .before .before .before) ∙ c .before .before .if2 .left)
-    (opens-is (c .before .before .before .before .before .before) ∙ not-true (c .before .before .before .before .before .before .aim-of .result .opens) (c .if3 .taken))
+    let if2 = c .before .before .if2 in
+    let at-3 = c .before .before .before in
+    let if1 = c .before .before .before .before .if1 in
+    let at-5 = c .before .before .before .before .before in
+    let at-6 = c .before .before .before .before .before .before in
+    let aim-of = c .before .before .before .before .before .before .aim-of in
+    λ im h. rules-open (a .p) (viewOf (a .p) im (a .pointers .now)) (a .state) (serial-is (at-5) ∙ if1 .left) (wait-is (at-3) ∙ if2 .left)
+    (opens-is (at-6) ∙ not-true (aim-of .result .opens) (c .if3 .taken))
 
 scarce-requires : tie.Need-scarce-requires
 scarce-requires c κs = search needs
@@ -59,14 +74,28 @@ scarce-requires c κs = search needs
 returns-4 : tie.Need-returns-4
 returns-4 c =
     let a = c .before .before .before .before .before .before .before .before .before .before .before .args in
-    λ im h. rules-scarce (a .p) (viewOf (a .p) im (a .pointers .now)) (a .state) (serial-is (c .before .before .before .before .before .before .before) ∙ c .before .before .before .before .before .before .if1 .left) (wait-is (c .before .before .before .before .before) ∙ c .before .before .before .before .if2 .left)
-    (opens-is (c .before .before .before .before .before .before .before .before) ∙ not-false (c .before .before .before .before .before .before .before .before .aim-of .result .opens) (c .before .before .if3 .left)) (sym (c .before .scarce .ensures im h) ∙ c .if4 .taken)
+    let if3 = c .before .before .if3 in
+    let if2 = c .before .before .before .before .if2 in
+    let at-5 = c .before .before .before .before .before in
+    let if1 = c .before .before .before .before .before .before .if1 in
+    let at-7 = c .before .before .before .before .before .before .before in
+    let at-8 = c .before .before .before .before .before .before .before .before in
+    let aim-of = c .before .before .before .before .before .before .before .before .aim-of in
+    λ im h. rules-scarce (a .p) (viewOf (a .p) im (a .pointers .now)) (a .state) (serial-is (at-7) ∙ if1 .left) (wait-is (at-5) ∙ if2 .left)
+    (opens-is (at-8) ∙ not-false (aim-of .result .opens) (if3 .left)) (sym (c .before .scarce .ensures im h) ∙ c .if4 .taken)
 
 returns-5 : tie.Need-returns-5
 returns-5 c =
     let a = c .before .before .before .before .before .before .before .before .before .before .before .args in
-    λ im h. rules-pass (a .p) (viewOf (a .p) im (a .pointers .now)) (a .state) (serial-is (c .before .before .before .before .before .before .before) ∙ c .before .before .before .before .before .before .if1 .left) (wait-is (c .before .before .before .before .before) ∙ c .before .before .before .before .if2 .left)
-    (opens-is (c .before .before .before .before .before .before .before .before) ∙ not-false (c .before .before .before .before .before .before .before .before .aim-of .result .opens) (c .before .before .if3 .left)) (sym (c .before .scarce .ensures im h) ∙ c .if4 .left)
+    let if3 = c .before .before .if3 in
+    let if2 = c .before .before .before .before .if2 in
+    let at-5 = c .before .before .before .before .before in
+    let if1 = c .before .before .before .before .before .before .if1 in
+    let at-7 = c .before .before .before .before .before .before .before in
+    let at-8 = c .before .before .before .before .before .before .before .before in
+    let aim-of = c .before .before .before .before .before .before .before .before .aim-of in
+    λ im h. rules-pass (a .p) (viewOf (a .p) im (a .pointers .now)) (a .state) (serial-is (at-7) ∙ if1 .left) (wait-is (at-5) ∙ if2 .left)
+    (opens-is (at-8) ∙ not-false (aim-of .result .opens) (if3 .left)) (sym (c .before .scarce .ensures im h) ∙ c .if4 .left)
 
 pub copy-rules-spec : {M : Type 1} → statement M
 copy-rules-spec =

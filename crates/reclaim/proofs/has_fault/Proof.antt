@@ -19,7 +19,8 @@ any-outside-requires c κs = search needs
 returns-2 : tie.Need-returns-2
 returns-2 c =
     let a = c .before .before .before .before .args in
-    λ zs. fault-table (a .p) (a .state) (a .addresses .now) zs (sym (c .before .before .state-ok .ensures) ∙ not-false (c .before .before .state-ok .result) (c .before .if1 .left)) (c .any-outside .result) (c .any-outside .ensures)
+    let state-ok = c .before .before .state-ok in
+    λ zs. fault-table (a .p) (a .state) (a .addresses .now) zs (sym (state-ok .ensures) ∙ not-false (state-ok .result) (c .before .if1 .left)) (c .any-outside .result) (c .any-outside .ensures)
 
 pub has-fault-spec : {M : Type 1} → statement M
 has-fault-spec = tie.close (tie.spec state-ok-requires returns any-outside-requires returns-2)

@@ -32,10 +32,14 @@ same-length-3 c = search needs
 returns : tie.Need-returns
 returns c =
     let s = c .before .before .before .before .before .before .before .before .before .before .before .before .before .before .before .before in
+    let cut = c .before .before .before .before .cut in
+    let if1 = c .before .before .before .before .before .before .before .if1 in
+    let reset-stores = c .before .before .before .before .before .before .before .before .before .before .reset-stores in
     let a = s .args in
-    let r = c .before .before .before .before .before .before .before .before .before .before .reset-stores in
-    let o = c .before .before .before .before .cut in
-    λ im fl. reset-cut (a .p) (a .count) (a .g) (mkDisk im (a .pointers .now)) (mkDisk im (r .last .1 .0)) (mkMemory (a .state) (a .addresses .now) (a .compact .now) fl) (r .result) (r .ensures im) (s .pre .1 .1) (s .pre .1 .2) (c .before .before .before .before .before .before .before .if1 .taken)
+    let r = reset-stores in
+    let o = cut in
+    λ im fl. reset-cut (a .p) (a .count) (a .g) (mkDisk im (a .pointers .now)) (mkDisk im (r .last .1 .0))
+    (mkMemory (a .state) (a .addresses .now) (a .compact .now) fl) (r .result) (r .ensures im) (s .pre .1 .1) (s .pre .1 .2) (if1 .taken)
     (o .result) (o .last .0) (o .last .1 .0) (ap (λ (x : Change). x .answer) (o .ensures .0)) (o .ensures .1 .0) (o .ensures .1 .1)
 
 clear-rows-requires : tie.Need-clear-rows-requires
@@ -54,8 +58,12 @@ returns-2 : tie.Need-returns-2
 returns-2 c =
     let a = c .before .before .before .before .before .before .before .before .before .before .before .before .before .before .args in
     let r = c .before .before .before .before .before .before .before .before .reset-stores in
-    λ im fl. reset-done (a .p) (a .count) (a .g) (mkDisk im (a .pointers .now)) (mkDisk im (r .last .1 .0)) (mkMemory (a .state) (a .addresses .now) (a .compact .now) fl) (r .result) (r .ensures im) (c .before .before .before .before .before .if1 .left)
-    (c .kept .result) (c .kept .ensures ∙ ap (keptAs (Reset (a .g))) (c .before .before .before .before .before .before .before .before .before .before .front-of .ensures)) (c .before .before .before .clear-rows .last .1 .0) (c .before .before .before .clear-rows .ensures)
+    let clear-rows = c .before .before .before .clear-rows in
+    let if1 = c .before .before .before .before .before .if1 in
+    let front-of = c .before .before .before .before .before .before .before .before .before .before .front-of in
+    λ im fl. reset-done (a .p) (a .count) (a .g) (mkDisk im (a .pointers .now)) (mkDisk im (r .last .1 .0))
+    (mkMemory (a .state) (a .addresses .now) (a .compact .now) fl) (r .result) (r .ensures im) (if1 .left)
+    (c .kept .result) (c .kept .ensures ∙ ap (keptAs (Reset (a .g))) (front-of .ensures)) (clear-rows .last .1 .0) (clear-rows .ensures)
 
 pub reset-segment-spec : {M : Type 1} → statement M
 reset-segment-spec =

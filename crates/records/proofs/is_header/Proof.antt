@@ -8,7 +8,10 @@ slice-aggregate-matches-header : tie.Need-slice-aggregate-matches-header
 slice-aggregate-matches-header c = search needs
 
 matches-header-requires : tie.Need-matches-header-requires
-matches-header-requires c κs = (c .before .before .pre .0, c .before .before .pre .1, unit-high (c .before .before .args .p) (ranged (c .before .before .args .p) (c .before .before .pre .0)))
+matches-header-requires c κs =
+    let args = c .before .before .args in
+    let pre = c .before .before .pre in
+    (pre .0, pre .1, unit-high (args .p) (ranged (args .p) (pre .0)))
 
 returns : tie.Need-returns
 returns c = search needs

@@ -22,9 +22,10 @@ slice-relend-prefix-write-header c = search needs
 slice-aggregate-write-header : tie.Need-slice-aggregate-write-header
 slice-aggregate-write-header c =
     let a = c .before .before .before .before .args in
+    let pre = c .before .before .before .before .pre in
     let p = a .p in
     let s = a .scratch .now in
-    let h = c .before .before .before .before .pre in
+    let h = pre in
     let n = c .before .unit-len .result in
     let t : length (take n s) ≡ n = length-take-le n s (omega (arith, c .before .unit-len .ensures .0, h .2)) in
     sym t
@@ -32,9 +33,10 @@ slice-aggregate-write-header c =
 write-header-requires : tie.Need-write-header-requires
 write-header-requires c κs =
     let a = c .before .before .before .before .args in
+    let pre = c .before .before .before .before .pre in
     let p = a .p in
     let s = a .scratch .now in
-    let h = c .before .before .before .before .pre in
+    let h = pre in
     let n = c .before .unit-len .result in
     let t : length (take n s) ≡ n = length-take-le n s (omega (arith, c .before .unit-len .ensures .0, h .2)) in
     (h .0, t ∙ c .before .unit-len .ensures .0)
@@ -45,13 +47,16 @@ slice-reshare-prefix-same c = search needs
 slice-aggregate-same : tie.Need-slice-aggregate-same
 slice-aggregate-same c =
     let a = c .before .before .before .before .before .before .before .before .args in
+    let write-header = c .before .before .before .write-header in
+    let unit-len = c .before .before .before .before .before .unit-len in
+    let pre = c .before .before .before .before .before .before .before .before .pre in
     let p = a .p in
     let s = a .scratch .now in
-    let h = c .before .before .before .before .before .before .before .before .pre in
-    let n = c .before .before .before .before .before .unit-len .result in
-    let t : length (take n s) ≡ n = length-take-le n s (omega (arith, c .before .before .before .before .before .unit-len .ensures .0, h .2)) in
-    let w = c .before .before .before .write-header .last .0 in
-    let k : length w ≡ n = c .before .before .before .write-header .kept .0 ∙ t in
+    let h = pre in
+    let n = unit-len .result in
+    let t : length (take n s) ≡ n = length-take-le n s (omega (arith, unit-len .ensures .0, h .2)) in
+    let w = write-header .last .0 in
+    let k : length w ≡ n = write-header .kept .0 ∙ t in
     let e : take n (w ++ drop n s) ≡ w = take-at w (drop n s) n k in
     sym (ap length e ∙ k)
 
@@ -64,17 +69,20 @@ same-length c = search needs
 returns : tie.Need-returns
 returns c =
     let a = c .before .before .before .before .before .before .before .before .before .args in
+    let write-header = c .before .before .before .before .write-header in
+    let unit-len = c .before .before .before .before .before .before .unit-len in
+    let pre = c .before .before .before .before .before .before .before .before .before .pre in
     let p = a .p in
     let s = a .scratch .now in
-    let h = c .before .before .before .before .before .before .before .before .before .pre in
-    let n = c .before .before .before .before .before .before .unit-len .result in
-    let t : length (take n s) ≡ n = length-take-le n s (omega (arith, c .before .before .before .before .before .before .unit-len .ensures .0, h .2)) in
-    let w = c .before .before .before .before .write-header .last .0 in
-    let k : length w ≡ n = c .before .before .before .before .write-header .kept .0 ∙ t in
+    let h = pre in
+    let n = unit-len .result in
+    let t : length (take n s) ≡ n = length-take-le n s (omega (arith, unit-len .ensures .0, h .2)) in
+    let w = write-header .last .0 in
+    let k : length w ≡ n = write-header .kept .0 ∙ t in
     let e : take n (w ++ drop n s) ≡ w = take-at w (drop n s) n k in
     let b = headerBlock p (a .drive) (a .zone) (a .serial .0) (a .copied .0) in
     let r = ranged p (h .0) in
-    c .same .ensures ∙ ap (sameList (a .src .now)) (e ∙ c .before .before .before .before .write-header .ensures)
+    c .same .ensures ∙ ap (sameList (a .src .now)) (e ∙ write-header .ensures)
     ∙ same-unit p (a .src .now) b zeroSpare (h .1) (header-block-long p (a .drive) (a .zone) (a .serial .0) (a .copied .0) (omega (arith, r .block-low)))
 
 pub matches-header-spec : {M : Type 1} → statement M

@@ -15,8 +15,13 @@ same-length c = search needs
 
 returns : tie.Need-returns
 returns c =
-    let l = c .before .before .before .before .before .before .before .before .before .args .dst .now in
-    back-written (c .before .before .before .before .before .before .before .before .before .args .p) (c .before .before .before .before .before .before .before .before .before .args .serial .0) (c .before .before .before .before .before .before .before .before .before .args .copied .0) l (c .before .before .before .before .before .before .write-be .last .0) (c .before .before .write-be2 .last .0) (c .before .before .before .before .before .before .before .before .before .pre) (c .before .before .before .before .before .before .write-be .ensures) (c .before .before .write-be2 .ensures)
+    let write-be2 = c .before .before .write-be2 in
+    let write-be = c .before .before .before .before .before .before .write-be in
+    let entry = c .before .before .before .before .before .before .before .before .before in
+    let args = entry .args in
+    let pre = entry .pre in
+    let l = args .dst .now in
+    back-written (args .p) (args .serial .0) (args .copied .0) l (write-be .last .0) (write-be2 .last .0) (pre) (write-be .ensures) (write-be2 .ensures)
 
 pub write-back-spec : {M : Type 1} → statement M
 write-back-spec = tie.close (tie.spec write-be-requires write-be-requires-2 same-length returns)

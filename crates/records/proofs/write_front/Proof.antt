@@ -27,8 +27,27 @@ same-length c = search needs
 
 returns : tie.Need-returns
 returns c =
-    let l = c .before .before .before .before .before .before .before .before .before .before .before .before .before .before .before .before .before .before .before .before .before .before .before .before .before .args .dst .now in
-    front-written (c .before .before .before .before .before .before .before .before .before .before .before .before .before .before .before .before .before .before .before .before .before .before .before .before .before .args .p) (c .before .before .before .before .before .before .before .before .before .before .before .before .before .before .before .before .before .before .before .before .before .before .before .before .before .args .drive) l (c .before .before .before .before .before .before .before .before .before .before .before .before .before .before .before .before .before .before .before .before .before .before .write-be .last .0) (c .before .before .before .before .before .before .before .before .before .before .before .before .before .before .before .before .before .before .write-be2 .last .0) (c .before .before .before .before .before .before .before .before .before .before .before .before .before .before .write-be3 .last .0) (c .before .before .before .before .before .before .before .before .before .before .write-be4 .last .0) (c .before .before .before .before .before .before .write-be5 .last .0) (c .before .before .write-be6 .last .0) (c .before .before .before .before .before .before .before .before .before .before .before .before .before .before .before .before .before .before .before .before .before .before .before .before .before .pre) (c .before .before .before .before .before .before .before .before .before .before .before .before .before .before .before .before .before .before .before .before .before .before .write-be .ensures) (c .before .before .before .before .before .before .before .before .before .before .before .before .before .before .before .before .before .before .write-be2 .ensures) (c .before .before .before .before .before .before .before .before .before .before .before .before .before .before .write-be3 .ensures) (c .before .before .before .before .before .before .before .before .before .before .write-be4 .ensures) (c .before .before .before .before .before .before .write-be5 .ensures) (c .before .before .write-be6 .ensures)
+    let write-be6 = c .before .before .write-be6 in
+    let write-be5 = c .before .before .before .before .before .before .write-be5 in
+    let write-be4 = c .before .before .before .before .before .before .before .before .before .before .write-be4 in
+    let write-be3 = c .before .before .before .before .before .before .before .before .before .before .before .before .before .before .write-be3 in
+    let write-be2 = c .before .before .before .before .before .before .before .before .before .before .before .before .before .before .before .before .before .before .write-be2 in
+    let at = c .before .before .before .before .before .before .before .before .before .before .before .before .before .before .before .before .before in
+    let write-be′′ =
+    c .before .before .before .before .before .before .before .before .before .before .before .before .before .before .before .before .before .before .before .before .before .before .write-be in
+    let write-be′ =
+    write-be′′ in
+    let write-be =
+    write-be′ in
+    let entry =
+    at
+    .before .before .before .before .before .before .before .before in
+    let args = entry .args in
+    let pre = entry .pre in
+    let l = args .dst .now in
+    front-written (args .p) (args .drive) l (write-be .last .0) (write-be2 .last .0) (write-be3 .last .0) (write-be4 .last .0) (write-be5 .last .0)
+    (write-be6 .last .0) (pre) (write-be .ensures) (write-be2 .ensures) (write-be3 .ensures) (write-be4 .ensures) (write-be5 .ensures)
+    (write-be6 .ensures)
 
 pub write-front-spec : {M : Type 1} → statement M
 write-front-spec =

@@ -18,8 +18,14 @@ same-length c = search needs
 
 returns : tie.Need-returns
 returns c =
-    let l = c .before .before .before .before .before .before .before .before .before .before .before .before .before .args .dst .now in
-    middle-written (c .before .before .before .before .before .before .before .before .before .before .before .before .before .args .p) (c .before .before .before .before .before .before .before .before .before .before .before .before .before .args .zone) l (c .before .before .before .before .before .before .before .before .before .before .write-be .last .0) (c .before .before .before .before .before .before .write-be2 .last .0) (c .before .before .write-be3 .last .0) (c .before .before .before .before .before .before .before .before .before .before .before .before .before .pre) (c .before .before .before .before .before .before .before .before .before .before .write-be .ensures) (c .before .before .before .before .before .before .write-be2 .ensures) (c .before .before .write-be3 .ensures)
+    let write-be3 = c .before .before .write-be3 in
+    let write-be2 = c .before .before .before .before .before .before .write-be2 in
+    let write-be = c .before .before .before .before .before .before .before .before .before .before .write-be in
+    let entry = c .before .before .before .before .before .before .before .before .before .before .before .before .before in
+    let args = entry .args in
+    let pre = entry .pre in
+    let l = args .dst .now in
+    middle-written (args .p) (args .zone) l (write-be .last .0) (write-be2 .last .0) (write-be3 .last .0) (pre) (write-be .ensures) (write-be2 .ensures) (write-be3 .ensures)
 
 pub write-middle-spec : {M : Type 1} → statement M
 write-middle-spec =

@@ -17,7 +17,14 @@ same-length : tie.Need-same-length
 same-length c = search needs
 
 returns : tie.Need-returns
-returns c = record-written (c .before .before .before .before .before .before .before .before .before .before .before .before .before .args .dst .now) (c .before .before .before .before .before .before .before .before .before .before .write-be64 .last .0) (c .before .before .before .before .before .before .write-be642 .last .0) (c .before .before .write-be32 .last .0) (recOf (c .before .before .before .before .before .before .before .before .before .before .before .before .before .args .r)) (c .before .before .before .before .before .before .before .before .before .before .before .before .before .pre) (c .before .before .before .before .before .before .before .before .before .before .write-be64 .ensures) (c .before .before .before .before .before .before .write-be642 .ensures) (c .before .before .write-be32 .ensures)
+returns c =
+    let write-be32 = c .before .before .write-be32 in
+    let write-be642 = c .before .before .before .before .before .before .write-be642 in
+    let write-be64 = c .before .before .before .before .before .before .before .before .before .before .write-be64 in
+    let entry = c .before .before .before .before .before .before .before .before .before .before .before .before .before in
+    let args = entry .args in
+    let pre = entry .pre in
+    record-written (args .dst .now) (write-be64 .last .0) (write-be642 .last .0) (write-be32 .last .0) (recOf (args .r)) (pre) (write-be64 .ensures) (write-be642 .ensures) (write-be32 .ensures)
 
 pub write-record-spec : {M : Type 1} → statement M
 write-record-spec =

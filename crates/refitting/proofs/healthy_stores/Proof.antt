@@ -3,7 +3,8 @@ use Rattle.defs.specs.Counts.{lastCount}
 use Rattle.defs.specs.Drives.{mkDisk}
 use Rattle.defs.specs.Segments.{segmentOf}
 use Rattle.laws.specs.Geometry.{ranged}
-use Rattle.refitting.specs.Refit.{only, refit-cut, refit-whole, refit-none, refit-plain, feet-fit, feet-pointers, refit-feet, serial-left, to-low, to-apart, to-empty, still-open, still-good, old-serial, moves-fit, refit-rewrite}
+use Rattle.refitting.specs.Refit.{only, refit-cut, refit-whole, refit-none, refit-plain, feet-fit, feet-pointers, refit-feet, serial-left, to-low}
+use Rattle.refitting.specs.Refit.{to-apart, to-empty, still-open, still-good, old-serial, moves-fit, refit-rewrite}
 use Rattle.views.specs.Views.{seen}
 use borrow.Author.Needs.{needs}
 use borrow.Author.Tests.{not-true, not-false}
@@ -16,25 +17,101 @@ use Rattle.refitting.proofs.healthy_stores.Statement.{statement}
 use Rattle.refitting.proofs.healthy_stores.Tie as tie
 
 first-unsealed-requires : tie.Need-first-unsealed-requires
-first-unsealed-requires c κs = (c .before .before .before .before .before .pre .0, (c .before .before .before .before .before .pre .1 .0 .pointers-long, (omega (arith, (c .before .before .before .before .before .pre .1 .1 .0 .0) .0, (ranged (c .before .before .before .before .before .args .p) (c .before .before .before .before .before .pre .0)) .zones-high))))
+first-unsealed-requires c κs =
+    let entry = c .before .before .before .before .before in
+    let args = entry .args in
+    let pre = entry .pre in
+    (pre .0, (pre .1 .0 .pointers-long, (omega (arith, (pre .1 .1 .0 .0) .0, (ranged (args .p) (pre .0)) .zones-high))))
 
 drop-stores-requires : tie.Need-drop-stores-requires
-drop-stores-requires c κs = (c .before .before .before .before .before .before .before .pre .0, (c .before .before .before .before .before .before .before .pre .1 .0 .pointers-long, (omega (arith, (c .before .before .before .before .before .before .before .pre .1 .1 .0 .0) .0, (ranged (c .before .before .before .before .before .before .before .args .p) (c .before .before .before .before .before .before .before .pre .0)) .zones-high))))
+drop-stores-requires c κs =
+    let entry = c .before .before .before .before .before .before .before in
+    let args = entry .args in
+    let pre = entry .pre in
+    (pre .0, (pre .1 .0 .pointers-long, (omega (arith, (pre .1 .1 .0 .0) .0, (ranged (args .p) (pre .0)) .zones-high))))
 
 same-length : tie.Need-same-length
 same-length c = search needs
 
 returns : tie.Need-returns
-returns c = refit-cut (c .before .before .before .before .before .before .before .before .before .before .before .args .p) (ranged (c .before .before .before .before .before .before .before .before .before .before .before .args .p) (c .before .before .before .before .before .before .before .before .before .before .before .pre .0)) (c .before .before .before .before .before .before .before .before .before .before .before .args .count) (mkDisk (c .before .before .before .before .before .before .before .before .before .before .before .args .image .now) (c .before .before .before .before .before .before .before .before .before .before .before .args .pointers .now)) (c .before .before .before .before .before .before .before .before .before .before .before .pre .1 .0) (c .before .before .before .before .before .before .before .before .before .before .before .pre .1 .1 .1 .0) (c .before .before .before .before .before .before .before .before .before .before .before .args .kept .now) (c .before .before .before .before .before .before .before .before .before .before .before .pre .1 .1 .0 .0) (c .before .before .before .drop-stores .result) (mkDisk (c .before .before .before .before .before .before .before .before .before .before .before .args .image .now) (c .before .before .before .drop-stores .last .1 .0)) (c .before .before .before .drop-stores .ensures (c .before .before .before .before .before .before .before .before .before .before .before .args .image .now)) (c .if1 .taken)
+returns c =
+    let drop-stores = c .before .before .before .drop-stores in
+    let entry = c .before .before .before .before .before .before .before .before .before .before .before in
+    let args = entry .args in
+    let pre = entry .pre in
+    refit-cut (args .p) (ranged (args .p) (pre .0)) (args .count) (mkDisk (args .image .now) (args .pointers .now)) (pre .1 .0) (pre .1 .1 .1 .0)
+    (args .kept .now) (pre .1 .1 .0 .0) (drop-stores .result) (mkDisk (args .image .now) (drop-stores .last .1 .0))
+    (drop-stores .ensures (args .image .now)) (c .if1 .taken)
 
 same-length-2 : tie.Need-same-length-2
 same-length-2 c = search needs
 
 returns-2 : tie.Need-returns-2
-returns-2 c = refit-none (c .before .before .before .before .before .before .before .before .before .before .before .before .before .args .p) (ranged (c .before .before .before .before .before .before .before .before .before .before .before .before .before .args .p) (c .before .before .before .before .before .before .before .before .before .before .before .before .before .pre .0)) (c .before .before .before .before .before .before .before .before .before .before .before .before .before .args .count) (mkDisk (c .before .before .before .before .before .before .before .before .before .before .before .before .before .args .image .now) (c .before .before .before .before .before .before .before .before .before .before .before .before .before .args .pointers .now)) (c .before .before .before .before .before .before .before .before .before .before .before .before .before .pre .1 .0) (c .before .before .before .before .before .before .before .before .before .before .before .before .before .pre .1 .1 .1 .0) (c .before .before .before .before .before .before .before .before .before .before .before .before .before .args .kept .now) (c .before .before .before .before .before .before .before .before .before .before .before .before .before .pre .1 .1 .0 .0) (c .before .before .before .before .before .drop-stores .result) (mkDisk (c .before .before .before .before .before .before .before .before .before .before .before .before .before .args .image .now) (c .before .before .before .before .before .drop-stores .last .1 .0)) (c .before .before .before .before .before .drop-stores .ensures (c .before .before .before .before .before .before .before .before .before .before .before .before .before .args .image .now)) (c .before .before .if1 .left) (c .before .before .before .before .before .before .before .first-unsealed .result) (c .before .before .before .before .before .before .before .first-unsealed .ensures .1 (c .before .before .before .before .before .before .before .before .before .before .before .before .before .args .image .now) (c .before .before .before .before .before .before .before .before .before .before .before .before .before .pre .1 .0 .image-long) (c .before .before .before .before .before .before .before .before .before .before .before .before .before .pre .1 .1 .0 .0)) (c .if2 .taken)
+returns-2 c =
+    let if1 = c .before .before .if1 in
+    let drop-stores = c .before .before .before .before .before .drop-stores in
+    let first-unsealed = c .before .before .before .before .before .before .before .first-unsealed in
+    let entry = c .before .before .before .before .before .before .before .before .before .before .before .before .before in
+    let args = entry .args in
+    let pre = entry .pre in
+    refit-none (args .p) (ranged (args .p) (pre .0)) (args .count) (mkDisk (args .image .now) (args .pointers .now)) (pre .1 .0) (pre .1 .1 .1 .0)
+    (args .kept .now) (pre .1 .1 .0 .0) (drop-stores .result) (mkDisk (args .image .now) (drop-stores .last .1 .0))
+    (drop-stores .ensures (args .image .now)) (if1 .left) (first-unsealed .result)
+    (first-unsealed .ensures .1 (args .image .now) (pre .1 .0 .image-long) (pre .1 .1 .0 .0)) (c .if2 .taken)
 
 missing-footers-requires : tie.Need-missing-footers-requires
-missing-footers-requires c κs = (c .before .before .before .before .before .before .before .before .before .before .before .before .before .before .before .before .pre .0, (refit-whole (c .before .before .before .before .before .before .before .before .before .before .before .before .before .before .before .before .args .p) (ranged (c .before .before .before .before .before .before .before .before .before .before .before .before .before .before .before .before .args .p) (c .before .before .before .before .before .before .before .before .before .before .before .before .before .before .before .before .pre .0)) (c .before .before .before .before .before .before .before .before .before .before .before .before .before .before .before .before .args .count) (mkDisk (c .before .before .before .before .before .before .before .before .before .before .before .before .before .before .before .before .args .image .now) (c .before .before .before .before .before .before .before .before .before .before .before .before .before .before .before .before .args .pointers .now)) (c .before .before .before .before .before .before .before .before .before .before .before .before .before .before .before .before .pre .1 .0) (c .before .before .before .before .before .before .before .before .before .before .before .before .before .before .before .before .pre .1 .1 .1 .0) (c .before .before .before .before .before .before .before .before .before .before .before .before .before .before .before .before .args .kept .now) (c .before .before .before .before .before .before .before .before .before .before .before .before .before .before .before .before .pre .1 .1 .0 .0) (c .before .before .before .before .before .before .before .before .drop-stores .result) (mkDisk (c .before .before .before .before .before .before .before .before .before .before .before .before .before .before .before .before .args .image .now) (c .before .before .before .before .before .before .before .before .drop-stores .last .1 .0)) (c .before .before .before .before .before .before .before .before .drop-stores .ensures (c .before .before .before .before .before .before .before .before .before .before .before .before .before .before .before .before .args .image .now)) (c .before .before .before .before .before .if1 .left), (((omega (arith, c .before .before .before .if2 .left)), feet-pointers (c .before .before .before .before .before .before .before .before .before .before .before .before .before .before .before .before .args .p) (ranged (c .before .before .before .before .before .before .before .before .before .before .before .before .before .before .before .before .args .p) (c .before .before .before .before .before .before .before .before .before .before .before .before .before .before .before .before .pre .0)) (c .before .before .before .before .before .before .before .before .before .before .before .before .before .before .before .before .args .count) (mkDisk (c .before .before .before .before .before .before .before .before .before .before .before .before .before .before .before .before .args .image .now) (c .before .before .before .before .before .before .before .before .before .before .before .before .before .before .before .before .args .pointers .now)) (c .before .before .before .before .before .before .before .before .before .before .before .before .before .before .before .before .pre .1 .0) (c .before .before .before .before .before .before .before .before .before .before .before .before .before .before .before .before .pre .1 .1 .1 .0) (c .before .before .before .before .before .before .before .before .before .before .before .before .before .before .before .before .args .kept .now) (c .before .before .before .before .before .before .before .before .before .before .before .before .before .before .before .before .pre .1 .1 .0 .0) (c .before .before .before .before .before .before .before .before .drop-stores .result) (mkDisk (c .before .before .before .before .before .before .before .before .before .before .before .before .before .before .before .before .args .image .now) (c .before .before .before .before .before .before .before .before .drop-stores .last .1 .0)) (c .before .before .before .before .before .before .before .before .drop-stores .ensures (c .before .before .before .before .before .before .before .before .before .before .before .before .before .before .before .before .args .image .now)) (c .before .before .before .before .before .if1 .left) (c .before .before .before .before .before .before .before .before .before .before .first-unsealed .result) (omega (arith, c .before .before .before .if2 .left)) (only (c .before .before .before .before .before .before .before .before .before .before .before .before .before .before .before .before .args .p) (ranged (c .before .before .before .before .before .before .before .before .before .before .before .before .before .before .before .before .args .p) (c .before .before .before .before .before .before .before .before .before .before .before .before .before .before .before .before .pre .0)) (c .before .before .before .before .before .before .before .before .before .before .before .before .before .before .before .before .args .count) (mkDisk (c .before .before .before .before .before .before .before .before .before .before .before .before .before .before .before .before .args .image .now) (c .before .before .before .before .before .before .before .before .before .before .before .before .before .before .before .before .args .pointers .now)) (c .before .before .before .before .before .before .before .before .before .before .before .before .before .before .before .before .pre .1 .0) (c .before .before .before .before .before .before .before .before .before .before .before .before .before .before .before .before .pre .1 .1 .1 .0) (c .before .before .before .before .before .before .before .before .before .before .before .before .before .before .before .before .args .kept .now) (c .before .before .before .before .before .before .before .before .before .before .before .before .before .before .before .before .pre .1 .1 .0 .0) (c .before .before .before .before .before .before .before .before .drop-stores .result) (mkDisk (c .before .before .before .before .before .before .before .before .before .before .before .before .before .before .before .before .args .image .now) (c .before .before .before .before .before .before .before .before .drop-stores .last .1 .0)) (c .before .before .before .before .before .before .before .before .drop-stores .ensures (c .before .before .before .before .before .before .before .before .before .before .before .before .before .before .before .before .args .image .now)) (c .before .before .before .before .before .if1 .left) (c .before .before .before .before .before .before .before .before .before .before .first-unsealed .result) (c .before .before .before .before .before .before .before .before .before .before .first-unsealed .ensures .1 (c .before .before .before .before .before .before .before .before .before .before .before .before .before .before .before .before .args .image .now) (c .before .before .before .before .before .before .before .before .before .before .before .before .before .before .before .before .pre .1 .0 .image-long) (c .before .before .before .before .before .before .before .before .before .before .before .before .before .before .before .before .pre .1 .1 .0 .0)) (omega (arith, c .before .before .before .if2 .left))) (sym ((c .before .before .before .before .before .before .before .before .before .before .before .before .before .before .before .before .pre .1 .1 .1 .1 (segmentOf (c .before .before .before .before .before .before .before .before .before .before .before .before .before .before .before .before .args .p) (seen (c .before .before .before .before .before .before .before .before .before .before .before .before .before .before .before .before .args .p) (mkDisk (c .before .before .before .before .before .before .before .before .before .before .before .before .before .before .before .before .args .image .now) (c .before .before .before .before .before .before .before .before .before .before .before .before .before .before .before .before .args .pointers .now))) 0 (c .before .before .before .before .before .before .before .before .before .before .first-unsealed .result)) ((only (c .before .before .before .before .before .before .before .before .before .before .before .before .before .before .before .before .args .p) (ranged (c .before .before .before .before .before .before .before .before .before .before .before .before .before .before .before .before .args .p) (c .before .before .before .before .before .before .before .before .before .before .before .before .before .before .before .before .pre .0)) (c .before .before .before .before .before .before .before .before .before .before .before .before .before .before .before .before .args .count) (mkDisk (c .before .before .before .before .before .before .before .before .before .before .before .before .before .before .before .before .args .image .now) (c .before .before .before .before .before .before .before .before .before .before .before .before .before .before .before .before .args .pointers .now)) (c .before .before .before .before .before .before .before .before .before .before .before .before .before .before .before .before .pre .1 .0) (c .before .before .before .before .before .before .before .before .before .before .before .before .before .before .before .before .pre .1 .1 .1 .0) (c .before .before .before .before .before .before .before .before .before .before .before .before .before .before .before .before .args .kept .now) (c .before .before .before .before .before .before .before .before .before .before .before .before .before .before .before .before .pre .1 .1 .0 .0) (c .before .before .before .before .before .before .before .before .drop-stores .result) (mkDisk (c .before .before .before .before .before .before .before .before .before .before .before .before .before .before .before .before .args .image .now) (c .before .before .before .before .before .before .before .before .drop-stores .last .1 .0)) (c .before .before .before .before .before .before .before .before .drop-stores .ensures (c .before .before .before .before .before .before .before .before .before .before .before .before .before .before .before .before .args .image .now)) (c .before .before .before .before .before .if1 .left) (c .before .before .before .before .before .before .before .before .before .before .first-unsealed .result) (c .before .before .before .before .before .before .before .before .before .before .first-unsealed .ensures .1 (c .before .before .before .before .before .before .before .before .before .before .before .before .before .before .before .before .args .image .now) (c .before .before .before .before .before .before .before .before .before .before .before .before .before .before .before .before .pre .1 .0 .image-long) (c .before .before .before .before .before .before .before .before .before .before .before .before .before .before .before .before .pre .1 .1 .0 .0)) (omega (arith, c .before .before .before .if2 .left))) .is-it)) .0) ∙ c .before .before .if3 .taken)), feet-fit (c .before .before .before .before .before .before .before .before .before .before .before .before .before .before .before .before .args .p) (ranged (c .before .before .before .before .before .before .before .before .before .before .before .before .before .before .before .before .args .p) (c .before .before .before .before .before .before .before .before .before .before .before .before .before .before .before .before .pre .0)) (c .before .before .before .before .before .before .before .before .before .before .before .before .before .before .before .before .args .count) (mkDisk (c .before .before .before .before .before .before .before .before .before .before .before .before .before .before .before .before .args .image .now) (c .before .before .before .before .before .before .before .before .before .before .before .before .before .before .before .before .args .pointers .now)) (c .before .before .before .before .before .before .before .before .before .before .before .before .before .before .before .before .pre .1 .0) (c .before .before .before .before .before .before .before .before .before .before .before .before .before .before .before .before .pre .1 .1 .1 .0) (c .before .before .before .before .before .before .before .before .before .before .before .before .before .before .before .before .args .kept .now) (c .before .before .before .before .before .before .before .before .before .before .before .before .before .before .before .before .pre .1 .1 .0 .0) (c .before .before .before .before .before .before .before .before .drop-stores .result) (mkDisk (c .before .before .before .before .before .before .before .before .before .before .before .before .before .before .before .before .args .image .now) (c .before .before .before .before .before .before .before .before .drop-stores .last .1 .0)) (c .before .before .before .before .before .before .before .before .drop-stores .ensures (c .before .before .before .before .before .before .before .before .before .before .before .before .before .before .before .before .args .image .now)) (c .before .before .before .before .before .if1 .left) (c .before .before .before .before .before .before .before .before .before .before .first-unsealed .result) (omega (arith, c .before .before .before .if2 .left)) (only (c .before .before .before .before .before .before .before .before .before .before .before .before .before .before .before .before .args .p) (ranged (c .before .before .before .before .before .before .before .before .before .before .before .before .before .before .before .before .args .p) (c .before .before .before .before .before .before .before .before .before .before .before .before .before .before .before .before .pre .0)) (c .before .before .before .before .before .before .before .before .before .before .before .before .before .before .before .before .args .count) (mkDisk (c .before .before .before .before .before .before .before .before .before .before .before .before .before .before .before .before .args .image .now) (c .before .before .before .before .before .before .before .before .before .before .before .before .before .before .before .before .args .pointers .now)) (c .before .before .before .before .before .before .before .before .before .before .before .before .before .before .before .before .pre .1 .0) (c .before .before .before .before .before .before .before .before .before .before .before .before .before .before .before .before .pre .1 .1 .1 .0) (c .before .before .before .before .before .before .before .before .before .before .before .before .before .before .before .before .args .kept .now) (c .before .before .before .before .before .before .before .before .before .before .before .before .before .before .before .before .pre .1 .1 .0 .0) (c .before .before .before .before .before .before .before .before .drop-stores .result) (mkDisk (c .before .before .before .before .before .before .before .before .before .before .before .before .before .before .before .before .args .image .now) (c .before .before .before .before .before .before .before .before .drop-stores .last .1 .0)) (c .before .before .before .before .before .before .before .before .drop-stores .ensures (c .before .before .before .before .before .before .before .before .before .before .before .before .before .before .before .before .args .image .now)) (c .before .before .before .before .before .if1 .left) (c .before .before .before .before .before .before .before .before .before .before .first-unsealed .result) (c .before .before .before .before .before .before .before .before .before .before .first-unsealed .ensures .1 (c .before .before .before .before .before .before .before .before .before .before .before .before .before .before .before .before .args .image .now) (c .before .before .before .before .before .before .before .before .before .before .before .before .before .before .before .before .pre .1 .0 .image-long) (c .before .before .before .before .before .before .before .before .before .before .before .before .before .before .before .before .pre .1 .1 .0 .0)) (omega (arith, c .before .before .before .if2 .left))) (sym ((c .before .before .before .before .before .before .before .before .before .before .before .before .before .before .before .before .pre .1 .1 .1 .1 (segmentOf (c .before .before .before .before .before .before .before .before .before .before .before .before .before .before .before .before .args .p) (seen (c .before .before .before .before .before .before .before .before .before .before .before .before .before .before .before .before .args .p) (mkDisk (c .before .before .before .before .before .before .before .before .before .before .before .before .before .before .before .before .args .image .now) (c .before .before .before .before .before .before .before .before .before .before .before .before .before .before .before .before .args .pointers .now))) 0 (c .before .before .before .before .before .before .before .before .before .before .first-unsealed .result)) ((only (c .before .before .before .before .before .before .before .before .before .before .before .before .before .before .before .before .args .p) (ranged (c .before .before .before .before .before .before .before .before .before .before .before .before .before .before .before .before .args .p) (c .before .before .before .before .before .before .before .before .before .before .before .before .before .before .before .before .pre .0)) (c .before .before .before .before .before .before .before .before .before .before .before .before .before .before .before .before .args .count) (mkDisk (c .before .before .before .before .before .before .before .before .before .before .before .before .before .before .before .before .args .image .now) (c .before .before .before .before .before .before .before .before .before .before .before .before .before .before .before .before .args .pointers .now)) (c .before .before .before .before .before .before .before .before .before .before .before .before .before .before .before .before .pre .1 .0) (c .before .before .before .before .before .before .before .before .before .before .before .before .before .before .before .before .pre .1 .1 .1 .0) (c .before .before .before .before .before .before .before .before .before .before .before .before .before .before .before .before .args .kept .now) (c .before .before .before .before .before .before .before .before .before .before .before .before .before .before .before .before .pre .1 .1 .0 .0) (c .before .before .before .before .before .before .before .before .drop-stores .result) (mkDisk (c .before .before .before .before .before .before .before .before .before .before .before .before .before .before .before .before .args .image .now) (c .before .before .before .before .before .before .before .before .drop-stores .last .1 .0)) (c .before .before .before .before .before .before .before .before .drop-stores .ensures (c .before .before .before .before .before .before .before .before .before .before .before .before .before .before .before .before .args .image .now)) (c .before .before .before .before .before .if1 .left) (c .before .before .before .before .before .before .before .before .before .before .first-unsealed .result) (c .before .before .before .before .before .before .before .before .before .before .first-unsealed .ensures .1 (c .before .before .before .before .before .before .before .before .before .before .before .before .before .before .before .before .args .image .now) (c .before .before .before .before .before .before .before .before .before .before .before .before .before .before .before .before .pre .1 .0 .image-long) (c .before .before .before .before .before .before .before .before .before .before .before .before .before .before .before .before .pre .1 .1 .0 .0)) (omega (arith, c .before .before .before .if2 .left))) .is-it)) .0) ∙ c .before .before .if3 .taken))))
+missing-footers-requires c κs =
+    let if3 = c .before .before .if3 in
+    let if2 = c .before .before .before .if2 in
+    let if1 = c .before .before .before .before .before .if1 in
+    let drop-stores = c .before .before .before .before .before .before .before .before .drop-stores in
+    let first-unsealed = c .before .before .before .before .before .before .before .before .before .before .first-unsealed in
+    let entry = c .before .before .before .before .before .before .before .before .before .before .before .before .before .before .before .before in
+    let args = entry .args in
+    let pre = entry .pre in (
+      pre .0,
+      (
+        refit-whole (args .p) (ranged (args .p) (pre .0)) (args .count) (mkDisk (args .image .now) (args .pointers .now)) (pre .1 .0)
+            (pre .1 .1 .1 .0) (args .kept .now) (pre .1 .1 .0 .0) (drop-stores .result) (mkDisk (args .image .now) (drop-stores .last .1 .0))
+            (drop-stores .ensures (args .image .now)) (if1 .left),
+        (
+          (
+            (omega (arith, if2 .left)),
+            feet-pointers (args .p) (ranged (args .p) (pre .0)) (args .count) (mkDisk (args .image .now) (args .pointers .now)) (pre .1 .0)
+                (pre .1 .1 .1 .0) (args .kept .now) (pre .1 .1 .0 .0) (drop-stores .result)
+                (mkDisk (args .image .now) (drop-stores .last .1 .0)) (drop-stores .ensures (args .image .now)) (if1 .left)
+                (first-unsealed .result) (omega (arith, if2 .left))
+                (only (args .p) (ranged (args .p) (pre .0)) (args .count) (mkDisk (args .image .now) (args .pointers .now)) (pre .1 .0)
+                (pre .1 .1 .1 .0) (args .kept .now) (pre .1 .1 .0 .0) (drop-stores .result)
+                (mkDisk (args .image .now) (drop-stores .last .1 .0)) (drop-stores .ensures (args .image .now)) (if1 .left)
+                (first-unsealed .result) (first-unsealed .ensures .1 (args .image .now) (pre .1 .0 .image-long) (pre .1 .1 .0 .0))
+                (omega (arith, if2 .left))) (sym ((pre .1 .1 .1 .1
+                (segmentOf (args .p) (seen (args .p) (mkDisk (args .image .now) (args .pointers .now))) 0 (first-unsealed .result))
+                ((only (args .p) (ranged (args .p) (pre .0)) (args .count) (mkDisk (args .image .now) (args .pointers .now)) (pre .1 .0)
+                (pre .1 .1 .1 .0) (args .kept .now) (pre .1 .1 .0 .0) (drop-stores .result)
+                (mkDisk (args .image .now) (drop-stores .last .1 .0)) (drop-stores .ensures (args .image .now)) (if1 .left)
+                (first-unsealed .result) (first-unsealed .ensures .1 (args .image .now) (pre .1 .0 .image-long) (pre .1 .1 .0 .0))
+                (omega (arith, if2 .left))) .is-it)) .0)
+                ∙ if3 .taken),
+          ),
+          feet-fit (args .p) (ranged (args .p) (pre .0)) (args .count) (mkDisk (args .image .now) (args .pointers .now)) (pre .1 .0)
+              (pre .1 .1 .1 .0) (args .kept .now) (pre .1 .1 .0 .0) (drop-stores .result) (mkDisk (args .image .now) (drop-stores .last .1 .0))
+              (drop-stores .ensures (args .image .now)) (if1 .left) (first-unsealed .result) (omega (arith, if2 .left))
+              (only (args .p) (ranged (args .p) (pre .0)) (args .count) (mkDisk (args .image .now) (args .pointers .now)) (pre .1 .0)
+              (pre .1 .1 .1 .0) (args .kept .now) (pre .1 .1 .0 .0) (drop-stores .result) (mkDisk (args .image .now) (drop-stores .last .1 .0))
+              (drop-stores .ensures (args .image .now)) (if1 .left) (first-unsealed .result)
+              (first-unsealed .ensures .1 (args .image .now) (pre .1 .0 .image-long) (pre .1 .1 .0 .0)) (omega (arith, if2 .left)))
+              (sym ((pre .1 .1 .1 .1
+              (segmentOf (args .p) (seen (args .p) (mkDisk (args .image .now) (args .pointers .now))) 0 (first-unsealed .result))
+              ((only (args .p) (ranged (args .p) (pre .0)) (args .count) (mkDisk (args .image .now) (args .pointers .now)) (pre .1 .0)
+              (pre .1 .1 .1 .0) (args .kept .now) (pre .1 .1 .0 .0) (drop-stores .result)
+              (mkDisk (args .image .now) (drop-stores .last .1 .0)) (drop-stores .ensures (args .image .now)) (if1 .left)
+              (first-unsealed .result) (first-unsealed .ensures .1 (args .image .now) (pre .1 .0 .image-long) (pre .1 .1 .0 .0))
+              (omega (arith, if2 .left))) .is-it)) .0)
+              ∙ if3 .taken),
+        ),
+      ),
+    )
 
 same-length-3 : tie.Need-same-length-3
 same-length-3 c = search needs
@@ -43,31 +120,336 @@ same-length-4 : tie.Need-same-length-4
 same-length-4 c = search needs
 
 returns-3 : tie.Need-returns-3
-returns-3 c = refit-feet (c .before .before .before .before .before .before .before .before .before .before .before .before .before .before .before .before .before .before .before .before .before .args .p) (ranged (c .before .before .before .before .before .before .before .before .before .before .before .before .before .before .before .before .before .before .before .before .before .args .p) (c .before .before .before .before .before .before .before .before .before .before .before .before .before .before .before .before .before .before .before .before .before .pre .0)) (c .before .before .before .before .before .before .before .before .before .before .before .before .before .before .before .before .before .before .before .before .before .args .count) (mkDisk (c .before .before .before .before .before .before .before .before .before .before .before .before .before .before .before .before .before .before .before .before .before .args .image .now) (c .before .before .before .before .before .before .before .before .before .before .before .before .before .before .before .before .before .before .before .before .before .args .pointers .now)) (c .before .before .before .before .before .before .before .before .before .before .before .before .before .before .before .before .before .before .before .before .before .pre .1 .0) (c .before .before .before .before .before .before .before .before .before .before .before .before .before .before .before .before .before .before .before .before .before .pre .1 .1 .1 .0) (c .before .before .before .before .before .before .before .before .before .before .before .before .before .before .before .before .before .before .before .before .before .args .kept .now) (c .before .before .before .before .before .before .before .before .before .before .before .before .before .before .before .before .before .before .before .before .before .pre .1 .1 .0 .0) (c .before .before .before .before .before .before .before .before .before .before .before .before .before .drop-stores .result) (mkDisk (c .before .before .before .before .before .before .before .before .before .before .before .before .before .before .before .before .before .before .before .before .before .args .image .now) (c .before .before .before .before .before .before .before .before .before .before .before .before .before .drop-stores .last .1 .0)) (c .before .before .before .before .before .before .before .before .before .before .before .before .before .drop-stores .ensures (c .before .before .before .before .before .before .before .before .before .before .before .before .before .before .before .before .before .before .before .before .before .args .image .now)) (c .before .before .before .before .before .before .before .before .before .before .if1 .left) (c .before .before .before .before .before .before .before .before .before .before .before .before .before .before .before .first-unsealed .result) (omega (arith, c .before .before .before .before .before .before .before .before .if2 .left)) (only (c .before .before .before .before .before .before .before .before .before .before .before .before .before .before .before .before .before .before .before .before .before .args .p) (ranged (c .before .before .before .before .before .before .before .before .before .before .before .before .before .before .before .before .before .before .before .before .before .args .p) (c .before .before .before .before .before .before .before .before .before .before .before .before .before .before .before .before .before .before .before .before .before .pre .0)) (c .before .before .before .before .before .before .before .before .before .before .before .before .before .before .before .before .before .before .before .before .before .args .count) (mkDisk (c .before .before .before .before .before .before .before .before .before .before .before .before .before .before .before .before .before .before .before .before .before .args .image .now) (c .before .before .before .before .before .before .before .before .before .before .before .before .before .before .before .before .before .before .before .before .before .args .pointers .now)) (c .before .before .before .before .before .before .before .before .before .before .before .before .before .before .before .before .before .before .before .before .before .pre .1 .0) (c .before .before .before .before .before .before .before .before .before .before .before .before .before .before .before .before .before .before .before .before .before .pre .1 .1 .1 .0) (c .before .before .before .before .before .before .before .before .before .before .before .before .before .before .before .before .before .before .before .before .before .args .kept .now) (c .before .before .before .before .before .before .before .before .before .before .before .before .before .before .before .before .before .before .before .before .before .pre .1 .1 .0 .0) (c .before .before .before .before .before .before .before .before .before .before .before .before .before .drop-stores .result) (mkDisk (c .before .before .before .before .before .before .before .before .before .before .before .before .before .before .before .before .before .before .before .before .before .args .image .now) (c .before .before .before .before .before .before .before .before .before .before .before .before .before .drop-stores .last .1 .0)) (c .before .before .before .before .before .before .before .before .before .before .before .before .before .drop-stores .ensures (c .before .before .before .before .before .before .before .before .before .before .before .before .before .before .before .before .before .before .before .before .before .args .image .now)) (c .before .before .before .before .before .before .before .before .before .before .if1 .left) (c .before .before .before .before .before .before .before .before .before .before .before .before .before .before .before .first-unsealed .result) (c .before .before .before .before .before .before .before .before .before .before .before .before .before .before .before .first-unsealed .ensures .1 (c .before .before .before .before .before .before .before .before .before .before .before .before .before .before .before .before .before .before .before .before .before .args .image .now) (c .before .before .before .before .before .before .before .before .before .before .before .before .before .before .before .before .before .before .before .before .before .pre .1 .0 .image-long) (c .before .before .before .before .before .before .before .before .before .before .before .before .before .before .before .before .before .before .before .before .before .pre .1 .1 .0 .0)) (omega (arith, c .before .before .before .before .before .before .before .before .if2 .left))) (sym ((c .before .before .before .before .before .before .before .before .before .before .before .before .before .before .before .before .before .before .before .before .before .pre .1 .1 .1 .1 (segmentOf (c .before .before .before .before .before .before .before .before .before .before .before .before .before .before .before .before .before .before .before .before .before .args .p) (seen (c .before .before .before .before .before .before .before .before .before .before .before .before .before .before .before .before .before .before .before .before .before .args .p) (mkDisk (c .before .before .before .before .before .before .before .before .before .before .before .before .before .before .before .before .before .before .before .before .before .args .image .now) (c .before .before .before .before .before .before .before .before .before .before .before .before .before .before .before .before .before .before .before .before .before .args .pointers .now))) 0 (c .before .before .before .before .before .before .before .before .before .before .before .before .before .before .before .first-unsealed .result)) ((only (c .before .before .before .before .before .before .before .before .before .before .before .before .before .before .before .before .before .before .before .before .before .args .p) (ranged (c .before .before .before .before .before .before .before .before .before .before .before .before .before .before .before .before .before .before .before .before .before .args .p) (c .before .before .before .before .before .before .before .before .before .before .before .before .before .before .before .before .before .before .before .before .before .pre .0)) (c .before .before .before .before .before .before .before .before .before .before .before .before .before .before .before .before .before .before .before .before .before .args .count) (mkDisk (c .before .before .before .before .before .before .before .before .before .before .before .before .before .before .before .before .before .before .before .before .before .args .image .now) (c .before .before .before .before .before .before .before .before .before .before .before .before .before .before .before .before .before .before .before .before .before .args .pointers .now)) (c .before .before .before .before .before .before .before .before .before .before .before .before .before .before .before .before .before .before .before .before .before .pre .1 .0) (c .before .before .before .before .before .before .before .before .before .before .before .before .before .before .before .before .before .before .before .before .before .pre .1 .1 .1 .0) (c .before .before .before .before .before .before .before .before .before .before .before .before .before .before .before .before .before .before .before .before .before .args .kept .now) (c .before .before .before .before .before .before .before .before .before .before .before .before .before .before .before .before .before .before .before .before .before .pre .1 .1 .0 .0) (c .before .before .before .before .before .before .before .before .before .before .before .before .before .drop-stores .result) (mkDisk (c .before .before .before .before .before .before .before .before .before .before .before .before .before .before .before .before .before .before .before .before .before .args .image .now) (c .before .before .before .before .before .before .before .before .before .before .before .before .before .drop-stores .last .1 .0)) (c .before .before .before .before .before .before .before .before .before .before .before .before .before .drop-stores .ensures (c .before .before .before .before .before .before .before .before .before .before .before .before .before .before .before .before .before .before .before .before .before .args .image .now)) (c .before .before .before .before .before .before .before .before .before .before .if1 .left) (c .before .before .before .before .before .before .before .before .before .before .before .before .before .before .before .first-unsealed .result) (c .before .before .before .before .before .before .before .before .before .before .before .before .before .before .before .first-unsealed .ensures .1 (c .before .before .before .before .before .before .before .before .before .before .before .before .before .before .before .before .before .before .before .before .before .args .image .now) (c .before .before .before .before .before .before .before .before .before .before .before .before .before .before .before .before .before .before .before .before .before .pre .1 .0 .image-long) (c .before .before .before .before .before .before .before .before .before .before .before .before .before .before .before .before .before .before .before .before .before .pre .1 .1 .0 .0)) (omega (arith, c .before .before .before .before .before .before .before .before .if2 .left))) .is-it)) .0) ∙ c .before .before .before .before .before .before .before .if3 .taken) (c .before .before .before .before .missing-footers .result) (mkDisk (c .before .before .before .before .missing-footers .last .1 .0) (c .before .before .before .before .missing-footers .last .1 .1 .0)) (c .before .before .before .before .missing-footers .ensures)
+returns-3 c =
+    let missing-footers = c .before .before .before .before .missing-footers in
+    let if3 = c .before .before .before .before .before .before .before .if3 in
+    let if2 = c .before .before .before .before .before .before .before .before .if2 in
+    let if1 = c .before .before .before .before .before .before .before .before .before .before .if1 in
+    let drop-stores = c .before .before .before .before .before .before .before .before .before .before .before .before .before .drop-stores in
+    let first-unsealed = c .before .before .before .before .before .before .before .before .before .before .before .before .before .before .before .first-unsealed in
+    let entry = c .before .before .before .before .before .before .before .before .before .before .before .before .before .before .before .before .before .before .before .before .before in
+    let args = entry .args in
+    let pre = entry .pre in
+    refit-feet (args .p) (ranged (args .p) (pre .0)) (args .count) (mkDisk (args .image .now) (args .pointers .now)) (pre .1 .0) (pre .1 .1 .1 .0)
+    (args .kept .now) (pre .1 .1 .0 .0) (drop-stores .result) (mkDisk (args .image .now) (drop-stores .last .1 .0))
+    (drop-stores .ensures (args .image .now)) (if1 .left) (first-unsealed .result) (omega (arith, if2 .left))
+    (only (args .p) (ranged (args .p) (pre .0)) (args .count) (mkDisk (args .image .now) (args .pointers .now)) (pre .1 .0) (pre .1 .1 .1 .0)
+    (args .kept .now) (pre .1 .1 .0 .0) (drop-stores .result) (mkDisk (args .image .now) (drop-stores .last .1 .0))
+    (drop-stores .ensures (args .image .now)) (if1 .left) (first-unsealed .result)
+    (first-unsealed .ensures .1 (args .image .now) (pre .1 .0 .image-long) (pre .1 .1 .0 .0)) (omega (arith, if2 .left)))
+    (sym ((pre .1 .1 .1 .1 (segmentOf (args .p) (seen (args .p) (mkDisk (args .image .now) (args .pointers .now))) 0 (first-unsealed .result))
+    ((only (args .p) (ranged (args .p) (pre .0)) (args .count) (mkDisk (args .image .now) (args .pointers .now)) (pre .1 .0)
+    (pre .1 .1 .1 .0) (args .kept .now) (pre .1 .1 .0 .0) (drop-stores .result) (mkDisk (args .image .now) (drop-stores .last .1 .0))
+    (drop-stores .ensures (args .image .now)) (if1 .left) (first-unsealed .result)
+    (first-unsealed .ensures .1 (args .image .now) (pre .1 .0 .image-long) (pre .1 .1 .0 .0)) (omega (arith, if2 .left))) .is-it)) .0)
+    ∙ if3 .taken) (missing-footers .result) (mkDisk (missing-footers .last .1 .0) (missing-footers .last .1 .1 .0)) (missing-footers .ensures)
 
 same-length-5 : tie.Need-same-length-5
 same-length-5 c = search needs
 
 returns-4 : tie.Need-returns-4
-returns-4 c = refit-plain (c .before .before .before .before .before .before .before .before .before .before .before .before .before .before .before .args .p) (ranged (c .before .before .before .before .before .before .before .before .before .before .before .before .before .before .before .args .p) (c .before .before .before .before .before .before .before .before .before .before .before .before .before .before .before .pre .0)) (c .before .before .before .before .before .before .before .before .before .before .before .before .before .before .before .args .count) (mkDisk (c .before .before .before .before .before .before .before .before .before .before .before .before .before .before .before .args .image .now) (c .before .before .before .before .before .before .before .before .before .before .before .before .before .before .before .args .pointers .now)) (c .before .before .before .before .before .before .before .before .before .before .before .before .before .before .before .pre .1 .0) (c .before .before .before .before .before .before .before .before .before .before .before .before .before .before .before .pre .1 .1 .1 .0) (c .before .before .before .before .before .before .before .before .before .before .before .before .before .before .before .args .kept .now) (c .before .before .before .before .before .before .before .before .before .before .before .before .before .before .before .pre .1 .1 .0 .0) (c .before .before .before .before .before .before .before .drop-stores .result) (mkDisk (c .before .before .before .before .before .before .before .before .before .before .before .before .before .before .before .args .image .now) (c .before .before .before .before .before .before .before .drop-stores .last .1 .0)) (c .before .before .before .before .before .before .before .drop-stores .ensures (c .before .before .before .before .before .before .before .before .before .before .before .before .before .before .before .args .image .now)) (c .before .before .before .before .if1 .left) (c .before .before .before .before .before .before .before .before .before .first-unsealed .result) (omega (arith, c .before .before .if2 .left)) (only (c .before .before .before .before .before .before .before .before .before .before .before .before .before .before .before .args .p) (ranged (c .before .before .before .before .before .before .before .before .before .before .before .before .before .before .before .args .p) (c .before .before .before .before .before .before .before .before .before .before .before .before .before .before .before .pre .0)) (c .before .before .before .before .before .before .before .before .before .before .before .before .before .before .before .args .count) (mkDisk (c .before .before .before .before .before .before .before .before .before .before .before .before .before .before .before .args .image .now) (c .before .before .before .before .before .before .before .before .before .before .before .before .before .before .before .args .pointers .now)) (c .before .before .before .before .before .before .before .before .before .before .before .before .before .before .before .pre .1 .0) (c .before .before .before .before .before .before .before .before .before .before .before .before .before .before .before .pre .1 .1 .1 .0) (c .before .before .before .before .before .before .before .before .before .before .before .before .before .before .before .args .kept .now) (c .before .before .before .before .before .before .before .before .before .before .before .before .before .before .before .pre .1 .1 .0 .0) (c .before .before .before .before .before .before .before .drop-stores .result) (mkDisk (c .before .before .before .before .before .before .before .before .before .before .before .before .before .before .before .args .image .now) (c .before .before .before .before .before .before .before .drop-stores .last .1 .0)) (c .before .before .before .before .before .before .before .drop-stores .ensures (c .before .before .before .before .before .before .before .before .before .before .before .before .before .before .before .args .image .now)) (c .before .before .before .before .if1 .left) (c .before .before .before .before .before .before .before .before .before .first-unsealed .result) (c .before .before .before .before .before .before .before .before .before .first-unsealed .ensures .1 (c .before .before .before .before .before .before .before .before .before .before .before .before .before .before .before .args .image .now) (c .before .before .before .before .before .before .before .before .before .before .before .before .before .before .before .pre .1 .0 .image-long) (c .before .before .before .before .before .before .before .before .before .before .before .before .before .before .before .pre .1 .1 .0 .0)) (omega (arith, c .before .before .if2 .left))) (sym ((c .before .before .before .before .before .before .before .before .before .before .before .before .before .before .before .pre .1 .1 .1 .1 (segmentOf (c .before .before .before .before .before .before .before .before .before .before .before .before .before .before .before .args .p) (seen (c .before .before .before .before .before .before .before .before .before .before .before .before .before .before .before .args .p) (mkDisk (c .before .before .before .before .before .before .before .before .before .before .before .before .before .before .before .args .image .now) (c .before .before .before .before .before .before .before .before .before .before .before .before .before .before .before .args .pointers .now))) 0 (c .before .before .before .before .before .before .before .before .before .first-unsealed .result)) ((only (c .before .before .before .before .before .before .before .before .before .before .before .before .before .before .before .args .p) (ranged (c .before .before .before .before .before .before .before .before .before .before .before .before .before .before .before .args .p) (c .before .before .before .before .before .before .before .before .before .before .before .before .before .before .before .pre .0)) (c .before .before .before .before .before .before .before .before .before .before .before .before .before .before .before .args .count) (mkDisk (c .before .before .before .before .before .before .before .before .before .before .before .before .before .before .before .args .image .now) (c .before .before .before .before .before .before .before .before .before .before .before .before .before .before .before .args .pointers .now)) (c .before .before .before .before .before .before .before .before .before .before .before .before .before .before .before .pre .1 .0) (c .before .before .before .before .before .before .before .before .before .before .before .before .before .before .before .pre .1 .1 .1 .0) (c .before .before .before .before .before .before .before .before .before .before .before .before .before .before .before .args .kept .now) (c .before .before .before .before .before .before .before .before .before .before .before .before .before .before .before .pre .1 .1 .0 .0) (c .before .before .before .before .before .before .before .drop-stores .result) (mkDisk (c .before .before .before .before .before .before .before .before .before .before .before .before .before .before .before .args .image .now) (c .before .before .before .before .before .before .before .drop-stores .last .1 .0)) (c .before .before .before .before .before .before .before .drop-stores .ensures (c .before .before .before .before .before .before .before .before .before .before .before .before .before .before .before .args .image .now)) (c .before .before .before .before .if1 .left) (c .before .before .before .before .before .before .before .before .before .first-unsealed .result) (c .before .before .before .before .before .before .before .before .before .first-unsealed .ensures .1 (c .before .before .before .before .before .before .before .before .before .before .before .before .before .before .before .args .image .now) (c .before .before .before .before .before .before .before .before .before .before .before .before .before .before .before .pre .1 .0 .image-long) (c .before .before .before .before .before .before .before .before .before .before .before .before .before .before .before .pre .1 .1 .0 .0)) (omega (arith, c .before .before .if2 .left))) .is-it)) .0) ∙ c .before .if3 .left) (sym ((c .before .before .before .before .before .before .before .before .before .before .before .before .before .before .before .pre .1 .1 .1 .1 (segmentOf (c .before .before .before .before .before .before .before .before .before .before .before .before .before .before .before .args .p) (seen (c .before .before .before .before .before .before .before .before .before .before .before .before .before .before .before .args .p) (mkDisk (c .before .before .before .before .before .before .before .before .before .before .before .before .before .before .before .args .image .now) (c .before .before .before .before .before .before .before .before .before .before .before .before .before .before .before .args .pointers .now))) 0 (c .before .before .before .before .before .before .before .before .before .first-unsealed .result)) ((only (c .before .before .before .before .before .before .before .before .before .before .before .before .before .before .before .args .p) (ranged (c .before .before .before .before .before .before .before .before .before .before .before .before .before .before .before .args .p) (c .before .before .before .before .before .before .before .before .before .before .before .before .before .before .before .pre .0)) (c .before .before .before .before .before .before .before .before .before .before .before .before .before .before .before .args .count) (mkDisk (c .before .before .before .before .before .before .before .before .before .before .before .before .before .before .before .args .image .now) (c .before .before .before .before .before .before .before .before .before .before .before .before .before .before .before .args .pointers .now)) (c .before .before .before .before .before .before .before .before .before .before .before .before .before .before .before .pre .1 .0) (c .before .before .before .before .before .before .before .before .before .before .before .before .before .before .before .pre .1 .1 .1 .0) (c .before .before .before .before .before .before .before .before .before .before .before .before .before .before .before .args .kept .now) (c .before .before .before .before .before .before .before .before .before .before .before .before .before .before .before .pre .1 .1 .0 .0) (c .before .before .before .before .before .before .before .drop-stores .result) (mkDisk (c .before .before .before .before .before .before .before .before .before .before .before .before .before .before .before .args .image .now) (c .before .before .before .before .before .before .before .drop-stores .last .1 .0)) (c .before .before .before .before .before .before .before .drop-stores .ensures (c .before .before .before .before .before .before .before .before .before .before .before .before .before .before .before .args .image .now)) (c .before .before .before .before .if1 .left) (c .before .before .before .before .before .before .before .before .before .first-unsealed .result) (c .before .before .before .before .before .before .before .before .before .first-unsealed .ensures .1 (c .before .before .before .before .before .before .before .before .before .before .before .before .before .before .before .args .image .now) (c .before .before .before .before .before .before .before .before .before .before .before .before .before .before .before .pre .1 .0 .image-long) (c .before .before .before .before .before .before .before .before .before .before .before .before .before .before .before .pre .1 .1 .0 .0)) (omega (arith, c .before .before .if2 .left))) .is-it)) .1) ∙ not-true (c .before .before .before .before .before .before .before .before .before .before .before .before .before .before .before .args .ragged) (c .if4 .taken))
+returns-4 c =
+    let if2 = c .before .before .if2 in
+    let if1 = c .before .before .before .before .if1 in
+    let drop-stores = c .before .before .before .before .before .before .before .drop-stores in
+    let first-unsealed = c .before .before .before .before .before .before .before .before .before .first-unsealed in
+    let entry = c .before .before .before .before .before .before .before .before .before .before .before .before .before .before .before in
+    let args = entry .args in
+    let pre = entry .pre in
+    refit-plain (args .p) (ranged (args .p) (pre .0)) (args .count) (mkDisk (args .image .now) (args .pointers .now)) (pre .1 .0) (pre .1 .1 .1 .0)
+    (args .kept .now) (pre .1 .1 .0 .0) (drop-stores .result) (mkDisk (args .image .now) (drop-stores .last .1 .0))
+    (drop-stores .ensures (args .image .now)) (if1 .left) (first-unsealed .result) (omega (arith, if2 .left))
+    (only (args .p) (ranged (args .p) (pre .0)) (args .count) (mkDisk (args .image .now) (args .pointers .now)) (pre .1 .0) (pre .1 .1 .1 .0)
+    (args .kept .now) (pre .1 .1 .0 .0) (drop-stores .result) (mkDisk (args .image .now) (drop-stores .last .1 .0))
+    (drop-stores .ensures (args .image .now)) (if1 .left) (first-unsealed .result)
+    (first-unsealed .ensures .1 (args .image .now) (pre .1 .0 .image-long) (pre .1 .1 .0 .0)) (omega (arith, if2 .left)))
+    (sym ((pre .1 .1 .1 .1 (segmentOf (args .p) (seen (args .p) (mkDisk (args .image .now) (args .pointers .now))) 0 (first-unsealed .result))
+    ((only (args .p) (ranged (args .p) (pre .0)) (args .count) (mkDisk (args .image .now) (args .pointers .now)) (pre .1 .0)
+    (pre .1 .1 .1 .0) (args .kept .now) (pre .1 .1 .0 .0) (drop-stores .result) (mkDisk (args .image .now) (drop-stores .last .1 .0))
+    (drop-stores .ensures (args .image .now)) (if1 .left) (first-unsealed .result)
+    (first-unsealed .ensures .1 (args .image .now) (pre .1 .0 .image-long) (pre .1 .1 .0 .0)) (omega (arith, if2 .left))) .is-it)) .0)
+    ∙ c .before .if3 .left) (sym ((pre .1 .1 .1 .1
+    (segmentOf (args .p) (seen (args .p) (mkDisk (args .image .now) (args .pointers .now))) 0 (first-unsealed .result))
+    ((only (args .p) (ranged (args .p) (pre .0)) (args .count) (mkDisk (args .image .now) (args .pointers .now)) (pre .1 .0)
+    (pre .1 .1 .1 .0) (args .kept .now) (pre .1 .1 .0 .0) (drop-stores .result) (mkDisk (args .image .now) (drop-stores .last .1 .0))
+    (drop-stores .ensures (args .image .now)) (if1 .left) (first-unsealed .result)
+    (first-unsealed .ensures .1 (args .image .now) (pre .1 .0 .image-long) (pre .1 .1 .0 .0)) (omega (arith, if2 .left))) .is-it)) .1)
+    ∙ not-true (args .ragged) (c .if4 .taken))
 
 lowest-free-requires : tie.Need-lowest-free-requires
-lowest-free-requires c κs = (omega (arith, (c .before .before .before .before .before .before .before .before .before .before .before .before .before .before .before .pre .1 .1 .0 .0) .0, (ranged (c .before .before .before .before .before .before .before .before .before .before .before .before .before .before .before .args .p) (c .before .before .before .before .before .before .before .before .before .before .before .before .before .before .before .pre .0)) .zones-high))
+lowest-free-requires c κs =
+    let entry = c .before .before .before .before .before .before .before .before .before .before .before .before .before .before .before in
+    let args = entry .args in
+    let pre = entry .pre in
+    (omega (arith, (pre .1 .1 .0 .0) .0, (ranged (args .p) (pre .0)) .zones-high))
 
 greatest-serial-requires : tie.Need-greatest-serial-requires
-greatest-serial-requires c κs = ((omega (arith, (c .before .before .before .before .before .before .before .before .before .before .before .before .before .before .before .before .pre .1 .1 .0 .0) .0, (ranged (c .before .before .before .before .before .before .before .before .before .before .before .before .before .before .before .before .args .p) (c .before .before .before .before .before .before .before .before .before .before .before .before .before .before .before .before .pre .0)) .zones-high)), (omega (arith, (c .before .before .before .before .before .before .before .before .before .before .before .before .before .before .before .before .pre .1 .1 .0 .1) .0, (ranged (c .before .before .before .before .before .before .before .before .before .before .before .before .before .before .before .before .args .p) (c .before .before .before .before .before .before .before .before .before .before .before .before .before .before .before .before .pre .0)) .zones-high)))
+greatest-serial-requires c κs =
+    let entry = c .before .before .before .before .before .before .before .before .before .before .before .before .before .before .before .before in
+    let args = entry .args in
+    let pre = entry .pre in
+    ((omega (arith, (pre .1 .1 .0 .0) .0, (ranged (args .p) (pre .0)) .zones-high)), (omega (arith, (pre .1 .1 .0 .1) .0, (ranged (args .p) (pre .0)) .zones-high)))
 
 add-t24 : tie.Need-add-t24
-add-t24 c = let h : c .before .greatest-serial .result .0 < lastCount = lt-of-le-ne (omega arith) (λ q. serial-left (c .before .before .before .before .before .before .before .before .before .before .before .before .before .before .before .before .before .before .args .p) (ranged (c .before .before .before .before .before .before .before .before .before .before .before .before .before .before .before .before .before .before .args .p) (c .before .before .before .before .before .before .before .before .before .before .before .before .before .before .before .before .before .before .pre .0)) (c .before .before .before .before .before .before .before .before .before .before .before .before .before .before .before .before .before .before .args .count) (mkDisk (c .before .before .before .before .before .before .before .before .before .before .before .before .before .before .before .before .before .before .args .image .now) (c .before .before .before .before .before .before .before .before .before .before .before .before .before .before .before .before .before .before .args .pointers .now)) (c .before .before .before .before .before .before .before .before .before .before .before .before .before .before .before .before .before .before .pre .1 .0) (c .before .before .before .before .before .before .before .before .before .before .before .before .before .before .before .before .before .before .pre .1 .1 .1 .0) (c .before .before .before .before .before .before .before .before .before .before .before .before .before .before .before .before .before .before .args .kept .now) (c .before .before .before .before .before .before .before .before .before .before .before .before .before .before .before .before .before .before .pre .1 .1 .0 .0) (c .before .before .before .before .before .before .before .before .before .before .drop-stores .result) (mkDisk (c .before .before .before .before .before .before .before .before .before .before .before .before .before .before .before .before .before .before .args .image .now) (c .before .before .before .before .before .before .before .before .before .before .drop-stores .last .1 .0)) (c .before .before .before .before .before .before .before .before .before .before .drop-stores .ensures (c .before .before .before .before .before .before .before .before .before .before .before .before .before .before .before .before .before .before .args .image .now)) (c .before .before .before .before .before .before .before .if1 .left) (c .before .before .before .before .before .before .before .before .before .before .before .before .first-unsealed .result) (omega (arith, c .before .before .before .before .before .if2 .left)) (only (c .before .before .before .before .before .before .before .before .before .before .before .before .before .before .before .before .before .before .args .p) (ranged (c .before .before .before .before .before .before .before .before .before .before .before .before .before .before .before .before .before .before .args .p) (c .before .before .before .before .before .before .before .before .before .before .before .before .before .before .before .before .before .before .pre .0)) (c .before .before .before .before .before .before .before .before .before .before .before .before .before .before .before .before .before .before .args .count) (mkDisk (c .before .before .before .before .before .before .before .before .before .before .before .before .before .before .before .before .before .before .args .image .now) (c .before .before .before .before .before .before .before .before .before .before .before .before .before .before .before .before .before .before .args .pointers .now)) (c .before .before .before .before .before .before .before .before .before .before .before .before .before .before .before .before .before .before .pre .1 .0) (c .before .before .before .before .before .before .before .before .before .before .before .before .before .before .before .before .before .before .pre .1 .1 .1 .0) (c .before .before .before .before .before .before .before .before .before .before .before .before .before .before .before .before .before .before .args .kept .now) (c .before .before .before .before .before .before .before .before .before .before .before .before .before .before .before .before .before .before .pre .1 .1 .0 .0) (c .before .before .before .before .before .before .before .before .before .before .drop-stores .result) (mkDisk (c .before .before .before .before .before .before .before .before .before .before .before .before .before .before .before .before .before .before .args .image .now) (c .before .before .before .before .before .before .before .before .before .before .drop-stores .last .1 .0)) (c .before .before .before .before .before .before .before .before .before .before .drop-stores .ensures (c .before .before .before .before .before .before .before .before .before .before .before .before .before .before .before .before .before .before .args .image .now)) (c .before .before .before .before .before .before .before .if1 .left) (c .before .before .before .before .before .before .before .before .before .before .before .before .first-unsealed .result) (c .before .before .before .before .before .before .before .before .before .before .before .before .first-unsealed .ensures .1 (c .before .before .before .before .before .before .before .before .before .before .before .before .before .before .before .before .before .before .args .image .now) (c .before .before .before .before .before .before .before .before .before .before .before .before .before .before .before .before .before .before .pre .1 .0 .image-long) (c .before .before .before .before .before .before .before .before .before .before .before .before .before .before .before .before .before .before .pre .1 .1 .0 .0)) (omega (arith, c .before .before .before .before .before .if2 .left))) (sym ((c .before .before .before .before .before .before .before .before .before .before .before .before .before .before .before .before .before .before .pre .1 .1 .1 .1 (segmentOf (c .before .before .before .before .before .before .before .before .before .before .before .before .before .before .before .before .before .before .args .p) (seen (c .before .before .before .before .before .before .before .before .before .before .before .before .before .before .before .before .before .before .args .p) (mkDisk (c .before .before .before .before .before .before .before .before .before .before .before .before .before .before .before .before .before .before .args .image .now) (c .before .before .before .before .before .before .before .before .before .before .before .before .before .before .before .before .before .before .args .pointers .now))) 0 (c .before .before .before .before .before .before .before .before .before .before .before .before .first-unsealed .result)) ((only (c .before .before .before .before .before .before .before .before .before .before .before .before .before .before .before .before .before .before .args .p) (ranged (c .before .before .before .before .before .before .before .before .before .before .before .before .before .before .before .before .before .before .args .p) (c .before .before .before .before .before .before .before .before .before .before .before .before .before .before .before .before .before .before .pre .0)) (c .before .before .before .before .before .before .before .before .before .before .before .before .before .before .before .before .before .before .args .count) (mkDisk (c .before .before .before .before .before .before .before .before .before .before .before .before .before .before .before .before .before .before .args .image .now) (c .before .before .before .before .before .before .before .before .before .before .before .before .before .before .before .before .before .before .args .pointers .now)) (c .before .before .before .before .before .before .before .before .before .before .before .before .before .before .before .before .before .before .pre .1 .0) (c .before .before .before .before .before .before .before .before .before .before .before .before .before .before .before .before .before .before .pre .1 .1 .1 .0) (c .before .before .before .before .before .before .before .before .before .before .before .before .before .before .before .before .before .before .args .kept .now) (c .before .before .before .before .before .before .before .before .before .before .before .before .before .before .before .before .before .before .pre .1 .1 .0 .0) (c .before .before .before .before .before .before .before .before .before .before .drop-stores .result) (mkDisk (c .before .before .before .before .before .before .before .before .before .before .before .before .before .before .before .before .before .before .args .image .now) (c .before .before .before .before .before .before .before .before .before .before .drop-stores .last .1 .0)) (c .before .before .before .before .before .before .before .before .before .before .drop-stores .ensures (c .before .before .before .before .before .before .before .before .before .before .before .before .before .before .before .before .before .before .args .image .now)) (c .before .before .before .before .before .before .before .if1 .left) (c .before .before .before .before .before .before .before .before .before .before .before .before .first-unsealed .result) (c .before .before .before .before .before .before .before .before .before .before .before .before .first-unsealed .ensures .1 (c .before .before .before .before .before .before .before .before .before .before .before .before .before .before .before .before .before .before .args .image .now) (c .before .before .before .before .before .before .before .before .before .before .before .before .before .before .before .before .before .before .pre .1 .0 .image-long) (c .before .before .before .before .before .before .before .before .before .before .before .before .before .before .before .before .before .before .pre .1 .1 .0 .0)) (omega (arith, c .before .before .before .before .before .if2 .left))) .is-it)) .0) ∙ c .before .before .before .before .if3 .left) (sym ((c .before .before .before .before .before .before .before .before .before .before .before .before .before .before .before .before .before .before .pre .1 .1 .1 .1 (segmentOf (c .before .before .before .before .before .before .before .before .before .before .before .before .before .before .before .before .before .before .args .p) (seen (c .before .before .before .before .before .before .before .before .before .before .before .before .before .before .before .before .before .before .args .p) (mkDisk (c .before .before .before .before .before .before .before .before .before .before .before .before .before .before .before .before .before .before .args .image .now) (c .before .before .before .before .before .before .before .before .before .before .before .before .before .before .before .before .before .before .args .pointers .now))) 0 (c .before .before .before .before .before .before .before .before .before .before .before .before .first-unsealed .result)) ((only (c .before .before .before .before .before .before .before .before .before .before .before .before .before .before .before .before .before .before .args .p) (ranged (c .before .before .before .before .before .before .before .before .before .before .before .before .before .before .before .before .before .before .args .p) (c .before .before .before .before .before .before .before .before .before .before .before .before .before .before .before .before .before .before .pre .0)) (c .before .before .before .before .before .before .before .before .before .before .before .before .before .before .before .before .before .before .args .count) (mkDisk (c .before .before .before .before .before .before .before .before .before .before .before .before .before .before .before .before .before .before .args .image .now) (c .before .before .before .before .before .before .before .before .before .before .before .before .before .before .before .before .before .before .args .pointers .now)) (c .before .before .before .before .before .before .before .before .before .before .before .before .before .before .before .before .before .before .pre .1 .0) (c .before .before .before .before .before .before .before .before .before .before .before .before .before .before .before .before .before .before .pre .1 .1 .1 .0) (c .before .before .before .before .before .before .before .before .before .before .before .before .before .before .before .before .before .before .args .kept .now) (c .before .before .before .before .before .before .before .before .before .before .before .before .before .before .before .before .before .before .pre .1 .1 .0 .0) (c .before .before .before .before .before .before .before .before .before .before .drop-stores .result) (mkDisk (c .before .before .before .before .before .before .before .before .before .before .before .before .before .before .before .before .before .before .args .image .now) (c .before .before .before .before .before .before .before .before .before .before .drop-stores .last .1 .0)) (c .before .before .before .before .before .before .before .before .before .before .drop-stores .ensures (c .before .before .before .before .before .before .before .before .before .before .before .before .before .before .before .before .before .before .args .image .now)) (c .before .before .before .before .before .before .before .if1 .left) (c .before .before .before .before .before .before .before .before .before .before .before .before .first-unsealed .result) (c .before .before .before .before .before .before .before .before .before .before .before .before .first-unsealed .ensures .1 (c .before .before .before .before .before .before .before .before .before .before .before .before .before .before .before .before .before .before .args .image .now) (c .before .before .before .before .before .before .before .before .before .before .before .before .before .before .before .before .before .before .pre .1 .0 .image-long) (c .before .before .before .before .before .before .before .before .before .before .before .before .before .before .before .before .before .before .pre .1 .1 .0 .0)) (omega (arith, c .before .before .before .before .before .if2 .left))) .is-it)) .1) ∙ not-false (c .before .before .before .before .before .before .before .before .before .before .before .before .before .before .before .before .before .before .args .ragged) (c .before .before .before .if4 .left)) (sym (c .before .greatest-serial .ensures (seen (c .before .before .before .before .before .before .before .before .before .before .before .before .before .before .before .before .before .before .args .p) (mkDisk (c .before .before .before .before .before .before .before .before .before .before .before .before .before .before .before .before .before .before .args .image .now) (c .before .before .before .before .before .before .before .before .before .before .before .before .before .before .before .before .before .before .args .pointers .now))) 0 (c .before .before .before .before .before .before .before .before .before .before .before .before .before .before .before .before .before .before .pre .1 .1 .0 .0) (c .before .before .before .before .before .before .before .before .before .before .before .before .before .before .before .before .before .before .pre .1 .1 .0 .1)) ∙ q)) in omega arith
+add-t24 c =
+    let if4 = c .before .before .before .if4 in
+    let if3 = c .before .before .before .before .if3 in
+    let if2 = c .before .before .before .before .before .if2 in
+    let if1 = c .before .before .before .before .before .before .before .if1 in
+    let drop-stores = c .before .before .before .before .before .before .before .before .before .before .drop-stores in
+    let first-unsealed = c .before .before .before .before .before .before .before .before .before .before .before .before .first-unsealed in
+    let entry = c .before .before .before .before .before .before .before .before .before .before .before .before .before .before .before .before .before .before in
+    let args = entry .args in
+    let pre = entry .pre in
+    let h : c .before .greatest-serial .result .0 < lastCount =
+    lt-of-le-ne (omega arith) (λ q. serial-left (args .p) (ranged (args .p) (pre .0)) (args .count)
+    (mkDisk (args .image .now) (args .pointers .now)) (pre .1 .0) (pre .1 .1 .1 .0) (args .kept .now) (pre .1 .1 .0 .0) (drop-stores .result)
+    (mkDisk (args .image .now) (drop-stores .last .1 .0)) (drop-stores .ensures (args .image .now)) (if1 .left) (first-unsealed .result)
+    (omega (arith, if2 .left)) (only (args .p) (ranged (args .p) (pre .0)) (args .count) (mkDisk (args .image .now) (args .pointers .now))
+    (pre .1 .0) (pre .1 .1 .1 .0) (args .kept .now) (pre .1 .1 .0 .0) (drop-stores .result)
+    (mkDisk (args .image .now) (drop-stores .last .1 .0)) (drop-stores .ensures (args .image .now)) (if1 .left) (first-unsealed .result)
+    (first-unsealed .ensures .1 (args .image .now) (pre .1 .0 .image-long) (pre .1 .1 .0 .0)) (omega (arith, if2 .left)))
+    (sym ((pre .1 .1 .1 .1 (segmentOf (args .p) (seen (args .p) (mkDisk (args .image .now) (args .pointers .now))) 0 (first-unsealed .result))
+    ((only (args .p) (ranged (args .p) (pre .0)) (args .count) (mkDisk (args .image .now) (args .pointers .now)) (pre .1 .0)
+    (pre .1 .1 .1 .0) (args .kept .now) (pre .1 .1 .0 .0) (drop-stores .result)
+    (mkDisk (args .image .now) (drop-stores .last .1 .0)) (drop-stores .ensures (args .image .now)) (if1 .left)
+    (first-unsealed .result) (first-unsealed .ensures .1 (args .image .now) (pre .1 .0 .image-long) (pre .1 .1 .0 .0))
+    (omega (arith, if2 .left))) .is-it)) .0)
+    ∙ if3 .left) (sym ((pre .1 .1 .1 .1
+    (segmentOf (args .p) (seen (args .p) (mkDisk (args .image .now) (args .pointers .now))) 0 (first-unsealed .result))
+    ((only (args .p) (ranged (args .p) (pre .0)) (args .count) (mkDisk (args .image .now) (args .pointers .now)) (pre .1 .0)
+    (pre .1 .1 .1 .0) (args .kept .now) (pre .1 .1 .0 .0) (drop-stores .result)
+    (mkDisk (args .image .now) (drop-stores .last .1 .0)) (drop-stores .ensures (args .image .now)) (if1 .left)
+    (first-unsealed .result) (first-unsealed .ensures .1 (args .image .now) (pre .1 .0 .image-long) (pre .1 .1 .0 .0))
+    (omega (arith, if2 .left))) .is-it)) .1)
+    ∙ not-false (args .ragged) (if4 .left))
+    (sym (c .before .greatest-serial .ensures (seen (args .p) (mkDisk (args .image .now) (args .pointers .now))) 0 (pre .1 .1 .0 .0)
+    (pre .1 .1 .0 .1))
+    ∙ q)) in
+    omega arith
 
 mul-t25 : tie.Need-mul-t25
-mul-t25 c = omega (arith, (ranged (c .before .before .before .before .before .before .before .before .before .before .before .before .before .before .before .before .before .before .args .p) (c .before .before .before .before .before .before .before .before .before .before .before .before .before .before .before .before .before .before .pre .0)) .zones-high, c .before .before .before .before .before .if2 .left)
+mul-t25 c =
+    let if2 = c .before .before .before .before .before .if2 in
+    let entry = c .before .before .before .before .before .before .before .before .before .before .before .before .before .before .before .before .before .before in
+    let args = entry .args in
+    let pre = entry .pre in
+    omega (arith, (ranged (args .p) (pre .0)) .zones-high, if2 .left)
 
 shared-slice-read-t24 : tie.Need-shared-slice-read-t24
-shared-slice-read-t24 c = omega (arith, (c .before .before .before .before .before .before .before .before .before .before .before .before .before .before .before .before .before .before .before .pre .1 .1 .0 .1) .0, (ranged (c .before .before .before .before .before .before .before .before .before .before .before .before .before .before .before .before .before .before .before .args .p) (c .before .before .before .before .before .before .before .before .before .before .before .before .before .before .before .before .before .before .before .pre .0)) .zones-high, c .before .before .before .before .before .before .if2 .left)
+shared-slice-read-t24 c =
+    let if2 = c .before .before .before .before .before .before .if2 in
+    let entry = c .before .before .before .before .before .before .before .before .before .before .before .before .before .before .before .before .before .before .before in
+    let args = entry .args in
+    let pre = entry .pre in
+    omega (arith, (pre .1 .1 .0 .1) .0, (ranged (args .p) (pre .0)) .zones-high, if2 .left)
 
 rewrite-requires : tie.Need-rewrite-requires
-rewrite-requires c κs = (c .before .before .before .before .before .before .before .before .before .before .before .before .before .before .before .before .before .before .before .before .before .pre .0, (refit-whole (c .before .before .before .before .before .before .before .before .before .before .before .before .before .before .before .before .before .before .before .before .before .args .p) (ranged (c .before .before .before .before .before .before .before .before .before .before .before .before .before .before .before .before .before .before .before .before .before .args .p) (c .before .before .before .before .before .before .before .before .before .before .before .before .before .before .before .before .before .before .before .before .before .pre .0)) (c .before .before .before .before .before .before .before .before .before .before .before .before .before .before .before .before .before .before .before .before .before .args .count) (mkDisk (c .before .before .before .before .before .before .before .before .before .before .before .before .before .before .before .before .before .before .before .before .before .args .image .now) (c .before .before .before .before .before .before .before .before .before .before .before .before .before .before .before .before .before .before .before .before .before .args .pointers .now)) (c .before .before .before .before .before .before .before .before .before .before .before .before .before .before .before .before .before .before .before .before .before .pre .1 .0) (c .before .before .before .before .before .before .before .before .before .before .before .before .before .before .before .before .before .before .before .before .before .pre .1 .1 .1 .0) (c .before .before .before .before .before .before .before .before .before .before .before .before .before .before .before .before .before .before .before .before .before .args .kept .now) (c .before .before .before .before .before .before .before .before .before .before .before .before .before .before .before .before .before .before .before .before .before .pre .1 .1 .0 .0) (c .before .before .before .before .before .before .before .before .before .before .before .before .before .drop-stores .result) (mkDisk (c .before .before .before .before .before .before .before .before .before .before .before .before .before .before .before .before .before .before .before .before .before .args .image .now) (c .before .before .before .before .before .before .before .before .before .before .before .before .before .drop-stores .last .1 .0)) (c .before .before .before .before .before .before .before .before .before .before .before .before .before .drop-stores .ensures (c .before .before .before .before .before .before .before .before .before .before .before .before .before .before .before .before .before .before .before .before .before .args .image .now)) (c .before .before .before .before .before .before .before .before .before .before .if1 .left), (((omega (arith, c .before .before .before .before .before .before .before .before .if2 .left)), to-low (c .before .before .before .before .before .before .before .before .before .before .before .before .before .before .before .before .before .before .before .before .before .args .p) (ranged (c .before .before .before .before .before .before .before .before .before .before .before .before .before .before .before .before .before .before .before .before .before .args .p) (c .before .before .before .before .before .before .before .before .before .before .before .before .before .before .before .before .before .before .before .before .before .pre .0)) (c .before .before .before .before .before .before .before .before .before .before .before .before .before .before .before .before .before .before .before .before .before .args .count) (mkDisk (c .before .before .before .before .before .before .before .before .before .before .before .before .before .before .before .before .before .before .before .before .before .args .image .now) (c .before .before .before .before .before .before .before .before .before .before .before .before .before .before .before .before .before .before .before .before .before .args .pointers .now)) (c .before .before .before .before .before .before .before .before .before .before .before .before .before .before .before .before .before .before .before .before .before .pre .1 .0) (c .before .before .before .before .before .before .before .before .before .before .before .before .before .before .before .before .before .before .before .before .before .pre .1 .1 .1 .0) (c .before .before .before .before .before .before .before .before .before .before .before .before .before .before .before .before .before .before .before .before .before .args .kept .now) (c .before .before .before .before .before .before .before .before .before .before .before .before .before .before .before .before .before .before .before .before .before .pre .1 .1 .0 .0) (c .before .before .before .before .before .before .before .before .before .before .before .before .before .drop-stores .result) (mkDisk (c .before .before .before .before .before .before .before .before .before .before .before .before .before .before .before .before .before .before .before .before .before .args .image .now) (c .before .before .before .before .before .before .before .before .before .before .before .before .before .drop-stores .last .1 .0)) (c .before .before .before .before .before .before .before .before .before .before .before .before .before .drop-stores .ensures (c .before .before .before .before .before .before .before .before .before .before .before .before .before .before .before .before .before .before .before .before .before .args .image .now)) (c .before .before .before .before .before .before .before .before .before .before .if1 .left) (c .before .before .before .before .before .before .before .before .before .before .before .before .before .before .before .first-unsealed .result) (omega (arith, c .before .before .before .before .before .before .before .before .if2 .left)) (only (c .before .before .before .before .before .before .before .before .before .before .before .before .before .before .before .before .before .before .before .before .before .args .p) (ranged (c .before .before .before .before .before .before .before .before .before .before .before .before .before .before .before .before .before .before .before .before .before .args .p) (c .before .before .before .before .before .before .before .before .before .before .before .before .before .before .before .before .before .before .before .before .before .pre .0)) (c .before .before .before .before .before .before .before .before .before .before .before .before .before .before .before .before .before .before .before .before .before .args .count) (mkDisk (c .before .before .before .before .before .before .before .before .before .before .before .before .before .before .before .before .before .before .before .before .before .args .image .now) (c .before .before .before .before .before .before .before .before .before .before .before .before .before .before .before .before .before .before .before .before .before .args .pointers .now)) (c .before .before .before .before .before .before .before .before .before .before .before .before .before .before .before .before .before .before .before .before .before .pre .1 .0) (c .before .before .before .before .before .before .before .before .before .before .before .before .before .before .before .before .before .before .before .before .before .pre .1 .1 .1 .0) (c .before .before .before .before .before .before .before .before .before .before .before .before .before .before .before .before .before .before .before .before .before .args .kept .now) (c .before .before .before .before .before .before .before .before .before .before .before .before .before .before .before .before .before .before .before .before .before .pre .1 .1 .0 .0) (c .before .before .before .before .before .before .before .before .before .before .before .before .before .drop-stores .result) (mkDisk (c .before .before .before .before .before .before .before .before .before .before .before .before .before .before .before .before .before .before .before .before .before .args .image .now) (c .before .before .before .before .before .before .before .before .before .before .before .before .before .drop-stores .last .1 .0)) (c .before .before .before .before .before .before .before .before .before .before .before .before .before .drop-stores .ensures (c .before .before .before .before .before .before .before .before .before .before .before .before .before .before .before .before .before .before .before .before .before .args .image .now)) (c .before .before .before .before .before .before .before .before .before .before .if1 .left) (c .before .before .before .before .before .before .before .before .before .before .before .before .before .before .before .first-unsealed .result) (c .before .before .before .before .before .before .before .before .before .before .before .before .before .before .before .first-unsealed .ensures .1 (c .before .before .before .before .before .before .before .before .before .before .before .before .before .before .before .before .before .before .before .before .before .args .image .now) (c .before .before .before .before .before .before .before .before .before .before .before .before .before .before .before .before .before .before .before .before .before .pre .1 .0 .image-long) (c .before .before .before .before .before .before .before .before .before .before .before .before .before .before .before .before .before .before .before .before .before .pre .1 .1 .0 .0)) (omega (arith, c .before .before .before .before .before .before .before .before .if2 .left))) (sym ((c .before .before .before .before .before .before .before .before .before .before .before .before .before .before .before .before .before .before .before .before .before .pre .1 .1 .1 .1 (segmentOf (c .before .before .before .before .before .before .before .before .before .before .before .before .before .before .before .before .before .before .before .before .before .args .p) (seen (c .before .before .before .before .before .before .before .before .before .before .before .before .before .before .before .before .before .before .before .before .before .args .p) (mkDisk (c .before .before .before .before .before .before .before .before .before .before .before .before .before .before .before .before .before .before .before .before .before .args .image .now) (c .before .before .before .before .before .before .before .before .before .before .before .before .before .before .before .before .before .before .before .before .before .args .pointers .now))) 0 (c .before .before .before .before .before .before .before .before .before .before .before .before .before .before .before .first-unsealed .result)) ((only (c .before .before .before .before .before .before .before .before .before .before .before .before .before .before .before .before .before .before .before .before .before .args .p) (ranged (c .before .before .before .before .before .before .before .before .before .before .before .before .before .before .before .before .before .before .before .before .before .args .p) (c .before .before .before .before .before .before .before .before .before .before .before .before .before .before .before .before .before .before .before .before .before .pre .0)) (c .before .before .before .before .before .before .before .before .before .before .before .before .before .before .before .before .before .before .before .before .before .args .count) (mkDisk (c .before .before .before .before .before .before .before .before .before .before .before .before .before .before .before .before .before .before .before .before .before .args .image .now) (c .before .before .before .before .before .before .before .before .before .before .before .before .before .before .before .before .before .before .before .before .before .args .pointers .now)) (c .before .before .before .before .before .before .before .before .before .before .before .before .before .before .before .before .before .before .before .before .before .pre .1 .0) (c .before .before .before .before .before .before .before .before .before .before .before .before .before .before .before .before .before .before .before .before .before .pre .1 .1 .1 .0) (c .before .before .before .before .before .before .before .before .before .before .before .before .before .before .before .before .before .before .before .before .before .args .kept .now) (c .before .before .before .before .before .before .before .before .before .before .before .before .before .before .before .before .before .before .before .before .before .pre .1 .1 .0 .0) (c .before .before .before .before .before .before .before .before .before .before .before .before .before .drop-stores .result) (mkDisk (c .before .before .before .before .before .before .before .before .before .before .before .before .before .before .before .before .before .before .before .before .before .args .image .now) (c .before .before .before .before .before .before .before .before .before .before .before .before .before .drop-stores .last .1 .0)) (c .before .before .before .before .before .before .before .before .before .before .before .before .before .drop-stores .ensures (c .before .before .before .before .before .before .before .before .before .before .before .before .before .before .before .before .before .before .before .before .before .args .image .now)) (c .before .before .before .before .before .before .before .before .before .before .if1 .left) (c .before .before .before .before .before .before .before .before .before .before .before .before .before .before .before .first-unsealed .result) (c .before .before .before .before .before .before .before .before .before .before .before .before .before .before .before .first-unsealed .ensures .1 (c .before .before .before .before .before .before .before .before .before .before .before .before .before .before .before .before .before .before .before .before .before .args .image .now) (c .before .before .before .before .before .before .before .before .before .before .before .before .before .before .before .before .before .before .before .before .before .pre .1 .0 .image-long) (c .before .before .before .before .before .before .before .before .before .before .before .before .before .before .before .before .before .before .before .before .before .pre .1 .1 .0 .0)) (omega (arith, c .before .before .before .before .before .before .before .before .if2 .left))) .is-it)) .0) ∙ c .before .before .before .before .before .before .before .if3 .left) (sym ((c .before .before .before .before .before .before .before .before .before .before .before .before .before .before .before .before .before .before .before .before .before .pre .1 .1 .1 .1 (segmentOf (c .before .before .before .before .before .before .before .before .before .before .before .before .before .before .before .before .before .before .before .before .before .args .p) (seen (c .before .before .before .before .before .before .before .before .before .before .before .before .before .before .before .before .before .before .before .before .before .args .p) (mkDisk (c .before .before .before .before .before .before .before .before .before .before .before .before .before .before .before .before .before .before .before .before .before .args .image .now) (c .before .before .before .before .before .before .before .before .before .before .before .before .before .before .before .before .before .before .before .before .before .args .pointers .now))) 0 (c .before .before .before .before .before .before .before .before .before .before .before .before .before .before .before .first-unsealed .result)) ((only (c .before .before .before .before .before .before .before .before .before .before .before .before .before .before .before .before .before .before .before .before .before .args .p) (ranged (c .before .before .before .before .before .before .before .before .before .before .before .before .before .before .before .before .before .before .before .before .before .args .p) (c .before .before .before .before .before .before .before .before .before .before .before .before .before .before .before .before .before .before .before .before .before .pre .0)) (c .before .before .before .before .before .before .before .before .before .before .before .before .before .before .before .before .before .before .before .before .before .args .count) (mkDisk (c .before .before .before .before .before .before .before .before .before .before .before .before .before .before .before .before .before .before .before .before .before .args .image .now) (c .before .before .before .before .before .before .before .before .before .before .before .before .before .before .before .before .before .before .before .before .before .args .pointers .now)) (c .before .before .before .before .before .before .before .before .before .before .before .before .before .before .before .before .before .before .before .before .before .pre .1 .0) (c .before .before .before .before .before .before .before .before .before .before .before .before .before .before .before .before .before .before .before .before .before .pre .1 .1 .1 .0) (c .before .before .before .before .before .before .before .before .before .before .before .before .before .before .before .before .before .before .before .before .before .args .kept .now) (c .before .before .before .before .before .before .before .before .before .before .before .before .before .before .before .before .before .before .before .before .before .pre .1 .1 .0 .0) (c .before .before .before .before .before .before .before .before .before .before .before .before .before .drop-stores .result) (mkDisk (c .before .before .before .before .before .before .before .before .before .before .before .before .before .before .before .before .before .before .before .before .before .args .image .now) (c .before .before .before .before .before .before .before .before .before .before .before .before .before .drop-stores .last .1 .0)) (c .before .before .before .before .before .before .before .before .before .before .before .before .before .drop-stores .ensures (c .before .before .before .before .before .before .before .before .before .before .before .before .before .before .before .before .before .before .before .before .before .args .image .now)) (c .before .before .before .before .before .before .before .before .before .before .if1 .left) (c .before .before .before .before .before .before .before .before .before .before .before .before .before .before .before .first-unsealed .result) (c .before .before .before .before .before .before .before .before .before .before .before .before .before .before .before .first-unsealed .ensures .1 (c .before .before .before .before .before .before .before .before .before .before .before .before .before .before .before .before .before .before .before .before .before .args .image .now) (c .before .before .before .before .before .before .before .before .before .before .before .before .before .before .before .before .before .before .before .before .before .pre .1 .0 .image-long) (c .before .before .before .before .before .before .before .before .before .before .before .before .before .before .before .before .before .before .before .before .before .pre .1 .1 .0 .0)) (omega (arith, c .before .before .before .before .before .before .before .before .if2 .left))) .is-it)) .1) ∙ not-false (c .before .before .before .before .before .before .before .before .before .before .before .before .before .before .before .before .before .before .before .before .before .args .ragged) (c .before .before .before .before .before .before .if4 .left)) (c .before .before .before .before .before .lowest-free .result) (c .before .before .before .before .before .lowest-free .ensures .1 (seen (c .before .before .before .before .before .before .before .before .before .before .before .before .before .before .before .before .before .before .before .before .before .args .p) (mkDisk (c .before .before .before .before .before .before .before .before .before .before .before .before .before .before .before .before .before .before .before .before .before .args .image .now) (c .before .before .before .before .before .before .before .before .before .before .before .before .before .before .before .before .before .before .before .before .before .args .pointers .now))) 0 (c .before .before .before .before .before .before .before .before .before .before .before .before .before .before .before .before .before .before .before .before .before .pre .1 .1 .0 .0)), still-open (c .before .before .before .before .before .before .before .before .before .before .before .before .before .before .before .before .before .before .before .before .before .args .p) (ranged (c .before .before .before .before .before .before .before .before .before .before .before .before .before .before .before .before .before .before .before .before .before .args .p) (c .before .before .before .before .before .before .before .before .before .before .before .before .before .before .before .before .before .before .before .before .before .pre .0)) (c .before .before .before .before .before .before .before .before .before .before .before .before .before .before .before .before .before .before .before .before .before .args .count) (mkDisk (c .before .before .before .before .before .before .before .before .before .before .before .before .before .before .before .before .before .before .before .before .before .args .image .now) (c .before .before .before .before .before .before .before .before .before .before .before .before .before .before .before .before .before .before .before .before .before .args .pointers .now)) (c .before .before .before .before .before .before .before .before .before .before .before .before .before .before .before .before .before .before .before .before .before .pre .1 .0) (c .before .before .before .before .before .before .before .before .before .before .before .before .before .before .before .before .before .before .before .before .before .pre .1 .1 .1 .0) (c .before .before .before .before .before .before .before .before .before .before .before .before .before .before .before .before .before .before .before .before .before .args .kept .now) (c .before .before .before .before .before .before .before .before .before .before .before .before .before .before .before .before .before .before .before .before .before .pre .1 .1 .0 .0) (c .before .before .before .before .before .before .before .before .before .before .before .before .before .drop-stores .result) (mkDisk (c .before .before .before .before .before .before .before .before .before .before .before .before .before .before .before .before .before .before .before .before .before .args .image .now) (c .before .before .before .before .before .before .before .before .before .before .before .before .before .drop-stores .last .1 .0)) (c .before .before .before .before .before .before .before .before .before .before .before .before .before .drop-stores .ensures (c .before .before .before .before .before .before .before .before .before .before .before .before .before .before .before .before .before .before .before .before .before .args .image .now)) (c .before .before .before .before .before .before .before .before .before .before .if1 .left) (c .before .before .before .before .before .before .before .before .before .before .before .before .before .before .before .first-unsealed .result) (omega (arith, c .before .before .before .before .before .before .before .before .if2 .left)) (only (c .before .before .before .before .before .before .before .before .before .before .before .before .before .before .before .before .before .before .before .before .before .args .p) (ranged (c .before .before .before .before .before .before .before .before .before .before .before .before .before .before .before .before .before .before .before .before .before .args .p) (c .before .before .before .before .before .before .before .before .before .before .before .before .before .before .before .before .before .before .before .before .before .pre .0)) (c .before .before .before .before .before .before .before .before .before .before .before .before .before .before .before .before .before .before .before .before .before .args .count) (mkDisk (c .before .before .before .before .before .before .before .before .before .before .before .before .before .before .before .before .before .before .before .before .before .args .image .now) (c .before .before .before .before .before .before .before .before .before .before .before .before .before .before .before .before .before .before .before .before .before .args .pointers .now)) (c .before .before .before .before .before .before .before .before .before .before .before .before .before .before .before .before .before .before .before .before .before .pre .1 .0) (c .before .before .before .before .before .before .before .before .before .before .before .before .before .before .before .before .before .before .before .before .before .pre .1 .1 .1 .0) (c .before .before .before .before .before .before .before .before .before .before .before .before .before .before .before .before .before .before .before .before .before .args .kept .now) (c .before .before .before .before .before .before .before .before .before .before .before .before .before .before .before .before .before .before .before .before .before .pre .1 .1 .0 .0) (c .before .before .before .before .before .before .before .before .before .before .before .before .before .drop-stores .result) (mkDisk (c .before .before .before .before .before .before .before .before .before .before .before .before .before .before .before .before .before .before .before .before .before .args .image .now) (c .before .before .before .before .before .before .before .before .before .before .before .before .before .drop-stores .last .1 .0)) (c .before .before .before .before .before .before .before .before .before .before .before .before .before .drop-stores .ensures (c .before .before .before .before .before .before .before .before .before .before .before .before .before .before .before .before .before .before .before .before .before .args .image .now)) (c .before .before .before .before .before .before .before .before .before .before .if1 .left) (c .before .before .before .before .before .before .before .before .before .before .before .before .before .before .before .first-unsealed .result) (c .before .before .before .before .before .before .before .before .before .before .before .before .before .before .before .first-unsealed .ensures .1 (c .before .before .before .before .before .before .before .before .before .before .before .before .before .before .before .before .before .before .before .before .before .args .image .now) (c .before .before .before .before .before .before .before .before .before .before .before .before .before .before .before .before .before .before .before .before .before .pre .1 .0 .image-long) (c .before .before .before .before .before .before .before .before .before .before .before .before .before .before .before .before .before .before .before .before .before .pre .1 .1 .0 .0)) (omega (arith, c .before .before .before .before .before .before .before .before .if2 .left))) (sym ((c .before .before .before .before .before .before .before .before .before .before .before .before .before .before .before .before .before .before .before .before .before .pre .1 .1 .1 .1 (segmentOf (c .before .before .before .before .before .before .before .before .before .before .before .before .before .before .before .before .before .before .before .before .before .args .p) (seen (c .before .before .before .before .before .before .before .before .before .before .before .before .before .before .before .before .before .before .before .before .before .args .p) (mkDisk (c .before .before .before .before .before .before .before .before .before .before .before .before .before .before .before .before .before .before .before .before .before .args .image .now) (c .before .before .before .before .before .before .before .before .before .before .before .before .before .before .before .before .before .before .before .before .before .args .pointers .now))) 0 (c .before .before .before .before .before .before .before .before .before .before .before .before .before .before .before .first-unsealed .result)) ((only (c .before .before .before .before .before .before .before .before .before .before .before .before .before .before .before .before .before .before .before .before .before .args .p) (ranged (c .before .before .before .before .before .before .before .before .before .before .before .before .before .before .before .before .before .before .before .before .before .args .p) (c .before .before .before .before .before .before .before .before .before .before .before .before .before .before .before .before .before .before .before .before .before .pre .0)) (c .before .before .before .before .before .before .before .before .before .before .before .before .before .before .before .before .before .before .before .before .before .args .count) (mkDisk (c .before .before .before .before .before .before .before .before .before .before .before .before .before .before .before .before .before .before .before .before .before .args .image .now) (c .before .before .before .before .before .before .before .before .before .before .before .before .before .before .before .before .before .before .before .before .before .args .pointers .now)) (c .before .before .before .before .before .before .before .before .before .before .before .before .before .before .before .before .before .before .before .before .before .pre .1 .0) (c .before .before .before .before .before .before .before .before .before .before .before .before .before .before .before .before .before .before .before .before .before .pre .1 .1 .1 .0) (c .before .before .before .before .before .before .before .before .before .before .before .before .before .before .before .before .before .before .before .before .before .args .kept .now) (c .before .before .before .before .before .before .before .before .before .before .before .before .before .before .before .before .before .before .before .before .before .pre .1 .1 .0 .0) (c .before .before .before .before .before .before .before .before .before .before .before .before .before .drop-stores .result) (mkDisk (c .before .before .before .before .before .before .before .before .before .before .before .before .before .before .before .before .before .before .before .before .before .args .image .now) (c .before .before .before .before .before .before .before .before .before .before .before .before .before .drop-stores .last .1 .0)) (c .before .before .before .before .before .before .before .before .before .before .before .before .before .drop-stores .ensures (c .before .before .before .before .before .before .before .before .before .before .before .before .before .before .before .before .before .before .before .before .before .args .image .now)) (c .before .before .before .before .before .before .before .before .before .before .if1 .left) (c .before .before .before .before .before .before .before .before .before .before .before .before .before .before .before .first-unsealed .result) (c .before .before .before .before .before .before .before .before .before .before .before .before .before .before .before .first-unsealed .ensures .1 (c .before .before .before .before .before .before .before .before .before .before .before .before .before .before .before .before .before .before .before .before .before .args .image .now) (c .before .before .before .before .before .before .before .before .before .before .before .before .before .before .before .before .before .before .before .before .before .pre .1 .0 .image-long) (c .before .before .before .before .before .before .before .before .before .before .before .before .before .before .before .before .before .before .before .before .before .pre .1 .1 .0 .0)) (omega (arith, c .before .before .before .before .before .before .before .before .if2 .left))) .is-it)) .0) ∙ c .before .before .before .before .before .before .before .if3 .left) (sym ((c .before .before .before .before .before .before .before .before .before .before .before .before .before .before .before .before .before .before .before .before .before .pre .1 .1 .1 .1 (segmentOf (c .before .before .before .before .before .before .before .before .before .before .before .before .before .before .before .before .before .before .before .before .before .args .p) (seen (c .before .before .before .before .before .before .before .before .before .before .before .before .before .before .before .before .before .before .before .before .before .args .p) (mkDisk (c .before .before .before .before .before .before .before .before .before .before .before .before .before .before .before .before .before .before .before .before .before .args .image .now) (c .before .before .before .before .before .before .before .before .before .before .before .before .before .before .before .before .before .before .before .before .before .args .pointers .now))) 0 (c .before .before .before .before .before .before .before .before .before .before .before .before .before .before .before .first-unsealed .result)) ((only (c .before .before .before .before .before .before .before .before .before .before .before .before .before .before .before .before .before .before .before .before .before .args .p) (ranged (c .before .before .before .before .before .before .before .before .before .before .before .before .before .before .before .before .before .before .before .before .before .args .p) (c .before .before .before .before .before .before .before .before .before .before .before .before .before .before .before .before .before .before .before .before .before .pre .0)) (c .before .before .before .before .before .before .before .before .before .before .before .before .before .before .before .before .before .before .before .before .before .args .count) (mkDisk (c .before .before .before .before .before .before .before .before .before .before .before .before .before .before .before .before .before .before .before .before .before .args .image .now) (c .before .before .before .before .before .before .before .before .before .before .before .before .before .before .before .before .before .before .before .before .before .args .pointers .now)) (c .before .before .before .before .before .before .before .before .before .before .before .before .before .before .before .before .before .before .before .before .before .pre .1 .0) (c .before .before .before .before .before .before .before .before .before .before .before .before .before .before .before .before .before .before .before .before .before .pre .1 .1 .1 .0) (c .before .before .before .before .before .before .before .before .before .before .before .before .before .before .before .before .before .before .before .before .before .args .kept .now) (c .before .before .before .before .before .before .before .before .before .before .before .before .before .before .before .before .before .before .before .before .before .pre .1 .1 .0 .0) (c .before .before .before .before .before .before .before .before .before .before .before .before .before .drop-stores .result) (mkDisk (c .before .before .before .before .before .before .before .before .before .before .before .before .before .before .before .before .before .before .before .before .before .args .image .now) (c .before .before .before .before .before .before .before .before .before .before .before .before .before .drop-stores .last .1 .0)) (c .before .before .before .before .before .before .before .before .before .before .before .before .before .drop-stores .ensures (c .before .before .before .before .before .before .before .before .before .before .before .before .before .before .before .before .before .before .before .before .before .args .image .now)) (c .before .before .before .before .before .before .before .before .before .before .if1 .left) (c .before .before .before .before .before .before .before .before .before .before .before .before .before .before .before .first-unsealed .result) (c .before .before .before .before .before .before .before .before .before .before .before .before .before .before .before .first-unsealed .ensures .1 (c .before .before .before .before .before .before .before .before .before .before .before .before .before .before .before .before .before .before .before .before .before .args .image .now) (c .before .before .before .before .before .before .before .before .before .before .before .before .before .before .before .before .before .before .before .before .before .pre .1 .0 .image-long) (c .before .before .before .before .before .before .before .before .before .before .before .before .before .before .before .before .before .before .before .before .before .pre .1 .1 .0 .0)) (omega (arith, c .before .before .before .before .before .before .before .before .if2 .left))) .is-it)) .1) ∙ not-false (c .before .before .before .before .before .before .before .before .before .before .before .before .before .before .before .before .before .before .before .before .before .args .ragged) (c .before .before .before .before .before .before .if4 .left)) (c .before .before .before .before .before .lowest-free .result) (c .before .before .before .before .before .lowest-free .ensures .1 (seen (c .before .before .before .before .before .before .before .before .before .before .before .before .before .before .before .before .before .before .before .before .before .args .p) (mkDisk (c .before .before .before .before .before .before .before .before .before .before .before .before .before .before .before .before .before .before .before .before .before .args .image .now) (c .before .before .before .before .before .before .before .before .before .before .before .before .before .before .before .before .before .before .before .before .before .args .pointers .now))) 0 (c .before .before .before .before .before .before .before .before .before .before .before .before .before .before .before .before .before .before .before .before .before .pre .1 .1 .0 .0)), still-good (c .before .before .before .before .before .before .before .before .before .before .before .before .before .before .before .before .before .before .before .before .before .args .p) (ranged (c .before .before .before .before .before .before .before .before .before .before .before .before .before .before .before .before .before .before .before .before .before .args .p) (c .before .before .before .before .before .before .before .before .before .before .before .before .before .before .before .before .before .before .before .before .before .pre .0)) (c .before .before .before .before .before .before .before .before .before .before .before .before .before .before .before .before .before .before .before .before .before .args .count) (mkDisk (c .before .before .before .before .before .before .before .before .before .before .before .before .before .before .before .before .before .before .before .before .before .args .image .now) (c .before .before .before .before .before .before .before .before .before .before .before .before .before .before .before .before .before .before .before .before .before .args .pointers .now)) (c .before .before .before .before .before .before .before .before .before .before .before .before .before .before .before .before .before .before .before .before .before .pre .1 .0) (c .before .before .before .before .before .before .before .before .before .before .before .before .before .before .before .before .before .before .before .before .before .pre .1 .1 .1 .0) (c .before .before .before .before .before .before .before .before .before .before .before .before .before .before .before .before .before .before .before .before .before .args .kept .now) (c .before .before .before .before .before .before .before .before .before .before .before .before .before .before .before .before .before .before .before .before .before .pre .1 .1 .0 .0) (c .before .before .before .before .before .before .before .before .before .before .before .before .before .drop-stores .result) (mkDisk (c .before .before .before .before .before .before .before .before .before .before .before .before .before .before .before .before .before .before .before .before .before .args .image .now) (c .before .before .before .before .before .before .before .before .before .before .before .before .before .drop-stores .last .1 .0)) (c .before .before .before .before .before .before .before .before .before .before .before .before .before .drop-stores .ensures (c .before .before .before .before .before .before .before .before .before .before .before .before .before .before .before .before .before .before .before .before .before .args .image .now)) (c .before .before .before .before .before .before .before .before .before .before .if1 .left) (c .before .before .before .before .before .before .before .before .before .before .before .before .before .before .before .first-unsealed .result) (omega (arith, c .before .before .before .before .before .before .before .before .if2 .left)) (only (c .before .before .before .before .before .before .before .before .before .before .before .before .before .before .before .before .before .before .before .before .before .args .p) (ranged (c .before .before .before .before .before .before .before .before .before .before .before .before .before .before .before .before .before .before .before .before .before .args .p) (c .before .before .before .before .before .before .before .before .before .before .before .before .before .before .before .before .before .before .before .before .before .pre .0)) (c .before .before .before .before .before .before .before .before .before .before .before .before .before .before .before .before .before .before .before .before .before .args .count) (mkDisk (c .before .before .before .before .before .before .before .before .before .before .before .before .before .before .before .before .before .before .before .before .before .args .image .now) (c .before .before .before .before .before .before .before .before .before .before .before .before .before .before .before .before .before .before .before .before .before .args .pointers .now)) (c .before .before .before .before .before .before .before .before .before .before .before .before .before .before .before .before .before .before .before .before .before .pre .1 .0) (c .before .before .before .before .before .before .before .before .before .before .before .before .before .before .before .before .before .before .before .before .before .pre .1 .1 .1 .0) (c .before .before .before .before .before .before .before .before .before .before .before .before .before .before .before .before .before .before .before .before .before .args .kept .now) (c .before .before .before .before .before .before .before .before .before .before .before .before .before .before .before .before .before .before .before .before .before .pre .1 .1 .0 .0) (c .before .before .before .before .before .before .before .before .before .before .before .before .before .drop-stores .result) (mkDisk (c .before .before .before .before .before .before .before .before .before .before .before .before .before .before .before .before .before .before .before .before .before .args .image .now) (c .before .before .before .before .before .before .before .before .before .before .before .before .before .drop-stores .last .1 .0)) (c .before .before .before .before .before .before .before .before .before .before .before .before .before .drop-stores .ensures (c .before .before .before .before .before .before .before .before .before .before .before .before .before .before .before .before .before .before .before .before .before .args .image .now)) (c .before .before .before .before .before .before .before .before .before .before .if1 .left) (c .before .before .before .before .before .before .before .before .before .before .before .before .before .before .before .first-unsealed .result) (c .before .before .before .before .before .before .before .before .before .before .before .before .before .before .before .first-unsealed .ensures .1 (c .before .before .before .before .before .before .before .before .before .before .before .before .before .before .before .before .before .before .before .before .before .args .image .now) (c .before .before .before .before .before .before .before .before .before .before .before .before .before .before .before .before .before .before .before .before .before .pre .1 .0 .image-long) (c .before .before .before .before .before .before .before .before .before .before .before .before .before .before .before .before .before .before .before .before .before .pre .1 .1 .0 .0)) (omega (arith, c .before .before .before .before .before .before .before .before .if2 .left))) (sym ((c .before .before .before .before .before .before .before .before .before .before .before .before .before .before .before .before .before .before .before .before .before .pre .1 .1 .1 .1 (segmentOf (c .before .before .before .before .before .before .before .before .before .before .before .before .before .before .before .before .before .before .before .before .before .args .p) (seen (c .before .before .before .before .before .before .before .before .before .before .before .before .before .before .before .before .before .before .before .before .before .args .p) (mkDisk (c .before .before .before .before .before .before .before .before .before .before .before .before .before .before .before .before .before .before .before .before .before .args .image .now) (c .before .before .before .before .before .before .before .before .before .before .before .before .before .before .before .before .before .before .before .before .before .args .pointers .now))) 0 (c .before .before .before .before .before .before .before .before .before .before .before .before .before .before .before .first-unsealed .result)) ((only (c .before .before .before .before .before .before .before .before .before .before .before .before .before .before .before .before .before .before .before .before .before .args .p) (ranged (c .before .before .before .before .before .before .before .before .before .before .before .before .before .before .before .before .before .before .before .before .before .args .p) (c .before .before .before .before .before .before .before .before .before .before .before .before .before .before .before .before .before .before .before .before .before .pre .0)) (c .before .before .before .before .before .before .before .before .before .before .before .before .before .before .before .before .before .before .before .before .before .args .count) (mkDisk (c .before .before .before .before .before .before .before .before .before .before .before .before .before .before .before .before .before .before .before .before .before .args .image .now) (c .before .before .before .before .before .before .before .before .before .before .before .before .before .before .before .before .before .before .before .before .before .args .pointers .now)) (c .before .before .before .before .before .before .before .before .before .before .before .before .before .before .before .before .before .before .before .before .before .pre .1 .0) (c .before .before .before .before .before .before .before .before .before .before .before .before .before .before .before .before .before .before .before .before .before .pre .1 .1 .1 .0) (c .before .before .before .before .before .before .before .before .before .before .before .before .before .before .before .before .before .before .before .before .before .args .kept .now) (c .before .before .before .before .before .before .before .before .before .before .before .before .before .before .before .before .before .before .before .before .before .pre .1 .1 .0 .0) (c .before .before .before .before .before .before .before .before .before .before .before .before .before .drop-stores .result) (mkDisk (c .before .before .before .before .before .before .before .before .before .before .before .before .before .before .before .before .before .before .before .before .before .args .image .now) (c .before .before .before .before .before .before .before .before .before .before .before .before .before .drop-stores .last .1 .0)) (c .before .before .before .before .before .before .before .before .before .before .before .before .before .drop-stores .ensures (c .before .before .before .before .before .before .before .before .before .before .before .before .before .before .before .before .before .before .before .before .before .args .image .now)) (c .before .before .before .before .before .before .before .before .before .before .if1 .left) (c .before .before .before .before .before .before .before .before .before .before .before .before .before .before .before .first-unsealed .result) (c .before .before .before .before .before .before .before .before .before .before .before .before .before .before .before .first-unsealed .ensures .1 (c .before .before .before .before .before .before .before .before .before .before .before .before .before .before .before .before .before .before .before .before .before .args .image .now) (c .before .before .before .before .before .before .before .before .before .before .before .before .before .before .before .before .before .before .before .before .before .pre .1 .0 .image-long) (c .before .before .before .before .before .before .before .before .before .before .before .before .before .before .before .before .before .before .before .before .before .pre .1 .1 .0 .0)) (omega (arith, c .before .before .before .before .before .before .before .before .if2 .left))) .is-it)) .0) ∙ c .before .before .before .before .before .before .before .if3 .left) (sym ((c .before .before .before .before .before .before .before .before .before .before .before .before .before .before .before .before .before .before .before .before .before .pre .1 .1 .1 .1 (segmentOf (c .before .before .before .before .before .before .before .before .before .before .before .before .before .before .before .before .before .before .before .before .before .args .p) (seen (c .before .before .before .before .before .before .before .before .before .before .before .before .before .before .before .before .before .before .before .before .before .args .p) (mkDisk (c .before .before .before .before .before .before .before .before .before .before .before .before .before .before .before .before .before .before .before .before .before .args .image .now) (c .before .before .before .before .before .before .before .before .before .before .before .before .before .before .before .before .before .before .before .before .before .args .pointers .now))) 0 (c .before .before .before .before .before .before .before .before .before .before .before .before .before .before .before .first-unsealed .result)) ((only (c .before .before .before .before .before .before .before .before .before .before .before .before .before .before .before .before .before .before .before .before .before .args .p) (ranged (c .before .before .before .before .before .before .before .before .before .before .before .before .before .before .before .before .before .before .before .before .before .args .p) (c .before .before .before .before .before .before .before .before .before .before .before .before .before .before .before .before .before .before .before .before .before .pre .0)) (c .before .before .before .before .before .before .before .before .before .before .before .before .before .before .before .before .before .before .before .before .before .args .count) (mkDisk (c .before .before .before .before .before .before .before .before .before .before .before .before .before .before .before .before .before .before .before .before .before .args .image .now) (c .before .before .before .before .before .before .before .before .before .before .before .before .before .before .before .before .before .before .before .before .before .args .pointers .now)) (c .before .before .before .before .before .before .before .before .before .before .before .before .before .before .before .before .before .before .before .before .before .pre .1 .0) (c .before .before .before .before .before .before .before .before .before .before .before .before .before .before .before .before .before .before .before .before .before .pre .1 .1 .1 .0) (c .before .before .before .before .before .before .before .before .before .before .before .before .before .before .before .before .before .before .before .before .before .args .kept .now) (c .before .before .before .before .before .before .before .before .before .before .before .before .before .before .before .before .before .before .before .before .before .pre .1 .1 .0 .0) (c .before .before .before .before .before .before .before .before .before .before .before .before .before .drop-stores .result) (mkDisk (c .before .before .before .before .before .before .before .before .before .before .before .before .before .before .before .before .before .before .before .before .before .args .image .now) (c .before .before .before .before .before .before .before .before .before .before .before .before .before .drop-stores .last .1 .0)) (c .before .before .before .before .before .before .before .before .before .before .before .before .before .drop-stores .ensures (c .before .before .before .before .before .before .before .before .before .before .before .before .before .before .before .before .before .before .before .before .before .args .image .now)) (c .before .before .before .before .before .before .before .before .before .before .if1 .left) (c .before .before .before .before .before .before .before .before .before .before .before .before .before .before .before .first-unsealed .result) (c .before .before .before .before .before .before .before .before .before .before .before .before .before .before .before .first-unsealed .ensures .1 (c .before .before .before .before .before .before .before .before .before .before .before .before .before .before .before .before .before .before .before .before .before .args .image .now) (c .before .before .before .before .before .before .before .before .before .before .before .before .before .before .before .before .before .before .before .before .before .pre .1 .0 .image-long) (c .before .before .before .before .before .before .before .before .before .before .before .before .before .before .before .before .before .before .before .before .before .pre .1 .1 .0 .0)) (omega (arith, c .before .before .before .before .before .before .before .before .if2 .left))) .is-it)) .1) ∙ not-false (c .before .before .before .before .before .before .before .before .before .before .before .before .before .before .before .before .before .before .before .before .before .args .ragged) (c .before .before .before .before .before .before .if4 .left)) (c .before .before .before .before .before .lowest-free .result) (c .before .before .before .before .before .lowest-free .ensures .1 (seen (c .before .before .before .before .before .before .before .before .before .before .before .before .before .before .before .before .before .before .before .before .before .args .p) (mkDisk (c .before .before .before .before .before .before .before .before .before .before .before .before .before .before .before .before .before .before .before .before .before .args .image .now) (c .before .before .before .before .before .before .before .before .before .before .before .before .before .before .before .before .before .before .before .before .before .args .pointers .now))) 0 (c .before .before .before .before .before .before .before .before .before .before .before .before .before .before .before .before .before .before .before .before .before .pre .1 .1 .0 .0)), to-apart (c .before .before .before .before .before .before .before .before .before .before .before .before .before .before .before .before .before .before .before .before .before .args .p) (ranged (c .before .before .before .before .before .before .before .before .before .before .before .before .before .before .before .before .before .before .before .before .before .args .p) (c .before .before .before .before .before .before .before .before .before .before .before .before .before .before .before .before .before .before .before .before .before .pre .0)) (c .before .before .before .before .before .before .before .before .before .before .before .before .before .before .before .before .before .before .before .before .before .args .count) (mkDisk (c .before .before .before .before .before .before .before .before .before .before .before .before .before .before .before .before .before .before .before .before .before .args .image .now) (c .before .before .before .before .before .before .before .before .before .before .before .before .before .before .before .before .before .before .before .before .before .args .pointers .now)) (c .before .before .before .before .before .before .before .before .before .before .before .before .before .before .before .before .before .before .before .before .before .pre .1 .0) (c .before .before .before .before .before .before .before .before .before .before .before .before .before .before .before .before .before .before .before .before .before .pre .1 .1 .1 .0) (c .before .before .before .before .before .before .before .before .before .before .before .before .before .before .before .before .before .before .before .before .before .args .kept .now) (c .before .before .before .before .before .before .before .before .before .before .before .before .before .before .before .before .before .before .before .before .before .pre .1 .1 .0 .0) (c .before .before .before .before .before .before .before .before .before .before .before .before .before .drop-stores .result) (mkDisk (c .before .before .before .before .before .before .before .before .before .before .before .before .before .before .before .before .before .before .before .before .before .args .image .now) (c .before .before .before .before .before .before .before .before .before .before .before .before .before .drop-stores .last .1 .0)) (c .before .before .before .before .before .before .before .before .before .before .before .before .before .drop-stores .ensures (c .before .before .before .before .before .before .before .before .before .before .before .before .before .before .before .before .before .before .before .before .before .args .image .now)) (c .before .before .before .before .before .before .before .before .before .before .if1 .left) (c .before .before .before .before .before .before .before .before .before .before .before .before .before .before .before .first-unsealed .result) (omega (arith, c .before .before .before .before .before .before .before .before .if2 .left)) (only (c .before .before .before .before .before .before .before .before .before .before .before .before .before .before .before .before .before .before .before .before .before .args .p) (ranged (c .before .before .before .before .before .before .before .before .before .before .before .before .before .before .before .before .before .before .before .before .before .args .p) (c .before .before .before .before .before .before .before .before .before .before .before .before .before .before .before .before .before .before .before .before .before .pre .0)) (c .before .before .before .before .before .before .before .before .before .before .before .before .before .before .before .before .before .before .before .before .before .args .count) (mkDisk (c .before .before .before .before .before .before .before .before .before .before .before .before .before .before .before .before .before .before .before .before .before .args .image .now) (c .before .before .before .before .before .before .before .before .before .before .before .before .before .before .before .before .before .before .before .before .before .args .pointers .now)) (c .before .before .before .before .before .before .before .before .before .before .before .before .before .before .before .before .before .before .before .before .before .pre .1 .0) (c .before .before .before .before .before .before .before .before .before .before .before .before .before .before .before .before .before .before .before .before .before .pre .1 .1 .1 .0) (c .before .before .before .before .before .before .before .before .before .before .before .before .before .before .before .before .before .before .before .before .before .args .kept .now) (c .before .before .before .before .before .before .before .before .before .before .before .before .before .before .before .before .before .before .before .before .before .pre .1 .1 .0 .0) (c .before .before .before .before .before .before .before .before .before .before .before .before .before .drop-stores .result) (mkDisk (c .before .before .before .before .before .before .before .before .before .before .before .before .before .before .before .before .before .before .before .before .before .args .image .now) (c .before .before .before .before .before .before .before .before .before .before .before .before .before .drop-stores .last .1 .0)) (c .before .before .before .before .before .before .before .before .before .before .before .before .before .drop-stores .ensures (c .before .before .before .before .before .before .before .before .before .before .before .before .before .before .before .before .before .before .before .before .before .args .image .now)) (c .before .before .before .before .before .before .before .before .before .before .if1 .left) (c .before .before .before .before .before .before .before .before .before .before .before .before .before .before .before .first-unsealed .result) (c .before .before .before .before .before .before .before .before .before .before .before .before .before .before .before .first-unsealed .ensures .1 (c .before .before .before .before .before .before .before .before .before .before .before .before .before .before .before .before .before .before .before .before .before .args .image .now) (c .before .before .before .before .before .before .before .before .before .before .before .before .before .before .before .before .before .before .before .before .before .pre .1 .0 .image-long) (c .before .before .before .before .before .before .before .before .before .before .before .before .before .before .before .before .before .before .before .before .before .pre .1 .1 .0 .0)) (omega (arith, c .before .before .before .before .before .before .before .before .if2 .left))) (sym ((c .before .before .before .before .before .before .before .before .before .before .before .before .before .before .before .before .before .before .before .before .before .pre .1 .1 .1 .1 (segmentOf (c .before .before .before .before .before .before .before .before .before .before .before .before .before .before .before .before .before .before .before .before .before .args .p) (seen (c .before .before .before .before .before .before .before .before .before .before .before .before .before .before .before .before .before .before .before .before .before .args .p) (mkDisk (c .before .before .before .before .before .before .before .before .before .before .before .before .before .before .before .before .before .before .before .before .before .args .image .now) (c .before .before .before .before .before .before .before .before .before .before .before .before .before .before .before .before .before .before .before .before .before .args .pointers .now))) 0 (c .before .before .before .before .before .before .before .before .before .before .before .before .before .before .before .first-unsealed .result)) ((only (c .before .before .before .before .before .before .before .before .before .before .before .before .before .before .before .before .before .before .before .before .before .args .p) (ranged (c .before .before .before .before .before .before .before .before .before .before .before .before .before .before .before .before .before .before .before .before .before .args .p) (c .before .before .before .before .before .before .before .before .before .before .before .before .before .before .before .before .before .before .before .before .before .pre .0)) (c .before .before .before .before .before .before .before .before .before .before .before .before .before .before .before .before .before .before .before .before .before .args .count) (mkDisk (c .before .before .before .before .before .before .before .before .before .before .before .before .before .before .before .before .before .before .before .before .before .args .image .now) (c .before .before .before .before .before .before .before .before .before .before .before .before .before .before .before .before .before .before .before .before .before .args .pointers .now)) (c .before .before .before .before .before .before .before .before .before .before .before .before .before .before .before .before .before .before .before .before .before .pre .1 .0) (c .before .before .before .before .before .before .before .before .before .before .before .before .before .before .before .before .before .before .before .before .before .pre .1 .1 .1 .0) (c .before .before .before .before .before .before .before .before .before .before .before .before .before .before .before .before .before .before .before .before .before .args .kept .now) (c .before .before .before .before .before .before .before .before .before .before .before .before .before .before .before .before .before .before .before .before .before .pre .1 .1 .0 .0) (c .before .before .before .before .before .before .before .before .before .before .before .before .before .drop-stores .result) (mkDisk (c .before .before .before .before .before .before .before .before .before .before .before .before .before .before .before .before .before .before .before .before .before .args .image .now) (c .before .before .before .before .before .before .before .before .before .before .before .before .before .drop-stores .last .1 .0)) (c .before .before .before .before .before .before .before .before .before .before .before .before .before .drop-stores .ensures (c .before .before .before .before .before .before .before .before .before .before .before .before .before .before .before .before .before .before .before .before .before .args .image .now)) (c .before .before .before .before .before .before .before .before .before .before .if1 .left) (c .before .before .before .before .before .before .before .before .before .before .before .before .before .before .before .first-unsealed .result) (c .before .before .before .before .before .before .before .before .before .before .before .before .before .before .before .first-unsealed .ensures .1 (c .before .before .before .before .before .before .before .before .before .before .before .before .before .before .before .before .before .before .before .before .before .args .image .now) (c .before .before .before .before .before .before .before .before .before .before .before .before .before .before .before .before .before .before .before .before .before .pre .1 .0 .image-long) (c .before .before .before .before .before .before .before .before .before .before .before .before .before .before .before .before .before .before .before .before .before .pre .1 .1 .0 .0)) (omega (arith, c .before .before .before .before .before .before .before .before .if2 .left))) .is-it)) .0) ∙ c .before .before .before .before .before .before .before .if3 .left) (sym ((c .before .before .before .before .before .before .before .before .before .before .before .before .before .before .before .before .before .before .before .before .before .pre .1 .1 .1 .1 (segmentOf (c .before .before .before .before .before .before .before .before .before .before .before .before .before .before .before .before .before .before .before .before .before .args .p) (seen (c .before .before .before .before .before .before .before .before .before .before .before .before .before .before .before .before .before .before .before .before .before .args .p) (mkDisk (c .before .before .before .before .before .before .before .before .before .before .before .before .before .before .before .before .before .before .before .before .before .args .image .now) (c .before .before .before .before .before .before .before .before .before .before .before .before .before .before .before .before .before .before .before .before .before .args .pointers .now))) 0 (c .before .before .before .before .before .before .before .before .before .before .before .before .before .before .before .first-unsealed .result)) ((only (c .before .before .before .before .before .before .before .before .before .before .before .before .before .before .before .before .before .before .before .before .before .args .p) (ranged (c .before .before .before .before .before .before .before .before .before .before .before .before .before .before .before .before .before .before .before .before .before .args .p) (c .before .before .before .before .before .before .before .before .before .before .before .before .before .before .before .before .before .before .before .before .before .pre .0)) (c .before .before .before .before .before .before .before .before .before .before .before .before .before .before .before .before .before .before .before .before .before .args .count) (mkDisk (c .before .before .before .before .before .before .before .before .before .before .before .before .before .before .before .before .before .before .before .before .before .args .image .now) (c .before .before .before .before .before .before .before .before .before .before .before .before .before .before .before .before .before .before .before .before .before .args .pointers .now)) (c .before .before .before .before .before .before .before .before .before .before .before .before .before .before .before .before .before .before .before .before .before .pre .1 .0) (c .before .before .before .before .before .before .before .before .before .before .before .before .before .before .before .before .before .before .before .before .before .pre .1 .1 .1 .0) (c .before .before .before .before .before .before .before .before .before .before .before .before .before .before .before .before .before .before .before .before .before .args .kept .now) (c .before .before .before .before .before .before .before .before .before .before .before .before .before .before .before .before .before .before .before .before .before .pre .1 .1 .0 .0) (c .before .before .before .before .before .before .before .before .before .before .before .before .before .drop-stores .result) (mkDisk (c .before .before .before .before .before .before .before .before .before .before .before .before .before .before .before .before .before .before .before .before .before .args .image .now) (c .before .before .before .before .before .before .before .before .before .before .before .before .before .drop-stores .last .1 .0)) (c .before .before .before .before .before .before .before .before .before .before .before .before .before .drop-stores .ensures (c .before .before .before .before .before .before .before .before .before .before .before .before .before .before .before .before .before .before .before .before .before .args .image .now)) (c .before .before .before .before .before .before .before .before .before .before .if1 .left) (c .before .before .before .before .before .before .before .before .before .before .before .before .before .before .before .first-unsealed .result) (c .before .before .before .before .before .before .before .before .before .before .before .before .before .before .before .first-unsealed .ensures .1 (c .before .before .before .before .before .before .before .before .before .before .before .before .before .before .before .before .before .before .before .before .before .args .image .now) (c .before .before .before .before .before .before .before .before .before .before .before .before .before .before .before .before .before .before .before .before .before .pre .1 .0 .image-long) (c .before .before .before .before .before .before .before .before .before .before .before .before .before .before .before .before .before .before .before .before .before .pre .1 .1 .0 .0)) (omega (arith, c .before .before .before .before .before .before .before .before .if2 .left))) .is-it)) .1) ∙ not-false (c .before .before .before .before .before .before .before .before .before .before .before .before .before .before .before .before .before .before .before .before .before .args .ragged) (c .before .before .before .before .before .before .if4 .left)) (c .before .before .before .before .before .lowest-free .result) (c .before .before .before .before .before .lowest-free .ensures .1 (seen (c .before .before .before .before .before .before .before .before .before .before .before .before .before .before .before .before .before .before .before .before .before .args .p) (mkDisk (c .before .before .before .before .before .before .before .before .before .before .before .before .before .before .before .before .before .before .before .before .before .args .image .now) (c .before .before .before .before .before .before .before .before .before .before .before .before .before .before .before .before .before .before .before .before .before .args .pointers .now))) 0 (c .before .before .before .before .before .before .before .before .before .before .before .before .before .before .before .before .before .before .before .before .before .pre .1 .1 .0 .0))), ((old-serial (c .before .before .before .before .before .before .before .before .before .before .before .before .before .before .before .before .before .before .before .before .before .args .p) (ranged (c .before .before .before .before .before .before .before .before .before .before .before .before .before .before .before .before .before .before .before .before .before .args .p) (c .before .before .before .before .before .before .before .before .before .before .before .before .before .before .before .before .before .before .before .before .before .pre .0)) (c .before .before .before .before .before .before .before .before .before .before .before .before .before .before .before .before .before .before .before .before .before .args .count) (mkDisk (c .before .before .before .before .before .before .before .before .before .before .before .before .before .before .before .before .before .before .before .before .before .args .image .now) (c .before .before .before .before .before .before .before .before .before .before .before .before .before .before .before .before .before .before .before .before .before .args .pointers .now)) (c .before .before .before .before .before .before .before .before .before .before .before .before .before .before .before .before .before .before .before .before .before .pre .1 .0) (c .before .before .before .before .before .before .before .before .before .before .before .before .before .before .before .before .before .before .before .before .before .pre .1 .1 .1 .0) (c .before .before .before .before .before .before .before .before .before .before .before .before .before .before .before .before .before .before .before .before .before .args .kept .now) (c .before .before .before .before .before .before .before .before .before .before .before .before .before .before .before .before .before .before .before .before .before .pre .1 .1 .0 .0) (c .before .before .before .before .before .before .before .before .before .before .before .before .before .drop-stores .result) (mkDisk (c .before .before .before .before .before .before .before .before .before .before .before .before .before .before .before .before .before .before .before .before .before .args .image .now) (c .before .before .before .before .before .before .before .before .before .before .before .before .before .drop-stores .last .1 .0)) (c .before .before .before .before .before .before .before .before .before .before .before .before .before .drop-stores .ensures (c .before .before .before .before .before .before .before .before .before .before .before .before .before .before .before .before .before .before .before .before .before .args .image .now)) (c .before .before .before .before .before .before .before .before .before .before .if1 .left) (c .before .before .before .before .before .before .before .before .before .before .before .before .before .before .before .first-unsealed .result) (omega (arith, c .before .before .before .before .before .before .before .before .if2 .left)) (only (c .before .before .before .before .before .before .before .before .before .before .before .before .before .before .before .before .before .before .before .before .before .args .p) (ranged (c .before .before .before .before .before .before .before .before .before .before .before .before .before .before .before .before .before .before .before .before .before .args .p) (c .before .before .before .before .before .before .before .before .before .before .before .before .before .before .before .before .before .before .before .before .before .pre .0)) (c .before .before .before .before .before .before .before .before .before .before .before .before .before .before .before .before .before .before .before .before .before .args .count) (mkDisk (c .before .before .before .before .before .before .before .before .before .before .before .before .before .before .before .before .before .before .before .before .before .args .image .now) (c .before .before .before .before .before .before .before .before .before .before .before .before .before .before .before .before .before .before .before .before .before .args .pointers .now)) (c .before .before .before .before .before .before .before .before .before .before .before .before .before .before .before .before .before .before .before .before .before .pre .1 .0) (c .before .before .before .before .before .before .before .before .before .before .before .before .before .before .before .before .before .before .before .before .before .pre .1 .1 .1 .0) (c .before .before .before .before .before .before .before .before .before .before .before .before .before .before .before .before .before .before .before .before .before .args .kept .now) (c .before .before .before .before .before .before .before .before .before .before .before .before .before .before .before .before .before .before .before .before .before .pre .1 .1 .0 .0) (c .before .before .before .before .before .before .before .before .before .before .before .before .before .drop-stores .result) (mkDisk (c .before .before .before .before .before .before .before .before .before .before .before .before .before .before .before .before .before .before .before .before .before .args .image .now) (c .before .before .before .before .before .before .before .before .before .before .before .before .before .drop-stores .last .1 .0)) (c .before .before .before .before .before .before .before .before .before .before .before .before .before .drop-stores .ensures (c .before .before .before .before .before .before .before .before .before .before .before .before .before .before .before .before .before .before .before .before .before .args .image .now)) (c .before .before .before .before .before .before .before .before .before .before .if1 .left) (c .before .before .before .before .before .before .before .before .before .before .before .before .before .before .before .first-unsealed .result) (c .before .before .before .before .before .before .before .before .before .before .before .before .before .before .before .first-unsealed .ensures .1 (c .before .before .before .before .before .before .before .before .before .before .before .before .before .before .before .before .before .before .before .before .before .args .image .now) (c .before .before .before .before .before .before .before .before .before .before .before .before .before .before .before .before .before .before .before .before .before .pre .1 .0 .image-long) (c .before .before .before .before .before .before .before .before .before .before .before .before .before .before .before .before .before .before .before .before .before .pre .1 .1 .0 .0)) (omega (arith, c .before .before .before .before .before .before .before .before .if2 .left))) (sym ((c .before .before .before .before .before .before .before .before .before .before .before .before .before .before .before .before .before .before .before .before .before .pre .1 .1 .1 .1 (segmentOf (c .before .before .before .before .before .before .before .before .before .before .before .before .before .before .before .before .before .before .before .before .before .args .p) (seen (c .before .before .before .before .before .before .before .before .before .before .before .before .before .before .before .before .before .before .before .before .before .args .p) (mkDisk (c .before .before .before .before .before .before .before .before .before .before .before .before .before .before .before .before .before .before .before .before .before .args .image .now) (c .before .before .before .before .before .before .before .before .before .before .before .before .before .before .before .before .before .before .before .before .before .args .pointers .now))) 0 (c .before .before .before .before .before .before .before .before .before .before .before .before .before .before .before .first-unsealed .result)) ((only (c .before .before .before .before .before .before .before .before .before .before .before .before .before .before .before .before .before .before .before .before .before .args .p) (ranged (c .before .before .before .before .before .before .before .before .before .before .before .before .before .before .before .before .before .before .before .before .before .args .p) (c .before .before .before .before .before .before .before .before .before .before .before .before .before .before .before .before .before .before .before .before .before .pre .0)) (c .before .before .before .before .before .before .before .before .before .before .before .before .before .before .before .before .before .before .before .before .before .args .count) (mkDisk (c .before .before .before .before .before .before .before .before .before .before .before .before .before .before .before .before .before .before .before .before .before .args .image .now) (c .before .before .before .before .before .before .before .before .before .before .before .before .before .before .before .before .before .before .before .before .before .args .pointers .now)) (c .before .before .before .before .before .before .before .before .before .before .before .before .before .before .before .before .before .before .before .before .before .pre .1 .0) (c .before .before .before .before .before .before .before .before .before .before .before .before .before .before .before .before .before .before .before .before .before .pre .1 .1 .1 .0) (c .before .before .before .before .before .before .before .before .before .before .before .before .before .before .before .before .before .before .before .before .before .args .kept .now) (c .before .before .before .before .before .before .before .before .before .before .before .before .before .before .before .before .before .before .before .before .before .pre .1 .1 .0 .0) (c .before .before .before .before .before .before .before .before .before .before .before .before .before .drop-stores .result) (mkDisk (c .before .before .before .before .before .before .before .before .before .before .before .before .before .before .before .before .before .before .before .before .before .args .image .now) (c .before .before .before .before .before .before .before .before .before .before .before .before .before .drop-stores .last .1 .0)) (c .before .before .before .before .before .before .before .before .before .before .before .before .before .drop-stores .ensures (c .before .before .before .before .before .before .before .before .before .before .before .before .before .before .before .before .before .before .before .before .before .args .image .now)) (c .before .before .before .before .before .before .before .before .before .before .if1 .left) (c .before .before .before .before .before .before .before .before .before .before .before .before .before .before .before .first-unsealed .result) (c .before .before .before .before .before .before .before .before .before .before .before .before .before .before .before .first-unsealed .ensures .1 (c .before .before .before .before .before .before .before .before .before .before .before .before .before .before .before .before .before .before .before .before .before .args .image .now) (c .before .before .before .before .before .before .before .before .before .before .before .before .before .before .before .before .before .before .before .before .before .pre .1 .0 .image-long) (c .before .before .before .before .before .before .before .before .before .before .before .before .before .before .before .before .before .before .before .before .before .pre .1 .1 .0 .0)) (omega (arith, c .before .before .before .before .before .before .before .before .if2 .left))) .is-it)) .0) ∙ c .before .before .before .before .before .before .before .if3 .left) (sym ((c .before .before .before .before .before .before .before .before .before .before .before .before .before .before .before .before .before .before .before .before .before .pre .1 .1 .1 .1 (segmentOf (c .before .before .before .before .before .before .before .before .before .before .before .before .before .before .before .before .before .before .before .before .before .args .p) (seen (c .before .before .before .before .before .before .before .before .before .before .before .before .before .before .before .before .before .before .before .before .before .args .p) (mkDisk (c .before .before .before .before .before .before .before .before .before .before .before .before .before .before .before .before .before .before .before .before .before .args .image .now) (c .before .before .before .before .before .before .before .before .before .before .before .before .before .before .before .before .before .before .before .before .before .args .pointers .now))) 0 (c .before .before .before .before .before .before .before .before .before .before .before .before .before .before .before .first-unsealed .result)) ((only (c .before .before .before .before .before .before .before .before .before .before .before .before .before .before .before .before .before .before .before .before .before .args .p) (ranged (c .before .before .before .before .before .before .before .before .before .before .before .before .before .before .before .before .before .before .before .before .before .args .p) (c .before .before .before .before .before .before .before .before .before .before .before .before .before .before .before .before .before .before .before .before .before .pre .0)) (c .before .before .before .before .before .before .before .before .before .before .before .before .before .before .before .before .before .before .before .before .before .args .count) (mkDisk (c .before .before .before .before .before .before .before .before .before .before .before .before .before .before .before .before .before .before .before .before .before .args .image .now) (c .before .before .before .before .before .before .before .before .before .before .before .before .before .before .before .before .before .before .before .before .before .args .pointers .now)) (c .before .before .before .before .before .before .before .before .before .before .before .before .before .before .before .before .before .before .before .before .before .pre .1 .0) (c .before .before .before .before .before .before .before .before .before .before .before .before .before .before .before .before .before .before .before .before .before .pre .1 .1 .1 .0) (c .before .before .before .before .before .before .before .before .before .before .before .before .before .before .before .before .before .before .before .before .before .args .kept .now) (c .before .before .before .before .before .before .before .before .before .before .before .before .before .before .before .before .before .before .before .before .before .pre .1 .1 .0 .0) (c .before .before .before .before .before .before .before .before .before .before .before .before .before .drop-stores .result) (mkDisk (c .before .before .before .before .before .before .before .before .before .before .before .before .before .before .before .before .before .before .before .before .before .args .image .now) (c .before .before .before .before .before .before .before .before .before .before .before .before .before .drop-stores .last .1 .0)) (c .before .before .before .before .before .before .before .before .before .before .before .before .before .drop-stores .ensures (c .before .before .before .before .before .before .before .before .before .before .before .before .before .before .before .before .before .before .before .before .before .args .image .now)) (c .before .before .before .before .before .before .before .before .before .before .if1 .left) (c .before .before .before .before .before .before .before .before .before .before .before .before .before .before .before .first-unsealed .result) (c .before .before .before .before .before .before .before .before .before .before .before .before .before .before .before .first-unsealed .ensures .1 (c .before .before .before .before .before .before .before .before .before .before .before .before .before .before .before .before .before .before .before .before .before .args .image .now) (c .before .before .before .before .before .before .before .before .before .before .before .before .before .before .before .before .before .before .before .before .before .pre .1 .0 .image-long) (c .before .before .before .before .before .before .before .before .before .before .before .before .before .before .before .before .before .before .before .before .before .pre .1 .1 .0 .0)) (omega (arith, c .before .before .before .before .before .before .before .before .if2 .left))) .is-it)) .1) ∙ not-false (c .before .before .before .before .before .before .before .before .before .before .before .before .before .before .before .before .before .before .before .before .before .args .ragged) (c .before .before .before .before .before .before .if4 .left)) (c .before .before .before .before .before .lowest-free .result) (c .before .before .before .before .before .lowest-free .ensures .1 (seen (c .before .before .before .before .before .before .before .before .before .before .before .before .before .before .before .before .before .before .before .before .before .args .p) (mkDisk (c .before .before .before .before .before .before .before .before .before .before .before .before .before .before .before .before .before .before .before .before .before .args .image .now) (c .before .before .before .before .before .before .before .before .before .before .before .before .before .before .before .before .before .before .before .before .before .args .pointers .now))) 0 (c .before .before .before .before .before .before .before .before .before .before .before .before .before .before .before .before .before .before .before .before .before .pre .1 .1 .0 .0)) (getD (c .before .before .before .before .before .before .before .before .before .before .before .before .before .before .before .before .before .before .before .before .before .args .serials .now) (c .before .before .before .before .before .before .before .before .before .before .before .before .before .before .before .first-unsealed .result) 0) ((c .before .before .before .before .before .before .before .before .before .before .before .before .before .before .before .before .before .before .before .before .before .pre .1 .1 .0 .1) .1 (c .before .before .before .before .before .before .before .before .before .before .before .before .before .before .before .first-unsealed .result) (omega (arith, c .before .before .before .before .before .before .before .before .if2 .left))), to-empty (c .before .before .before .before .before .before .before .before .before .before .before .before .before .before .before .before .before .before .before .before .before .args .p) (ranged (c .before .before .before .before .before .before .before .before .before .before .before .before .before .before .before .before .before .before .before .before .before .args .p) (c .before .before .before .before .before .before .before .before .before .before .before .before .before .before .before .before .before .before .before .before .before .pre .0)) (c .before .before .before .before .before .before .before .before .before .before .before .before .before .before .before .before .before .before .before .before .before .args .count) (mkDisk (c .before .before .before .before .before .before .before .before .before .before .before .before .before .before .before .before .before .before .before .before .before .args .image .now) (c .before .before .before .before .before .before .before .before .before .before .before .before .before .before .before .before .before .before .before .before .before .args .pointers .now)) (c .before .before .before .before .before .before .before .before .before .before .before .before .before .before .before .before .before .before .before .before .before .pre .1 .0) (c .before .before .before .before .before .before .before .before .before .before .before .before .before .before .before .before .before .before .before .before .before .pre .1 .1 .1 .0) (c .before .before .before .before .before .before .before .before .before .before .before .before .before .before .before .before .before .before .before .before .before .args .kept .now) (c .before .before .before .before .before .before .before .before .before .before .before .before .before .before .before .before .before .before .before .before .before .pre .1 .1 .0 .0) (c .before .before .before .before .before .before .before .before .before .before .before .before .before .drop-stores .result) (mkDisk (c .before .before .before .before .before .before .before .before .before .before .before .before .before .before .before .before .before .before .before .before .before .args .image .now) (c .before .before .before .before .before .before .before .before .before .before .before .before .before .drop-stores .last .1 .0)) (c .before .before .before .before .before .before .before .before .before .before .before .before .before .drop-stores .ensures (c .before .before .before .before .before .before .before .before .before .before .before .before .before .before .before .before .before .before .before .before .before .args .image .now)) (c .before .before .before .before .before .before .before .before .before .before .if1 .left) (c .before .before .before .before .before .before .before .before .before .before .before .before .before .before .before .first-unsealed .result) (omega (arith, c .before .before .before .before .before .before .before .before .if2 .left)) (only (c .before .before .before .before .before .before .before .before .before .before .before .before .before .before .before .before .before .before .before .before .before .args .p) (ranged (c .before .before .before .before .before .before .before .before .before .before .before .before .before .before .before .before .before .before .before .before .before .args .p) (c .before .before .before .before .before .before .before .before .before .before .before .before .before .before .before .before .before .before .before .before .before .pre .0)) (c .before .before .before .before .before .before .before .before .before .before .before .before .before .before .before .before .before .before .before .before .before .args .count) (mkDisk (c .before .before .before .before .before .before .before .before .before .before .before .before .before .before .before .before .before .before .before .before .before .args .image .now) (c .before .before .before .before .before .before .before .before .before .before .before .before .before .before .before .before .before .before .before .before .before .args .pointers .now)) (c .before .before .before .before .before .before .before .before .before .before .before .before .before .before .before .before .before .before .before .before .before .pre .1 .0) (c .before .before .before .before .before .before .before .before .before .before .before .before .before .before .before .before .before .before .before .before .before .pre .1 .1 .1 .0) (c .before .before .before .before .before .before .before .before .before .before .before .before .before .before .before .before .before .before .before .before .before .args .kept .now) (c .before .before .before .before .before .before .before .before .before .before .before .before .before .before .before .before .before .before .before .before .before .pre .1 .1 .0 .0) (c .before .before .before .before .before .before .before .before .before .before .before .before .before .drop-stores .result) (mkDisk (c .before .before .before .before .before .before .before .before .before .before .before .before .before .before .before .before .before .before .before .before .before .args .image .now) (c .before .before .before .before .before .before .before .before .before .before .before .before .before .drop-stores .last .1 .0)) (c .before .before .before .before .before .before .before .before .before .before .before .before .before .drop-stores .ensures (c .before .before .before .before .before .before .before .before .before .before .before .before .before .before .before .before .before .before .before .before .before .args .image .now)) (c .before .before .before .before .before .before .before .before .before .before .if1 .left) (c .before .before .before .before .before .before .before .before .before .before .before .before .before .before .before .first-unsealed .result) (c .before .before .before .before .before .before .before .before .before .before .before .before .before .before .before .first-unsealed .ensures .1 (c .before .before .before .before .before .before .before .before .before .before .before .before .before .before .before .before .before .before .before .before .before .args .image .now) (c .before .before .before .before .before .before .before .before .before .before .before .before .before .before .before .before .before .before .before .before .before .pre .1 .0 .image-long) (c .before .before .before .before .before .before .before .before .before .before .before .before .before .before .before .before .before .before .before .before .before .pre .1 .1 .0 .0)) (omega (arith, c .before .before .before .before .before .before .before .before .if2 .left))) (sym ((c .before .before .before .before .before .before .before .before .before .before .before .before .before .before .before .before .before .before .before .before .before .pre .1 .1 .1 .1 (segmentOf (c .before .before .before .before .before .before .before .before .before .before .before .before .before .before .before .before .before .before .before .before .before .args .p) (seen (c .before .before .before .before .before .before .before .before .before .before .before .before .before .before .before .before .before .before .before .before .before .args .p) (mkDisk (c .before .before .before .before .before .before .before .before .before .before .before .before .before .before .before .before .before .before .before .before .before .args .image .now) (c .before .before .before .before .before .before .before .before .before .before .before .before .before .before .before .before .before .before .before .before .before .args .pointers .now))) 0 (c .before .before .before .before .before .before .before .before .before .before .before .before .before .before .before .first-unsealed .result)) ((only (c .before .before .before .before .before .before .before .before .before .before .before .before .before .before .before .before .before .before .before .before .before .args .p) (ranged (c .before .before .before .before .before .before .before .before .before .before .before .before .before .before .before .before .before .before .before .before .before .args .p) (c .before .before .before .before .before .before .before .before .before .before .before .before .before .before .before .before .before .before .before .before .before .pre .0)) (c .before .before .before .before .before .before .before .before .before .before .before .before .before .before .before .before .before .before .before .before .before .args .count) (mkDisk (c .before .before .before .before .before .before .before .before .before .before .before .before .before .before .before .before .before .before .before .before .before .args .image .now) (c .before .before .before .before .before .before .before .before .before .before .before .before .before .before .before .before .before .before .before .before .before .args .pointers .now)) (c .before .before .before .before .before .before .before .before .before .before .before .before .before .before .before .before .before .before .before .before .before .pre .1 .0) (c .before .before .before .before .before .before .before .before .before .before .before .before .before .before .before .before .before .before .before .before .before .pre .1 .1 .1 .0) (c .before .before .before .before .before .before .before .before .before .before .before .before .before .before .before .before .before .before .before .before .before .args .kept .now) (c .before .before .before .before .before .before .before .before .before .before .before .before .before .before .before .before .before .before .before .before .before .pre .1 .1 .0 .0) (c .before .before .before .before .before .before .before .before .before .before .before .before .before .drop-stores .result) (mkDisk (c .before .before .before .before .before .before .before .before .before .before .before .before .before .before .before .before .before .before .before .before .before .args .image .now) (c .before .before .before .before .before .before .before .before .before .before .before .before .before .drop-stores .last .1 .0)) (c .before .before .before .before .before .before .before .before .before .before .before .before .before .drop-stores .ensures (c .before .before .before .before .before .before .before .before .before .before .before .before .before .before .before .before .before .before .before .before .before .args .image .now)) (c .before .before .before .before .before .before .before .before .before .before .if1 .left) (c .before .before .before .before .before .before .before .before .before .before .before .before .before .before .before .first-unsealed .result) (c .before .before .before .before .before .before .before .before .before .before .before .before .before .before .before .first-unsealed .ensures .1 (c .before .before .before .before .before .before .before .before .before .before .before .before .before .before .before .before .before .before .before .before .before .args .image .now) (c .before .before .before .before .before .before .before .before .before .before .before .before .before .before .before .before .before .before .before .before .before .pre .1 .0 .image-long) (c .before .before .before .before .before .before .before .before .before .before .before .before .before .before .before .before .before .before .before .before .before .pre .1 .1 .0 .0)) (omega (arith, c .before .before .before .before .before .before .before .before .if2 .left))) .is-it)) .0) ∙ c .before .before .before .before .before .before .before .if3 .left) (sym ((c .before .before .before .before .before .before .before .before .before .before .before .before .before .before .before .before .before .before .before .before .before .pre .1 .1 .1 .1 (segmentOf (c .before .before .before .before .before .before .before .before .before .before .before .before .before .before .before .before .before .before .before .before .before .args .p) (seen (c .before .before .before .before .before .before .before .before .before .before .before .before .before .before .before .before .before .before .before .before .before .args .p) (mkDisk (c .before .before .before .before .before .before .before .before .before .before .before .before .before .before .before .before .before .before .before .before .before .args .image .now) (c .before .before .before .before .before .before .before .before .before .before .before .before .before .before .before .before .before .before .before .before .before .args .pointers .now))) 0 (c .before .before .before .before .before .before .before .before .before .before .before .before .before .before .before .first-unsealed .result)) ((only (c .before .before .before .before .before .before .before .before .before .before .before .before .before .before .before .before .before .before .before .before .before .args .p) (ranged (c .before .before .before .before .before .before .before .before .before .before .before .before .before .before .before .before .before .before .before .before .before .args .p) (c .before .before .before .before .before .before .before .before .before .before .before .before .before .before .before .before .before .before .before .before .before .pre .0)) (c .before .before .before .before .before .before .before .before .before .before .before .before .before .before .before .before .before .before .before .before .before .args .count) (mkDisk (c .before .before .before .before .before .before .before .before .before .before .before .before .before .before .before .before .before .before .before .before .before .args .image .now) (c .before .before .before .before .before .before .before .before .before .before .before .before .before .before .before .before .before .before .before .before .before .args .pointers .now)) (c .before .before .before .before .before .before .before .before .before .before .before .before .before .before .before .before .before .before .before .before .before .pre .1 .0) (c .before .before .before .before .before .before .before .before .before .before .before .before .before .before .before .before .before .before .before .before .before .pre .1 .1 .1 .0) (c .before .before .before .before .before .before .before .before .before .before .before .before .before .before .before .before .before .before .before .before .before .args .kept .now) (c .before .before .before .before .before .before .before .before .before .before .before .before .before .before .before .before .before .before .before .before .before .pre .1 .1 .0 .0) (c .before .before .before .before .before .before .before .before .before .before .before .before .before .drop-stores .result) (mkDisk (c .before .before .before .before .before .before .before .before .before .before .before .before .before .before .before .before .before .before .before .before .before .args .image .now) (c .before .before .before .before .before .before .before .before .before .before .before .before .before .drop-stores .last .1 .0)) (c .before .before .before .before .before .before .before .before .before .before .before .before .before .drop-stores .ensures (c .before .before .before .before .before .before .before .before .before .before .before .before .before .before .before .before .before .before .before .before .before .args .image .now)) (c .before .before .before .before .before .before .before .before .before .before .if1 .left) (c .before .before .before .before .before .before .before .before .before .before .before .before .before .before .before .first-unsealed .result) (c .before .before .before .before .before .before .before .before .before .before .before .before .before .before .before .first-unsealed .ensures .1 (c .before .before .before .before .before .before .before .before .before .before .before .before .before .before .before .before .before .before .before .before .before .args .image .now) (c .before .before .before .before .before .before .before .before .before .before .before .before .before .before .before .before .before .before .before .before .before .pre .1 .0 .image-long) (c .before .before .before .before .before .before .before .before .before .before .before .before .before .before .before .before .before .before .before .before .before .pre .1 .1 .0 .0)) (omega (arith, c .before .before .before .before .before .before .before .before .if2 .left))) .is-it)) .1) ∙ not-false (c .before .before .before .before .before .before .before .before .before .before .before .before .before .before .before .before .before .before .before .before .before .args .ragged) (c .before .before .before .before .before .before .if4 .left)) (c .before .before .before .before .before .lowest-free .result) (c .before .before .before .before .before .lowest-free .ensures .1 (seen (c .before .before .before .before .before .before .before .before .before .before .before .before .before .before .before .before .before .before .before .before .before .args .p) (mkDisk (c .before .before .before .before .before .before .before .before .before .before .before .before .before .before .before .before .before .before .before .before .before .args .image .now) (c .before .before .before .before .before .before .before .before .before .before .before .before .before .before .before .before .before .before .before .before .before .args .pointers .now))) 0 (c .before .before .before .before .before .before .before .before .before .before .before .before .before .before .before .before .before .before .before .before .before .pre .1 .1 .0 .0))), moves-fit (c .before .before .before .before .before .before .before .before .before .before .before .before .before .before .before .before .before .before .before .before .before .args .p) (ranged (c .before .before .before .before .before .before .before .before .before .before .before .before .before .before .before .before .before .before .before .before .before .args .p) (c .before .before .before .before .before .before .before .before .before .before .before .before .before .before .before .before .before .before .before .before .before .pre .0)) (c .before .before .before .before .before .before .before .before .before .before .before .before .before .before .before .before .before .before .before .before .before .args .count) (mkDisk (c .before .before .before .before .before .before .before .before .before .before .before .before .before .before .before .before .before .before .before .before .before .args .image .now) (c .before .before .before .before .before .before .before .before .before .before .before .before .before .before .before .before .before .before .before .before .before .args .pointers .now)) (c .before .before .before .before .before .before .before .before .before .before .before .before .before .before .before .before .before .before .before .before .before .pre .1 .0) (c .before .before .before .before .before .before .before .before .before .before .before .before .before .before .before .before .before .before .before .before .before .pre .1 .1 .1 .0) (c .before .before .before .before .before .before .before .before .before .before .before .before .before .before .before .before .before .before .before .before .before .args .kept .now) (c .before .before .before .before .before .before .before .before .before .before .before .before .before .before .before .before .before .before .before .before .before .pre .1 .1 .0 .0) (c .before .before .before .before .before .before .before .before .before .before .before .before .before .drop-stores .result) (mkDisk (c .before .before .before .before .before .before .before .before .before .before .before .before .before .before .before .before .before .before .before .before .before .args .image .now) (c .before .before .before .before .before .before .before .before .before .before .before .before .before .drop-stores .last .1 .0)) (c .before .before .before .before .before .before .before .before .before .before .before .before .before .drop-stores .ensures (c .before .before .before .before .before .before .before .before .before .before .before .before .before .before .before .before .before .before .before .before .before .args .image .now)) (c .before .before .before .before .before .before .before .before .before .before .if1 .left) (c .before .before .before .before .before .before .before .before .before .before .before .before .before .before .before .first-unsealed .result) (omega (arith, c .before .before .before .before .before .before .before .before .if2 .left)) (only (c .before .before .before .before .before .before .before .before .before .before .before .before .before .before .before .before .before .before .before .before .before .args .p) (ranged (c .before .before .before .before .before .before .before .before .before .before .before .before .before .before .before .before .before .before .before .before .before .args .p) (c .before .before .before .before .before .before .before .before .before .before .before .before .before .before .before .before .before .before .before .before .before .pre .0)) (c .before .before .before .before .before .before .before .before .before .before .before .before .before .before .before .before .before .before .before .before .before .args .count) (mkDisk (c .before .before .before .before .before .before .before .before .before .before .before .before .before .before .before .before .before .before .before .before .before .args .image .now) (c .before .before .before .before .before .before .before .before .before .before .before .before .before .before .before .before .before .before .before .before .before .args .pointers .now)) (c .before .before .before .before .before .before .before .before .before .before .before .before .before .before .before .before .before .before .before .before .before .pre .1 .0) (c .before .before .before .before .before .before .before .before .before .before .before .before .before .before .before .before .before .before .before .before .before .pre .1 .1 .1 .0) (c .before .before .before .before .before .before .before .before .before .before .before .before .before .before .before .before .before .before .before .before .before .args .kept .now) (c .before .before .before .before .before .before .before .before .before .before .before .before .before .before .before .before .before .before .before .before .before .pre .1 .1 .0 .0) (c .before .before .before .before .before .before .before .before .before .before .before .before .before .drop-stores .result) (mkDisk (c .before .before .before .before .before .before .before .before .before .before .before .before .before .before .before .before .before .before .before .before .before .args .image .now) (c .before .before .before .before .before .before .before .before .before .before .before .before .before .drop-stores .last .1 .0)) (c .before .before .before .before .before .before .before .before .before .before .before .before .before .drop-stores .ensures (c .before .before .before .before .before .before .before .before .before .before .before .before .before .before .before .before .before .before .before .before .before .args .image .now)) (c .before .before .before .before .before .before .before .before .before .before .if1 .left) (c .before .before .before .before .before .before .before .before .before .before .before .before .before .before .before .first-unsealed .result) (c .before .before .before .before .before .before .before .before .before .before .before .before .before .before .before .first-unsealed .ensures .1 (c .before .before .before .before .before .before .before .before .before .before .before .before .before .before .before .before .before .before .before .before .before .args .image .now) (c .before .before .before .before .before .before .before .before .before .before .before .before .before .before .before .before .before .before .before .before .before .pre .1 .0 .image-long) (c .before .before .before .before .before .before .before .before .before .before .before .before .before .before .before .before .before .before .before .before .before .pre .1 .1 .0 .0)) (omega (arith, c .before .before .before .before .before .before .before .before .if2 .left))) (sym ((c .before .before .before .before .before .before .before .before .before .before .before .before .before .before .before .before .before .before .before .before .before .pre .1 .1 .1 .1 (segmentOf (c .before .before .before .before .before .before .before .before .before .before .before .before .before .before .before .before .before .before .before .before .before .args .p) (seen (c .before .before .before .before .before .before .before .before .before .before .before .before .before .before .before .before .before .before .before .before .before .args .p) (mkDisk (c .before .before .before .before .before .before .before .before .before .before .before .before .before .before .before .before .before .before .before .before .before .args .image .now) (c .before .before .before .before .before .before .before .before .before .before .before .before .before .before .before .before .before .before .before .before .before .args .pointers .now))) 0 (c .before .before .before .before .before .before .before .before .before .before .before .before .before .before .before .first-unsealed .result)) ((only (c .before .before .before .before .before .before .before .before .before .before .before .before .before .before .before .before .before .before .before .before .before .args .p) (ranged (c .before .before .before .before .before .before .before .before .before .before .before .before .before .before .before .before .before .before .before .before .before .args .p) (c .before .before .before .before .before .before .before .before .before .before .before .before .before .before .before .before .before .before .before .before .before .pre .0)) (c .before .before .before .before .before .before .before .before .before .before .before .before .before .before .before .before .before .before .before .before .before .args .count) (mkDisk (c .before .before .before .before .before .before .before .before .before .before .before .before .before .before .before .before .before .before .before .before .before .args .image .now) (c .before .before .before .before .before .before .before .before .before .before .before .before .before .before .before .before .before .before .before .before .before .args .pointers .now)) (c .before .before .before .before .before .before .before .before .before .before .before .before .before .before .before .before .before .before .before .before .before .pre .1 .0) (c .before .before .before .before .before .before .before .before .before .before .before .before .before .before .before .before .before .before .before .before .before .pre .1 .1 .1 .0) (c .before .before .before .before .before .before .before .before .before .before .before .before .before .before .before .before .before .before .before .before .before .args .kept .now) (c .before .before .before .before .before .before .before .before .before .before .before .before .before .before .before .before .before .before .before .before .before .pre .1 .1 .0 .0) (c .before .before .before .before .before .before .before .before .before .before .before .before .before .drop-stores .result) (mkDisk (c .before .before .before .before .before .before .before .before .before .before .before .before .before .before .before .before .before .before .before .before .before .args .image .now) (c .before .before .before .before .before .before .before .before .before .before .before .before .before .drop-stores .last .1 .0)) (c .before .before .before .before .before .before .before .before .before .before .before .before .before .drop-stores .ensures (c .before .before .before .before .before .before .before .before .before .before .before .before .before .before .before .before .before .before .before .before .before .args .image .now)) (c .before .before .before .before .before .before .before .before .before .before .if1 .left) (c .before .before .before .before .before .before .before .before .before .before .before .before .before .before .before .first-unsealed .result) (c .before .before .before .before .before .before .before .before .before .before .before .before .before .before .before .first-unsealed .ensures .1 (c .before .before .before .before .before .before .before .before .before .before .before .before .before .before .before .before .before .before .before .before .before .args .image .now) (c .before .before .before .before .before .before .before .before .before .before .before .before .before .before .before .before .before .before .before .before .before .pre .1 .0 .image-long) (c .before .before .before .before .before .before .before .before .before .before .before .before .before .before .before .before .before .before .before .before .before .pre .1 .1 .0 .0)) (omega (arith, c .before .before .before .before .before .before .before .before .if2 .left))) .is-it)) .0) ∙ c .before .before .before .before .before .before .before .if3 .left) (sym ((c .before .before .before .before .before .before .before .before .before .before .before .before .before .before .before .before .before .before .before .before .before .pre .1 .1 .1 .1 (segmentOf (c .before .before .before .before .before .before .before .before .before .before .before .before .before .before .before .before .before .before .before .before .before .args .p) (seen (c .before .before .before .before .before .before .before .before .before .before .before .before .before .before .before .before .before .before .before .before .before .args .p) (mkDisk (c .before .before .before .before .before .before .before .before .before .before .before .before .before .before .before .before .before .before .before .before .before .args .image .now) (c .before .before .before .before .before .before .before .before .before .before .before .before .before .before .before .before .before .before .before .before .before .args .pointers .now))) 0 (c .before .before .before .before .before .before .before .before .before .before .before .before .before .before .before .first-unsealed .result)) ((only (c .before .before .before .before .before .before .before .before .before .before .before .before .before .before .before .before .before .before .before .before .before .args .p) (ranged (c .before .before .before .before .before .before .before .before .before .before .before .before .before .before .before .before .before .before .before .before .before .args .p) (c .before .before .before .before .before .before .before .before .before .before .before .before .before .before .before .before .before .before .before .before .before .pre .0)) (c .before .before .before .before .before .before .before .before .before .before .before .before .before .before .before .before .before .before .before .before .before .args .count) (mkDisk (c .before .before .before .before .before .before .before .before .before .before .before .before .before .before .before .before .before .before .before .before .before .args .image .now) (c .before .before .before .before .before .before .before .before .before .before .before .before .before .before .before .before .before .before .before .before .before .args .pointers .now)) (c .before .before .before .before .before .before .before .before .before .before .before .before .before .before .before .before .before .before .before .before .before .pre .1 .0) (c .before .before .before .before .before .before .before .before .before .before .before .before .before .before .before .before .before .before .before .before .before .pre .1 .1 .1 .0) (c .before .before .before .before .before .before .before .before .before .before .before .before .before .before .before .before .before .before .before .before .before .args .kept .now) (c .before .before .before .before .before .before .before .before .before .before .before .before .before .before .before .before .before .before .before .before .before .pre .1 .1 .0 .0) (c .before .before .before .before .before .before .before .before .before .before .before .before .before .drop-stores .result) (mkDisk (c .before .before .before .before .before .before .before .before .before .before .before .before .before .before .before .before .before .before .before .before .before .args .image .now) (c .before .before .before .before .before .before .before .before .before .before .before .before .before .drop-stores .last .1 .0)) (c .before .before .before .before .before .before .before .before .before .before .before .before .before .drop-stores .ensures (c .before .before .before .before .before .before .before .before .before .before .before .before .before .before .before .before .before .before .before .before .before .args .image .now)) (c .before .before .before .before .before .before .before .before .before .before .if1 .left) (c .before .before .before .before .before .before .before .before .before .before .before .before .before .before .before .first-unsealed .result) (c .before .before .before .before .before .before .before .before .before .before .before .before .before .before .before .first-unsealed .ensures .1 (c .before .before .before .before .before .before .before .before .before .before .before .before .before .before .before .before .before .before .before .before .before .args .image .now) (c .before .before .before .before .before .before .before .before .before .before .before .before .before .before .before .before .before .before .before .before .before .pre .1 .0 .image-long) (c .before .before .before .before .before .before .before .before .before .before .before .before .before .before .before .before .before .before .before .before .before .pre .1 .1 .0 .0)) (omega (arith, c .before .before .before .before .before .before .before .before .if2 .left))) .is-it)) .1) ∙ not-false (c .before .before .before .before .before .before .before .before .before .before .before .before .before .before .before .before .before .before .before .before .before .args .ragged) (c .before .before .before .before .before .before .if4 .left)) (c .before .before .before .before .before .lowest-free .result) (c .before .before .before .before .before .lowest-free .ensures .1 (seen (c .before .before .before .before .before .before .before .before .before .before .before .before .before .before .before .before .before .before .before .before .before .args .p) (mkDisk (c .before .before .before .before .before .before .before .before .before .before .before .before .before .before .before .before .before .before .before .before .before .args .image .now) (c .before .before .before .before .before .before .before .before .before .before .before .before .before .before .before .before .before .before .before .before .before .args .pointers .now))) 0 (c .before .before .before .before .before .before .before .before .before .before .before .before .before .before .before .before .before .before .before .before .before .pre .1 .1 .0 .0)) (c .before .before .before .before .greatest-serial .result .0 + 1) (add-one (c .before .before .before .before .greatest-serial .result .0) ∙ ap suc (c .before .before .before .before .greatest-serial .ensures (seen (c .before .before .before .before .before .before .before .before .before .before .before .before .before .before .before .before .before .before .before .before .before .args .p) (mkDisk (c .before .before .before .before .before .before .before .before .before .before .before .before .before .before .before .before .before .before .before .before .before .args .image .now) (c .before .before .before .before .before .before .before .before .before .before .before .before .before .before .before .before .before .before .before .before .before .args .pointers .now))) 0 (c .before .before .before .before .before .before .before .before .before .before .before .before .before .before .before .before .before .before .before .before .before .pre .1 .1 .0 .0) (c .before .before .before .before .before .before .before .before .before .before .before .before .before .before .before .before .before .before .before .before .before .pre .1 .1 .0 .1)))))))
+rewrite-requires c κs =
+    let greatest-serial = c .before .before .before .before .greatest-serial in
+    let lowest-free = c .before .before .before .before .before .lowest-free in
+    let if4 = c .before .before .before .before .before .before .if4 in
+    let if3 = c .before .before .before .before .before .before .before .if3 in
+    let if2 = c .before .before .before .before .before .before .before .before .if2 in
+    let if1 = c .before .before .before .before .before .before .before .before .before .before .if1 in
+    let drop-stores = c .before .before .before .before .before .before .before .before .before .before .before .before .before .drop-stores in
+    let first-unsealed = c .before .before .before .before .before .before .before .before .before .before .before .before .before .before .before .first-unsealed in
+    let entry = c .before .before .before .before .before .before .before .before .before .before .before .before .before .before .before .before .before .before .before .before .before in
+    let args = entry .args in
+    let pre = entry .pre in (
+      pre .0,
+      (
+        refit-whole (args .p) (ranged (args .p) (pre .0)) (args .count) (mkDisk (args .image .now) (args .pointers .now)) (pre .1 .0)
+            (pre .1 .1 .1 .0) (args .kept .now) (pre .1 .1 .0 .0) (drop-stores .result) (mkDisk (args .image .now) (drop-stores .last .1 .0))
+            (drop-stores .ensures (args .image .now)) (if1 .left),
+        (
+          (
+            (omega (arith, if2 .left)),
+            to-low (args .p) (ranged (args .p) (pre .0)) (args .count) (mkDisk (args .image .now) (args .pointers .now)) (pre .1 .0)
+                (pre .1 .1 .1 .0) (args .kept .now) (pre .1 .1 .0 .0) (drop-stores .result)
+                (mkDisk (args .image .now) (drop-stores .last .1 .0)) (drop-stores .ensures (args .image .now)) (if1 .left)
+                (first-unsealed .result) (omega (arith, if2 .left))
+                (only (args .p) (ranged (args .p) (pre .0)) (args .count) (mkDisk (args .image .now) (args .pointers .now)) (pre .1 .0)
+                (pre .1 .1 .1 .0) (args .kept .now) (pre .1 .1 .0 .0) (drop-stores .result)
+                (mkDisk (args .image .now) (drop-stores .last .1 .0)) (drop-stores .ensures (args .image .now)) (if1 .left)
+                (first-unsealed .result) (first-unsealed .ensures .1 (args .image .now) (pre .1 .0 .image-long) (pre .1 .1 .0 .0))
+                (omega (arith, if2 .left))) (sym ((pre .1 .1 .1 .1
+                (segmentOf (args .p) (seen (args .p) (mkDisk (args .image .now) (args .pointers .now))) 0 (first-unsealed .result))
+                ((only (args .p) (ranged (args .p) (pre .0)) (args .count) (mkDisk (args .image .now) (args .pointers .now)) (pre .1 .0)
+                (pre .1 .1 .1 .0) (args .kept .now) (pre .1 .1 .0 .0) (drop-stores .result)
+                (mkDisk (args .image .now) (drop-stores .last .1 .0)) (drop-stores .ensures (args .image .now)) (if1 .left)
+                (first-unsealed .result) (first-unsealed .ensures .1 (args .image .now) (pre .1 .0 .image-long) (pre .1 .1 .0 .0))
+                (omega (arith, if2 .left))) .is-it)) .0)
+                ∙ if3 .left) (sym ((pre .1 .1 .1 .1
+                (segmentOf (args .p) (seen (args .p) (mkDisk (args .image .now) (args .pointers .now))) 0 (first-unsealed .result))
+                ((only (args .p) (ranged (args .p) (pre .0)) (args .count) (mkDisk (args .image .now) (args .pointers .now)) (pre .1 .0)
+                (pre .1 .1 .1 .0) (args .kept .now) (pre .1 .1 .0 .0) (drop-stores .result)
+                (mkDisk (args .image .now) (drop-stores .last .1 .0)) (drop-stores .ensures (args .image .now)) (if1 .left)
+                (first-unsealed .result) (first-unsealed .ensures .1 (args .image .now) (pre .1 .0 .image-long) (pre .1 .1 .0 .0))
+                (omega (arith, if2 .left))) .is-it)) .1)
+                ∙ not-false (args .ragged) (if4 .left)) (lowest-free .result)
+                (lowest-free .ensures .1 (seen (args .p) (mkDisk (args .image .now) (args .pointers .now))) 0 (pre .1 .1 .0 .0)),
+            still-open (args .p) (ranged (args .p) (pre .0)) (args .count) (mkDisk (args .image .now) (args .pointers .now)) (pre .1 .0)
+                (pre .1 .1 .1 .0) (args .kept .now) (pre .1 .1 .0 .0) (drop-stores .result)
+                (mkDisk (args .image .now) (drop-stores .last .1 .0)) (drop-stores .ensures (args .image .now)) (if1 .left)
+                (first-unsealed .result) (omega (arith, if2 .left))
+                (only (args .p) (ranged (args .p) (pre .0)) (args .count) (mkDisk (args .image .now) (args .pointers .now)) (pre .1 .0)
+                (pre .1 .1 .1 .0) (args .kept .now) (pre .1 .1 .0 .0) (drop-stores .result)
+                (mkDisk (args .image .now) (drop-stores .last .1 .0)) (drop-stores .ensures (args .image .now)) (if1 .left)
+                (first-unsealed .result) (first-unsealed .ensures .1 (args .image .now) (pre .1 .0 .image-long) (pre .1 .1 .0 .0))
+                (omega (arith, if2 .left))) (sym ((pre .1 .1 .1 .1
+                (segmentOf (args .p) (seen (args .p) (mkDisk (args .image .now) (args .pointers .now))) 0 (first-unsealed .result))
+                ((only (args .p) (ranged (args .p) (pre .0)) (args .count) (mkDisk (args .image .now) (args .pointers .now)) (pre .1 .0)
+                (pre .1 .1 .1 .0) (args .kept .now) (pre .1 .1 .0 .0) (drop-stores .result)
+                (mkDisk (args .image .now) (drop-stores .last .1 .0)) (drop-stores .ensures (args .image .now)) (if1 .left)
+                (first-unsealed .result) (first-unsealed .ensures .1 (args .image .now) (pre .1 .0 .image-long) (pre .1 .1 .0 .0))
+                (omega (arith, if2 .left))) .is-it)) .0)
+                ∙ if3 .left) (sym ((pre .1 .1 .1 .1
+                (segmentOf (args .p) (seen (args .p) (mkDisk (args .image .now) (args .pointers .now))) 0 (first-unsealed .result))
+                ((only (args .p) (ranged (args .p) (pre .0)) (args .count) (mkDisk (args .image .now) (args .pointers .now)) (pre .1 .0)
+                (pre .1 .1 .1 .0) (args .kept .now) (pre .1 .1 .0 .0) (drop-stores .result)
+                (mkDisk (args .image .now) (drop-stores .last .1 .0)) (drop-stores .ensures (args .image .now)) (if1 .left)
+                (first-unsealed .result) (first-unsealed .ensures .1 (args .image .now) (pre .1 .0 .image-long) (pre .1 .1 .0 .0))
+                (omega (arith, if2 .left))) .is-it)) .1)
+                ∙ not-false (args .ragged) (if4 .left)) (lowest-free .result)
+                (lowest-free .ensures .1 (seen (args .p) (mkDisk (args .image .now) (args .pointers .now))) 0 (pre .1 .1 .0 .0)),
+            still-good (args .p) (ranged (args .p) (pre .0)) (args .count) (mkDisk (args .image .now) (args .pointers .now)) (pre .1 .0)
+                (pre .1 .1 .1 .0) (args .kept .now) (pre .1 .1 .0 .0) (drop-stores .result)
+                (mkDisk (args .image .now) (drop-stores .last .1 .0)) (drop-stores .ensures (args .image .now)) (if1 .left)
+                (first-unsealed .result) (omega (arith, if2 .left))
+                (only (args .p) (ranged (args .p) (pre .0)) (args .count) (mkDisk (args .image .now) (args .pointers .now)) (pre .1 .0)
+                (pre .1 .1 .1 .0) (args .kept .now) (pre .1 .1 .0 .0) (drop-stores .result)
+                (mkDisk (args .image .now) (drop-stores .last .1 .0)) (drop-stores .ensures (args .image .now)) (if1 .left)
+                (first-unsealed .result) (first-unsealed .ensures .1 (args .image .now) (pre .1 .0 .image-long) (pre .1 .1 .0 .0))
+                (omega (arith, if2 .left))) (sym ((pre .1 .1 .1 .1
+                (segmentOf (args .p) (seen (args .p) (mkDisk (args .image .now) (args .pointers .now))) 0 (first-unsealed .result))
+                ((only (args .p) (ranged (args .p) (pre .0)) (args .count) (mkDisk (args .image .now) (args .pointers .now)) (pre .1 .0)
+                (pre .1 .1 .1 .0) (args .kept .now) (pre .1 .1 .0 .0) (drop-stores .result)
+                (mkDisk (args .image .now) (drop-stores .last .1 .0)) (drop-stores .ensures (args .image .now)) (if1 .left)
+                (first-unsealed .result) (first-unsealed .ensures .1 (args .image .now) (pre .1 .0 .image-long) (pre .1 .1 .0 .0))
+                (omega (arith, if2 .left))) .is-it)) .0)
+                ∙ if3 .left) (sym ((pre .1 .1 .1 .1
+                (segmentOf (args .p) (seen (args .p) (mkDisk (args .image .now) (args .pointers .now))) 0 (first-unsealed .result))
+                ((only (args .p) (ranged (args .p) (pre .0)) (args .count) (mkDisk (args .image .now) (args .pointers .now)) (pre .1 .0)
+                (pre .1 .1 .1 .0) (args .kept .now) (pre .1 .1 .0 .0) (drop-stores .result)
+                (mkDisk (args .image .now) (drop-stores .last .1 .0)) (drop-stores .ensures (args .image .now)) (if1 .left)
+                (first-unsealed .result) (first-unsealed .ensures .1 (args .image .now) (pre .1 .0 .image-long) (pre .1 .1 .0 .0))
+                (omega (arith, if2 .left))) .is-it)) .1)
+                ∙ not-false (args .ragged) (if4 .left)) (lowest-free .result)
+                (lowest-free .ensures .1 (seen (args .p) (mkDisk (args .image .now) (args .pointers .now))) 0 (pre .1 .1 .0 .0)),
+            to-apart (args .p) (ranged (args .p) (pre .0)) (args .count) (mkDisk (args .image .now) (args .pointers .now)) (pre .1 .0)
+                (pre .1 .1 .1 .0) (args .kept .now) (pre .1 .1 .0 .0) (drop-stores .result)
+                (mkDisk (args .image .now) (drop-stores .last .1 .0)) (drop-stores .ensures (args .image .now)) (if1 .left)
+                (first-unsealed .result) (omega (arith, if2 .left))
+                (only (args .p) (ranged (args .p) (pre .0)) (args .count) (mkDisk (args .image .now) (args .pointers .now)) (pre .1 .0)
+                (pre .1 .1 .1 .0) (args .kept .now) (pre .1 .1 .0 .0) (drop-stores .result)
+                (mkDisk (args .image .now) (drop-stores .last .1 .0)) (drop-stores .ensures (args .image .now)) (if1 .left)
+                (first-unsealed .result) (first-unsealed .ensures .1 (args .image .now) (pre .1 .0 .image-long) (pre .1 .1 .0 .0))
+                (omega (arith, if2 .left))) (sym ((pre .1 .1 .1 .1
+                (segmentOf (args .p) (seen (args .p) (mkDisk (args .image .now) (args .pointers .now))) 0 (first-unsealed .result))
+                ((only (args .p) (ranged (args .p) (pre .0)) (args .count) (mkDisk (args .image .now) (args .pointers .now)) (pre .1 .0)
+                (pre .1 .1 .1 .0) (args .kept .now) (pre .1 .1 .0 .0) (drop-stores .result)
+                (mkDisk (args .image .now) (drop-stores .last .1 .0)) (drop-stores .ensures (args .image .now)) (if1 .left)
+                (first-unsealed .result) (first-unsealed .ensures .1 (args .image .now) (pre .1 .0 .image-long) (pre .1 .1 .0 .0))
+                (omega (arith, if2 .left))) .is-it)) .0)
+                ∙ if3 .left) (sym ((pre .1 .1 .1 .1
+                (segmentOf (args .p) (seen (args .p) (mkDisk (args .image .now) (args .pointers .now))) 0 (first-unsealed .result))
+                ((only (args .p) (ranged (args .p) (pre .0)) (args .count) (mkDisk (args .image .now) (args .pointers .now)) (pre .1 .0)
+                (pre .1 .1 .1 .0) (args .kept .now) (pre .1 .1 .0 .0) (drop-stores .result)
+                (mkDisk (args .image .now) (drop-stores .last .1 .0)) (drop-stores .ensures (args .image .now)) (if1 .left)
+                (first-unsealed .result) (first-unsealed .ensures .1 (args .image .now) (pre .1 .0 .image-long) (pre .1 .1 .0 .0))
+                (omega (arith, if2 .left))) .is-it)) .1)
+                ∙ not-false (args .ragged) (if4 .left)) (lowest-free .result)
+                (lowest-free .ensures .1 (seen (args .p) (mkDisk (args .image .now) (args .pointers .now))) 0 (pre .1 .1 .0 .0)),
+          ),
+          (
+            (
+              old-serial (args .p) (ranged (args .p) (pre .0)) (args .count) (mkDisk (args .image .now) (args .pointers .now)) (pre .1 .0)
+                  (pre .1 .1 .1 .0) (args .kept .now) (pre .1 .1 .0 .0) (drop-stores .result)
+                  (mkDisk (args .image .now) (drop-stores .last .1 .0)) (drop-stores .ensures (args .image .now)) (if1 .left)
+                  (first-unsealed .result) (omega (arith, if2 .left))
+                  (only (args .p) (ranged (args .p) (pre .0)) (args .count) (mkDisk (args .image .now) (args .pointers .now)) (pre .1 .0)
+                  (pre .1 .1 .1 .0) (args .kept .now) (pre .1 .1 .0 .0) (drop-stores .result)
+                  (mkDisk (args .image .now) (drop-stores .last .1 .0)) (drop-stores .ensures (args .image .now)) (if1 .left)
+                  (first-unsealed .result) (first-unsealed .ensures .1 (args .image .now) (pre .1 .0 .image-long) (pre .1 .1 .0 .0))
+                  (omega (arith, if2 .left))) (sym ((pre .1 .1 .1 .1
+                  (segmentOf (args .p) (seen (args .p) (mkDisk (args .image .now) (args .pointers .now))) 0 (first-unsealed .result))
+                  ((only (args .p) (ranged (args .p) (pre .0)) (args .count) (mkDisk (args .image .now) (args .pointers .now))
+                  (pre .1 .0) (pre .1 .1 .1 .0) (args .kept .now) (pre .1 .1 .0 .0) (drop-stores .result)
+                  (mkDisk (args .image .now) (drop-stores .last .1 .0)) (drop-stores .ensures (args .image .now)) (if1 .left)
+                  (first-unsealed .result)
+                  (first-unsealed .ensures .1 (args .image .now) (pre .1 .0 .image-long) (pre .1 .1 .0 .0))
+                  (omega (arith, if2 .left))) .is-it)) .0)
+                  ∙ if3 .left) (sym ((pre .1 .1 .1 .1
+                  (segmentOf (args .p) (seen (args .p) (mkDisk (args .image .now) (args .pointers .now))) 0 (first-unsealed .result))
+                  ((only (args .p) (ranged (args .p) (pre .0)) (args .count) (mkDisk (args .image .now) (args .pointers .now))
+                  (pre .1 .0) (pre .1 .1 .1 .0) (args .kept .now) (pre .1 .1 .0 .0) (drop-stores .result)
+                  (mkDisk (args .image .now) (drop-stores .last .1 .0)) (drop-stores .ensures (args .image .now)) (if1 .left)
+                  (first-unsealed .result)
+                  (first-unsealed .ensures .1 (args .image .now) (pre .1 .0 .image-long) (pre .1 .1 .0 .0))
+                  (omega (arith, if2 .left))) .is-it)) .1)
+                  ∙ not-false (args .ragged) (if4 .left)) (lowest-free .result)
+                  (lowest-free .ensures .1 (seen (args .p) (mkDisk (args .image .now) (args .pointers .now))) 0 (pre .1 .1 .0 .0))
+                  (getD (args .serials .now) (first-unsealed .result) 0)
+                  ((pre .1 .1 .0 .1) .1 (first-unsealed .result) (omega (arith, if2 .left))),
+              to-empty (args .p) (ranged (args .p) (pre .0)) (args .count) (mkDisk (args .image .now) (args .pointers .now)) (pre .1 .0)
+                  (pre .1 .1 .1 .0) (args .kept .now) (pre .1 .1 .0 .0) (drop-stores .result)
+                  (mkDisk (args .image .now) (drop-stores .last .1 .0)) (drop-stores .ensures (args .image .now)) (if1 .left)
+                  (first-unsealed .result) (omega (arith, if2 .left))
+                  (only (args .p) (ranged (args .p) (pre .0)) (args .count) (mkDisk (args .image .now) (args .pointers .now)) (pre .1 .0)
+                  (pre .1 .1 .1 .0) (args .kept .now) (pre .1 .1 .0 .0) (drop-stores .result)
+                  (mkDisk (args .image .now) (drop-stores .last .1 .0)) (drop-stores .ensures (args .image .now)) (if1 .left)
+                  (first-unsealed .result) (first-unsealed .ensures .1 (args .image .now) (pre .1 .0 .image-long) (pre .1 .1 .0 .0))
+                  (omega (arith, if2 .left))) (sym ((pre .1 .1 .1 .1
+                  (segmentOf (args .p) (seen (args .p) (mkDisk (args .image .now) (args .pointers .now))) 0 (first-unsealed .result))
+                  ((only (args .p) (ranged (args .p) (pre .0)) (args .count) (mkDisk (args .image .now) (args .pointers .now))
+                  (pre .1 .0) (pre .1 .1 .1 .0) (args .kept .now) (pre .1 .1 .0 .0) (drop-stores .result)
+                  (mkDisk (args .image .now) (drop-stores .last .1 .0)) (drop-stores .ensures (args .image .now)) (if1 .left)
+                  (first-unsealed .result)
+                  (first-unsealed .ensures .1 (args .image .now) (pre .1 .0 .image-long) (pre .1 .1 .0 .0))
+                  (omega (arith, if2 .left))) .is-it)) .0)
+                  ∙ if3 .left) (sym ((pre .1 .1 .1 .1
+                  (segmentOf (args .p) (seen (args .p) (mkDisk (args .image .now) (args .pointers .now))) 0 (first-unsealed .result))
+                  ((only (args .p) (ranged (args .p) (pre .0)) (args .count) (mkDisk (args .image .now) (args .pointers .now))
+                  (pre .1 .0) (pre .1 .1 .1 .0) (args .kept .now) (pre .1 .1 .0 .0) (drop-stores .result)
+                  (mkDisk (args .image .now) (drop-stores .last .1 .0)) (drop-stores .ensures (args .image .now)) (if1 .left)
+                  (first-unsealed .result)
+                  (first-unsealed .ensures .1 (args .image .now) (pre .1 .0 .image-long) (pre .1 .1 .0 .0))
+                  (omega (arith, if2 .left))) .is-it)) .1)
+                  ∙ not-false (args .ragged) (if4 .left)) (lowest-free .result)
+                  (lowest-free .ensures .1 (seen (args .p) (mkDisk (args .image .now) (args .pointers .now))) 0 (pre .1 .1 .0 .0)),
+            ),
+            moves-fit (args .p) (ranged (args .p) (pre .0)) (args .count) (mkDisk (args .image .now) (args .pointers .now)) (pre .1 .0)
+                (pre .1 .1 .1 .0) (args .kept .now) (pre .1 .1 .0 .0) (drop-stores .result)
+                (mkDisk (args .image .now) (drop-stores .last .1 .0)) (drop-stores .ensures (args .image .now)) (if1 .left)
+                (first-unsealed .result) (omega (arith, if2 .left))
+                (only (args .p) (ranged (args .p) (pre .0)) (args .count) (mkDisk (args .image .now) (args .pointers .now)) (pre .1 .0)
+                (pre .1 .1 .1 .0) (args .kept .now) (pre .1 .1 .0 .0) (drop-stores .result)
+                (mkDisk (args .image .now) (drop-stores .last .1 .0)) (drop-stores .ensures (args .image .now)) (if1 .left)
+                (first-unsealed .result) (first-unsealed .ensures .1 (args .image .now) (pre .1 .0 .image-long) (pre .1 .1 .0 .0))
+                (omega (arith, if2 .left))) (sym ((pre .1 .1 .1 .1
+                (segmentOf (args .p) (seen (args .p) (mkDisk (args .image .now) (args .pointers .now))) 0 (first-unsealed .result))
+                ((only (args .p) (ranged (args .p) (pre .0)) (args .count) (mkDisk (args .image .now) (args .pointers .now)) (pre .1 .0)
+                (pre .1 .1 .1 .0) (args .kept .now) (pre .1 .1 .0 .0) (drop-stores .result)
+                (mkDisk (args .image .now) (drop-stores .last .1 .0)) (drop-stores .ensures (args .image .now)) (if1 .left)
+                (first-unsealed .result) (first-unsealed .ensures .1 (args .image .now) (pre .1 .0 .image-long) (pre .1 .1 .0 .0))
+                (omega (arith, if2 .left))) .is-it)) .0)
+                ∙ if3 .left) (sym ((pre .1 .1 .1 .1
+                (segmentOf (args .p) (seen (args .p) (mkDisk (args .image .now) (args .pointers .now))) 0 (first-unsealed .result))
+                ((only (args .p) (ranged (args .p) (pre .0)) (args .count) (mkDisk (args .image .now) (args .pointers .now)) (pre .1 .0)
+                (pre .1 .1 .1 .0) (args .kept .now) (pre .1 .1 .0 .0) (drop-stores .result)
+                (mkDisk (args .image .now) (drop-stores .last .1 .0)) (drop-stores .ensures (args .image .now)) (if1 .left)
+                (first-unsealed .result) (first-unsealed .ensures .1 (args .image .now) (pre .1 .0 .image-long) (pre .1 .1 .0 .0))
+                (omega (arith, if2 .left))) .is-it)) .1)
+                ∙ not-false (args .ragged) (if4 .left)) (lowest-free .result)
+                (lowest-free .ensures .1 (seen (args .p) (mkDisk (args .image .now) (args .pointers .now))) 0 (pre .1 .1 .0 .0))
+                (greatest-serial .result .0 + 1) (add-one (greatest-serial .result .0)
+                ∙ ap suc (greatest-serial .ensures (seen (args .p) (mkDisk (args .image .now) (args .pointers .now))) 0 (pre .1 .1 .0 .0)
+                (pre .1 .1 .0 .1))),
+          ),
+        ),
+      ),
+    )
 
 same-length-6 : tie.Need-same-length-6
 same-length-6 c = search needs
@@ -76,7 +458,50 @@ same-length-7 : tie.Need-same-length-7
 same-length-7 c = search needs
 
 returns-5 : tie.Need-returns-5
-returns-5 c = refit-rewrite (c .before .before .before .before .before .before .before .before .before .before .before .before .before .before .before .before .before .before .before .before .before .before .before .before .before .before .args .p) (ranged (c .before .before .before .before .before .before .before .before .before .before .before .before .before .before .before .before .before .before .before .before .before .before .before .before .before .before .args .p) (c .before .before .before .before .before .before .before .before .before .before .before .before .before .before .before .before .before .before .before .before .before .before .before .before .before .before .pre .0)) (c .before .before .before .before .before .before .before .before .before .before .before .before .before .before .before .before .before .before .before .before .before .before .before .before .before .before .args .count) (mkDisk (c .before .before .before .before .before .before .before .before .before .before .before .before .before .before .before .before .before .before .before .before .before .before .before .before .before .before .args .image .now) (c .before .before .before .before .before .before .before .before .before .before .before .before .before .before .before .before .before .before .before .before .before .before .before .before .before .before .args .pointers .now)) (c .before .before .before .before .before .before .before .before .before .before .before .before .before .before .before .before .before .before .before .before .before .before .before .before .before .before .pre .1 .0) (c .before .before .before .before .before .before .before .before .before .before .before .before .before .before .before .before .before .before .before .before .before .before .before .before .before .before .pre .1 .1 .1 .0) (c .before .before .before .before .before .before .before .before .before .before .before .before .before .before .before .before .before .before .before .before .before .before .before .before .before .before .args .kept .now) (c .before .before .before .before .before .before .before .before .before .before .before .before .before .before .before .before .before .before .before .before .before .before .before .before .before .before .pre .1 .1 .0 .0) (c .before .before .before .before .before .before .before .before .before .before .before .before .before .before .before .before .before .before .drop-stores .result) (mkDisk (c .before .before .before .before .before .before .before .before .before .before .before .before .before .before .before .before .before .before .before .before .before .before .before .before .before .before .args .image .now) (c .before .before .before .before .before .before .before .before .before .before .before .before .before .before .before .before .before .before .drop-stores .last .1 .0)) (c .before .before .before .before .before .before .before .before .before .before .before .before .before .before .before .before .before .before .drop-stores .ensures (c .before .before .before .before .before .before .before .before .before .before .before .before .before .before .before .before .before .before .before .before .before .before .before .before .before .before .args .image .now)) (c .before .before .before .before .before .before .before .before .before .before .before .before .before .before .before .if1 .left) (c .before .before .before .before .before .before .before .before .before .before .before .before .before .before .before .before .before .before .before .before .first-unsealed .result) (omega (arith, c .before .before .before .before .before .before .before .before .before .before .before .before .before .if2 .left)) (only (c .before .before .before .before .before .before .before .before .before .before .before .before .before .before .before .before .before .before .before .before .before .before .before .before .before .before .args .p) (ranged (c .before .before .before .before .before .before .before .before .before .before .before .before .before .before .before .before .before .before .before .before .before .before .before .before .before .before .args .p) (c .before .before .before .before .before .before .before .before .before .before .before .before .before .before .before .before .before .before .before .before .before .before .before .before .before .before .pre .0)) (c .before .before .before .before .before .before .before .before .before .before .before .before .before .before .before .before .before .before .before .before .before .before .before .before .before .before .args .count) (mkDisk (c .before .before .before .before .before .before .before .before .before .before .before .before .before .before .before .before .before .before .before .before .before .before .before .before .before .before .args .image .now) (c .before .before .before .before .before .before .before .before .before .before .before .before .before .before .before .before .before .before .before .before .before .before .before .before .before .before .args .pointers .now)) (c .before .before .before .before .before .before .before .before .before .before .before .before .before .before .before .before .before .before .before .before .before .before .before .before .before .before .pre .1 .0) (c .before .before .before .before .before .before .before .before .before .before .before .before .before .before .before .before .before .before .before .before .before .before .before .before .before .before .pre .1 .1 .1 .0) (c .before .before .before .before .before .before .before .before .before .before .before .before .before .before .before .before .before .before .before .before .before .before .before .before .before .before .args .kept .now) (c .before .before .before .before .before .before .before .before .before .before .before .before .before .before .before .before .before .before .before .before .before .before .before .before .before .before .pre .1 .1 .0 .0) (c .before .before .before .before .before .before .before .before .before .before .before .before .before .before .before .before .before .before .drop-stores .result) (mkDisk (c .before .before .before .before .before .before .before .before .before .before .before .before .before .before .before .before .before .before .before .before .before .before .before .before .before .before .args .image .now) (c .before .before .before .before .before .before .before .before .before .before .before .before .before .before .before .before .before .before .drop-stores .last .1 .0)) (c .before .before .before .before .before .before .before .before .before .before .before .before .before .before .before .before .before .before .drop-stores .ensures (c .before .before .before .before .before .before .before .before .before .before .before .before .before .before .before .before .before .before .before .before .before .before .before .before .before .before .args .image .now)) (c .before .before .before .before .before .before .before .before .before .before .before .before .before .before .before .if1 .left) (c .before .before .before .before .before .before .before .before .before .before .before .before .before .before .before .before .before .before .before .before .first-unsealed .result) (c .before .before .before .before .before .before .before .before .before .before .before .before .before .before .before .before .before .before .before .before .first-unsealed .ensures .1 (c .before .before .before .before .before .before .before .before .before .before .before .before .before .before .before .before .before .before .before .before .before .before .before .before .before .before .args .image .now) (c .before .before .before .before .before .before .before .before .before .before .before .before .before .before .before .before .before .before .before .before .before .before .before .before .before .before .pre .1 .0 .image-long) (c .before .before .before .before .before .before .before .before .before .before .before .before .before .before .before .before .before .before .before .before .before .before .before .before .before .before .pre .1 .1 .0 .0)) (omega (arith, c .before .before .before .before .before .before .before .before .before .before .before .before .before .if2 .left))) (sym ((c .before .before .before .before .before .before .before .before .before .before .before .before .before .before .before .before .before .before .before .before .before .before .before .before .before .before .pre .1 .1 .1 .1 (segmentOf (c .before .before .before .before .before .before .before .before .before .before .before .before .before .before .before .before .before .before .before .before .before .before .before .before .before .before .args .p) (seen (c .before .before .before .before .before .before .before .before .before .before .before .before .before .before .before .before .before .before .before .before .before .before .before .before .before .before .args .p) (mkDisk (c .before .before .before .before .before .before .before .before .before .before .before .before .before .before .before .before .before .before .before .before .before .before .before .before .before .before .args .image .now) (c .before .before .before .before .before .before .before .before .before .before .before .before .before .before .before .before .before .before .before .before .before .before .before .before .before .before .args .pointers .now))) 0 (c .before .before .before .before .before .before .before .before .before .before .before .before .before .before .before .before .before .before .before .before .first-unsealed .result)) ((only (c .before .before .before .before .before .before .before .before .before .before .before .before .before .before .before .before .before .before .before .before .before .before .before .before .before .before .args .p) (ranged (c .before .before .before .before .before .before .before .before .before .before .before .before .before .before .before .before .before .before .before .before .before .before .before .before .before .before .args .p) (c .before .before .before .before .before .before .before .before .before .before .before .before .before .before .before .before .before .before .before .before .before .before .before .before .before .before .pre .0)) (c .before .before .before .before .before .before .before .before .before .before .before .before .before .before .before .before .before .before .before .before .before .before .before .before .before .before .args .count) (mkDisk (c .before .before .before .before .before .before .before .before .before .before .before .before .before .before .before .before .before .before .before .before .before .before .before .before .before .before .args .image .now) (c .before .before .before .before .before .before .before .before .before .before .before .before .before .before .before .before .before .before .before .before .before .before .before .before .before .before .args .pointers .now)) (c .before .before .before .before .before .before .before .before .before .before .before .before .before .before .before .before .before .before .before .before .before .before .before .before .before .before .pre .1 .0) (c .before .before .before .before .before .before .before .before .before .before .before .before .before .before .before .before .before .before .before .before .before .before .before .before .before .before .pre .1 .1 .1 .0) (c .before .before .before .before .before .before .before .before .before .before .before .before .before .before .before .before .before .before .before .before .before .before .before .before .before .before .args .kept .now) (c .before .before .before .before .before .before .before .before .before .before .before .before .before .before .before .before .before .before .before .before .before .before .before .before .before .before .pre .1 .1 .0 .0) (c .before .before .before .before .before .before .before .before .before .before .before .before .before .before .before .before .before .before .drop-stores .result) (mkDisk (c .before .before .before .before .before .before .before .before .before .before .before .before .before .before .before .before .before .before .before .before .before .before .before .before .before .before .args .image .now) (c .before .before .before .before .before .before .before .before .before .before .before .before .before .before .before .before .before .before .drop-stores .last .1 .0)) (c .before .before .before .before .before .before .before .before .before .before .before .before .before .before .before .before .before .before .drop-stores .ensures (c .before .before .before .before .before .before .before .before .before .before .before .before .before .before .before .before .before .before .before .before .before .before .before .before .before .before .args .image .now)) (c .before .before .before .before .before .before .before .before .before .before .before .before .before .before .before .if1 .left) (c .before .before .before .before .before .before .before .before .before .before .before .before .before .before .before .before .before .before .before .before .first-unsealed .result) (c .before .before .before .before .before .before .before .before .before .before .before .before .before .before .before .before .before .before .before .before .first-unsealed .ensures .1 (c .before .before .before .before .before .before .before .before .before .before .before .before .before .before .before .before .before .before .before .before .before .before .before .before .before .before .args .image .now) (c .before .before .before .before .before .before .before .before .before .before .before .before .before .before .before .before .before .before .before .before .before .before .before .before .before .before .pre .1 .0 .image-long) (c .before .before .before .before .before .before .before .before .before .before .before .before .before .before .before .before .before .before .before .before .before .before .before .before .before .before .pre .1 .1 .0 .0)) (omega (arith, c .before .before .before .before .before .before .before .before .before .before .before .before .before .if2 .left))) .is-it)) .0) ∙ c .before .before .before .before .before .before .before .before .before .before .before .before .if3 .left) (sym ((c .before .before .before .before .before .before .before .before .before .before .before .before .before .before .before .before .before .before .before .before .before .before .before .before .before .before .pre .1 .1 .1 .1 (segmentOf (c .before .before .before .before .before .before .before .before .before .before .before .before .before .before .before .before .before .before .before .before .before .before .before .before .before .before .args .p) (seen (c .before .before .before .before .before .before .before .before .before .before .before .before .before .before .before .before .before .before .before .before .before .before .before .before .before .before .args .p) (mkDisk (c .before .before .before .before .before .before .before .before .before .before .before .before .before .before .before .before .before .before .before .before .before .before .before .before .before .before .args .image .now) (c .before .before .before .before .before .before .before .before .before .before .before .before .before .before .before .before .before .before .before .before .before .before .before .before .before .before .args .pointers .now))) 0 (c .before .before .before .before .before .before .before .before .before .before .before .before .before .before .before .before .before .before .before .before .first-unsealed .result)) ((only (c .before .before .before .before .before .before .before .before .before .before .before .before .before .before .before .before .before .before .before .before .before .before .before .before .before .before .args .p) (ranged (c .before .before .before .before .before .before .before .before .before .before .before .before .before .before .before .before .before .before .before .before .before .before .before .before .before .before .args .p) (c .before .before .before .before .before .before .before .before .before .before .before .before .before .before .before .before .before .before .before .before .before .before .before .before .before .before .pre .0)) (c .before .before .before .before .before .before .before .before .before .before .before .before .before .before .before .before .before .before .before .before .before .before .before .before .before .before .args .count) (mkDisk (c .before .before .before .before .before .before .before .before .before .before .before .before .before .before .before .before .before .before .before .before .before .before .before .before .before .before .args .image .now) (c .before .before .before .before .before .before .before .before .before .before .before .before .before .before .before .before .before .before .before .before .before .before .before .before .before .before .args .pointers .now)) (c .before .before .before .before .before .before .before .before .before .before .before .before .before .before .before .before .before .before .before .before .before .before .before .before .before .before .pre .1 .0) (c .before .before .before .before .before .before .before .before .before .before .before .before .before .before .before .before .before .before .before .before .before .before .before .before .before .before .pre .1 .1 .1 .0) (c .before .before .before .before .before .before .before .before .before .before .before .before .before .before .before .before .before .before .before .before .before .before .before .before .before .before .args .kept .now) (c .before .before .before .before .before .before .before .before .before .before .before .before .before .before .before .before .before .before .before .before .before .before .before .before .before .before .pre .1 .1 .0 .0) (c .before .before .before .before .before .before .before .before .before .before .before .before .before .before .before .before .before .before .drop-stores .result) (mkDisk (c .before .before .before .before .before .before .before .before .before .before .before .before .before .before .before .before .before .before .before .before .before .before .before .before .before .before .args .image .now) (c .before .before .before .before .before .before .before .before .before .before .before .before .before .before .before .before .before .before .drop-stores .last .1 .0)) (c .before .before .before .before .before .before .before .before .before .before .before .before .before .before .before .before .before .before .drop-stores .ensures (c .before .before .before .before .before .before .before .before .before .before .before .before .before .before .before .before .before .before .before .before .before .before .before .before .before .before .args .image .now)) (c .before .before .before .before .before .before .before .before .before .before .before .before .before .before .before .if1 .left) (c .before .before .before .before .before .before .before .before .before .before .before .before .before .before .before .before .before .before .before .before .first-unsealed .result) (c .before .before .before .before .before .before .before .before .before .before .before .before .before .before .before .before .before .before .before .before .first-unsealed .ensures .1 (c .before .before .before .before .before .before .before .before .before .before .before .before .before .before .before .before .before .before .before .before .before .before .before .before .before .before .args .image .now) (c .before .before .before .before .before .before .before .before .before .before .before .before .before .before .before .before .before .before .before .before .before .before .before .before .before .before .pre .1 .0 .image-long) (c .before .before .before .before .before .before .before .before .before .before .before .before .before .before .before .before .before .before .before .before .before .before .before .before .before .before .pre .1 .1 .0 .0)) (omega (arith, c .before .before .before .before .before .before .before .before .before .before .before .before .before .if2 .left))) .is-it)) .1) ∙ not-false (c .before .before .before .before .before .before .before .before .before .before .before .before .before .before .before .before .before .before .before .before .before .before .before .before .before .before .args .ragged) (c .before .before .before .before .before .before .before .before .before .before .before .if4 .left)) (c .before .before .before .before .before .before .before .before .before .before .lowest-free .result) (c .before .before .before .before .before .before .before .before .before .before .lowest-free .ensures .1 (seen (c .before .before .before .before .before .before .before .before .before .before .before .before .before .before .before .before .before .before .before .before .before .before .before .before .before .before .args .p) (mkDisk (c .before .before .before .before .before .before .before .before .before .before .before .before .before .before .before .before .before .before .before .before .before .before .before .before .before .before .args .image .now) (c .before .before .before .before .before .before .before .before .before .before .before .before .before .before .before .before .before .before .before .before .before .before .before .before .before .before .args .pointers .now))) 0 (c .before .before .before .before .before .before .before .before .before .before .before .before .before .before .before .before .before .before .before .before .before .before .before .before .before .before .pre .1 .1 .0 .0)) (c .before .before .before .before .before .before .before .before .before .greatest-serial .result .0 + 1) (add-one (c .before .before .before .before .before .before .before .before .before .greatest-serial .result .0) ∙ ap suc (c .before .before .before .before .before .before .before .before .before .greatest-serial .ensures (seen (c .before .before .before .before .before .before .before .before .before .before .before .before .before .before .before .before .before .before .before .before .before .before .before .before .before .before .args .p) (mkDisk (c .before .before .before .before .before .before .before .before .before .before .before .before .before .before .before .before .before .before .before .before .before .before .before .before .before .before .args .image .now) (c .before .before .before .before .before .before .before .before .before .before .before .before .before .before .before .before .before .before .before .before .before .before .before .before .before .before .args .pointers .now))) 0 (c .before .before .before .before .before .before .before .before .before .before .before .before .before .before .before .before .before .before .before .before .before .before .before .before .before .before .pre .1 .1 .0 .0) (c .before .before .before .before .before .before .before .before .before .before .before .before .before .before .before .before .before .before .before .before .before .before .before .before .before .before .pre .1 .1 .0 .1))) (c .before .before .before .before .rewrite .result) (mkDisk (c .before .before .before .before .rewrite .last .1 .0) (c .before .before .before .before .rewrite .last .1 .1 .0)) (c .before .before .before .before .rewrite .ensures)
+returns-5 c =
+    let rewrite = c .before .before .before .before .rewrite in
+    let greatest-serial = c .before .before .before .before .before .before .before .before .before .greatest-serial in
+    let lowest-free = c .before .before .before .before .before .before .before .before .before .before .lowest-free in
+    let if4 = c .before .before .before .before .before .before .before .before .before .before .before .if4 in
+    let if3 = c .before .before .before .before .before .before .before .before .before .before .before .before .if3 in
+    let if2 = c .before .before .before .before .before .before .before .before .before .before .before .before .before .if2 in
+    let if1 = c .before .before .before .before .before .before .before .before .before .before .before .before .before .before .before .if1 in
+    let drop-stores = c .before .before .before .before .before .before .before .before .before .before .before .before .before .before .before .before .before .before .drop-stores in
+    let at = c .before .before .before .before .before .before .before .before .before .before .before .before .before .before .before .before .before in
+    let first-unsealed′′ =
+    c .before .before .before .before .before .before .before .before .before .before .before .before .before .before .before .before .before .before .before .before .first-unsealed in
+    let first-unsealed′ =
+    first-unsealed′′ in
+    let first-unsealed =
+    first-unsealed′ in
+    let entry =
+    at
+    .before .before .before .before .before .before .before .before .before in
+    let args = entry .args in
+    let pre = entry .pre in
+    refit-rewrite (args .p) (ranged (args .p) (pre .0)) (args .count) (mkDisk (args .image .now) (args .pointers .now)) (pre .1 .0) (pre .1 .1 .1 .0)
+    (args .kept .now) (pre .1 .1 .0 .0) (drop-stores .result) (mkDisk (args .image .now) (drop-stores .last .1 .0))
+    (drop-stores .ensures (args .image .now)) (if1 .left) (first-unsealed .result) (omega (arith, if2 .left))
+    (only (args .p) (ranged (args .p) (pre .0)) (args .count) (mkDisk (args .image .now) (args .pointers .now)) (pre .1 .0) (pre .1 .1 .1 .0)
+    (args .kept .now) (pre .1 .1 .0 .0) (drop-stores .result) (mkDisk (args .image .now) (drop-stores .last .1 .0))
+    (drop-stores .ensures (args .image .now)) (if1 .left) (first-unsealed .result)
+    (first-unsealed .ensures .1 (args .image .now) (pre .1 .0 .image-long) (pre .1 .1 .0 .0)) (omega (arith, if2 .left)))
+    (sym ((pre .1 .1 .1 .1 (segmentOf (args .p) (seen (args .p) (mkDisk (args .image .now) (args .pointers .now))) 0 (first-unsealed .result))
+    ((only (args .p) (ranged (args .p) (pre .0)) (args .count) (mkDisk (args .image .now) (args .pointers .now)) (pre .1 .0)
+    (pre .1 .1 .1 .0) (args .kept .now) (pre .1 .1 .0 .0) (drop-stores .result) (mkDisk (args .image .now) (drop-stores .last .1 .0))
+    (drop-stores .ensures (args .image .now)) (if1 .left) (first-unsealed .result)
+    (first-unsealed .ensures .1 (args .image .now) (pre .1 .0 .image-long) (pre .1 .1 .0 .0)) (omega (arith, if2 .left))) .is-it)) .0)
+    ∙ if3 .left) (sym ((pre .1 .1 .1 .1
+    (segmentOf (args .p) (seen (args .p) (mkDisk (args .image .now) (args .pointers .now))) 0 (first-unsealed .result))
+    ((only (args .p) (ranged (args .p) (pre .0)) (args .count) (mkDisk (args .image .now) (args .pointers .now)) (pre .1 .0)
+    (pre .1 .1 .1 .0) (args .kept .now) (pre .1 .1 .0 .0) (drop-stores .result) (mkDisk (args .image .now) (drop-stores .last .1 .0))
+    (drop-stores .ensures (args .image .now)) (if1 .left) (first-unsealed .result)
+    (first-unsealed .ensures .1 (args .image .now) (pre .1 .0 .image-long) (pre .1 .1 .0 .0)) (omega (arith, if2 .left))) .is-it)) .1)
+    ∙ not-false (args .ragged) (if4 .left)) (lowest-free .result)
+    (lowest-free .ensures .1 (seen (args .p) (mkDisk (args .image .now) (args .pointers .now))) 0 (pre .1 .1 .0 .0))
+    (greatest-serial .result .0 + 1) (add-one (greatest-serial .result .0)
+    ∙ ap suc (greatest-serial .ensures (seen (args .p) (mkDisk (args .image .now) (args .pointers .now))) 0 (pre .1 .1 .0 .0) (pre .1 .1 .0 .1)))
+    (rewrite .result) (mkDisk (rewrite .last .1 .0) (rewrite .last .1 .1 .0)) (rewrite .ensures)
 
 pub healthy-stores-spec : {M : Type 1} → statement M
 healthy-stores-spec =

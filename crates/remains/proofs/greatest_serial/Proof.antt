@@ -15,7 +15,9 @@ abbrev μ-loop : tie.MeasureT-loop
 μ-loop p kept serials most₀ g₀ most g = p .Z - g
 
 loop-holds : tie.Need-loop-holds Inv-loop μ-loop
-loop-holds c = (omega arith, sym (greatest-first (c .before .before .args .kept .now) (c .before .before .args .serials .now)))
+loop-holds c =
+    let args = c .before .before .args in
+    (omega arith, sym (greatest-first (args .kept .now) (args .serials .now)))
 
 shared-slice-read-greater-if : tie.Need-shared-slice-read-greater-if Inv-loop μ-loop
 shared-slice-read-greater-if c = omega arith
@@ -36,10 +38,24 @@ loop-less : tie.Need-loop-less Inv-loop μ-loop
 loop-less c = omega arith
 
 loop-again : tie.Need-loop-again Inv-loop μ-loop
-loop-again c = (omega (arith, c .before .before .before .if1 .taken), c .greater-if .ensures ∙ ap (λ (x : ℕ). cond (getD (c .before .before .before .before .before .before .before .before .args .kept .now) (c .before .before .before .before .before .loop .g) false) (max x (getD (c .before .before .before .before .before .before .before .before .args .serials .now) (c .before .before .before .before .before .loop .g) 0)) x) (c .before .before .before .before .before .loop .inv .1) ∙ sym (greatest-next (c .before .before .before .before .before .loop .g) (c .before .before .before .before .before .before .before .before .args .kept .now) (c .before .before .before .before .before .before .before .before .args .serials .now)))
+loop-again c =
+    let if1 = c .before .before .before .if1 in
+    let loop = c .before .before .before .before .before .loop in
+    let args = c .before .before .before .before .before .before .before .before .args in (
+      omega (arith, if1 .taken),
+      c .greater-if .ensures
+          ∙ ap (λ (x : ℕ). cond (getD (args .kept .now) (loop .g) false) (max x (getD (args .serials .now) (loop .g) 0)) x) (loop .inv .1)
+          ∙ sym (greatest-next (loop .g) (args .kept .now) (args .serials .now)),
+    )
 
 returns : tie.Need-returns Inv-loop μ-loop
-returns c = λ v gone a b. c .before .before .loop .inv .1 ∙ ap (λ (x : ℕ). greatestIn x (c .before .before .before .before .before .args .kept .now) (c .before .before .before .before .before .args .serials .now)) (let q : c .before .before .loop .g ≡ c .before .before .before .before .before .args .p .Z = omega (arith, c .if1 .left, c .before .before .loop .inv .0) in q) ∙ greatest-all (c .before .before .before .before .before .args .p) v gone (c .before .before .before .before .before .args .kept .now) (c .before .before .before .before .before .args .serials .now) a b
+returns c =
+    let loop = c .before .before .loop in
+    let args = c .before .before .before .before .before .args in
+    λ v gone a b. loop .inv .1
+    ∙ ap (λ (x : ℕ). greatestIn x (args .kept .now) (args .serials .now))
+    (let q : loop .g ≡ args .p .Z = omega (arith, c .if1 .left, loop .inv .0) in q)
+    ∙ greatest-all (args .p) v gone (args .kept .now) (args .serials .now) a b
 
 pub greatest-serial-spec : {M : Type 1} → statement M
 greatest-serial-spec =

@@ -14,7 +14,10 @@ use Rattle.remains.proofs.is_left.Statement.{statement}
 use Rattle.remains.proofs.is_left.Tie as tie
 
 abbrev Inv-loop : tie.InvT-loop
-Inv-loop p pointers gone g d₀ d = (d ≤ p .N) × (all (λ e. isIn gone e || not (eqb (pointerOf p pointers e (zoneOn g e)) 0)) (upFrom d (p .N - d)) ≡ all (λ e. isIn gone e || not (eqb (pointerOf p pointers e (zoneOn g e)) 0)) (below (p .N)))
+Inv-loop p pointers gone g d₀ d =
+    (d ≤ p .N)
+    × (all (λ e. isIn gone e || not (eqb (pointerOf p pointers e (zoneOn g e)) 0)) (upFrom d (p .N - d))
+    ≡ all (λ e. isIn gone e || not (eqb (pointerOf p pointers e (zoneOn g e)) 0)) (below (p .N)))
 
 abbrev μ-loop : tie.MeasureT-loop
 μ-loop p pointers gone g d₀ d = p .N - d
@@ -28,15 +31,23 @@ loop-holds c =
     (omega arith, all-start f (p .N))
 
 is-used-requires : tie.Need-is-used-requires Inv-loop μ-loop
-is-used-requires c κs = (c .before .before .before .before .pre .0, (c .before .before .before .before .pre .1 .0, c .if1 .taken, c .before .before .before .before .pre .1 .1))
+is-used-requires c κs =
+    let pre = c .before .before .before .before .pre in
+    (pre .0, (pre .1 .0, c .if1 .taken, pre .1 .1))
 
 returns : tie.Need-returns Inv-loop μ-loop
 returns c =
     let a = c .before .before .before .before .before .before .args in
+    let if1 = c .before .before .if1 in
+    let loop = c .before .before .before .before .loop in
+    let pre = c .before .before .before .before .before .before .pre in
     let p = a .p in
     let ps = a .pointers .now in
     let f : ℕ → Bool = λ e. isIn (a .gone) e || not (eqb (pointerOf p ps e (zoneOn (a .g) e)) 0) in
-    λ im h. (sym (all-broken f (c .before .before .before .before .loop .d) (p .N) (c .before .before .if1 .taken) (sym (c .before .is-used .ensures) ∙ not-true (c .before .is-used .result) (c .if2 .taken))) ∙ c .before .before .before .before .loop .inv .1) ∙ sym (left-bytes p im ps h (c .before .before .before .before .before .before .pre .1 .0) (ranged p (c .before .before .before .before .before .before .pre .0)) (a .gone) (a .g) (c .before .before .before .before .before .before .pre .1 .1))
+    λ im h. (sym
+    (all-broken f (loop .d) (p .N) (if1 .taken) (sym (c .before .is-used .ensures) ∙ not-true (c .before .is-used .result) (c .if2 .taken)))
+    ∙ loop .inv .1)
+    ∙ sym (left-bytes p im ps h (pre .1 .0) (ranged p (pre .0)) (a .gone) (a .g) (pre .1 .1))
 
 add-d : tie.Need-add-d Inv-loop μ-loop
 add-d c = omega arith
@@ -47,18 +58,22 @@ loop-less c = omega arith
 loop-again : tie.Need-loop-again Inv-loop μ-loop
 loop-again c =
     let a = c .before .before .before .before .before .before .args in
+    let if1 = c .before .before .if1 in
+    let loop = c .before .before .before .before .loop in
     let p = a .p in
     let ps = a .pointers .now in
     let f : ℕ → Bool = λ e. isIn (a .gone) e || not (eqb (pointerOf p ps e (zoneOn (a .g) e)) 0) in
-    (omega (arith, c .before .before .if1 .taken), sym (all-passed f (c .before .before .before .before .loop .d) (p .N) (c .before .before .if1 .taken) (sym (c .before .is-used .ensures) ∙ not-false (c .before .is-used .result) (c .if2 .left))) ∙ c .before .before .before .before .loop .inv .1)
+    (omega (arith, if1 .taken), sym (all-passed f (loop .d) (p .N) (if1 .taken) (sym (c .before .is-used .ensures) ∙ not-false (c .before .is-used .result) (c .if2 .left))) ∙ loop .inv .1)
 
 returns-2 : tie.Need-returns-2 Inv-loop μ-loop
 returns-2 c =
     let a = c .before .before .before .before .args in
+    let loop = c .before .before .loop in
+    let pre = c .before .before .before .before .pre in
     let p = a .p in
     let ps = a .pointers .now in
     let f : ℕ → Bool = λ e. isIn (a .gone) e || not (eqb (pointerOf p ps e (zoneOn (a .g) e)) 0) in
-    λ im h. (sym (all-ended f (c .before .before .loop .d) (p .N) (omega (arith, c .if1 .left))) ∙ c .before .before .loop .inv .1) ∙ sym (left-bytes p im ps h (c .before .before .before .before .pre .1 .0) (ranged p (c .before .before .before .before .pre .0)) (a .gone) (a .g) (c .before .before .before .before .pre .1 .1))
+    λ im h. (sym (all-ended f (loop .d) (p .N) (omega (arith, c .if1 .left))) ∙ loop .inv .1) ∙ sym (left-bytes p im ps h (pre .1 .0) (ranged p (pre .0)) (a .gone) (a .g) (pre .1 .1))
 
 pub is-left-spec : {M : Type 1} → statement M
 is-left-spec =

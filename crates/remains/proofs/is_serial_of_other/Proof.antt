@@ -12,7 +12,10 @@ use Rattle.remains.proofs.is_serial_of_other.Statement.{statement}
 use Rattle.remains.proofs.is_serial_of_other.Tie as tie
 
 abbrev Inv-loop : tie.InvT-loop
-Inv-loop p flags serials g c h₀ h = (h ≤ p .Z) × (any (λ x. getD flags x false && (not (eqb x g) && eqb (getD serials x 0) (c .0))) (upFrom h (p .Z - h)) ≡ any (λ x. getD flags x false && (not (eqb x g) && eqb (getD serials x 0) (c .0))) (below (p .Z)))
+Inv-loop p flags serials g c h₀ h =
+    (h ≤ p .Z)
+    × (any (λ x. getD flags x false && (not (eqb x g) && eqb (getD serials x 0) (c .0))) (upFrom h (p .Z - h))
+    ≡ any (λ x. getD flags x false && (not (eqb x g) && eqb (getD serials x 0) (c .0))) (below (p .Z)))
 
 abbrev μ-loop : tie.MeasureT-loop
 μ-loop p flags serials g c h₀ h = p .Z - h
@@ -39,8 +42,10 @@ returns : tie.Need-returns Inv-loop μ-loop
 unfolding otherSerial
 returns c =
     let a = c .before .before .before .before .before .before .before .before .before .args in
+    let if1 = c .before .before .before .before .if1 in
+    let loop = c .before .before .before .before .before .before .loop in
     let f : ℕ → Bool = λ x. getD (a .flags .now) x false && (not (eqb x (a .g)) && eqb (getD (a .serials .now) x 0) (a .c .0)) in
-    sym (any-found f (c .before .before .before .before .before .before .loop .h) (a .p .Z) (c .before .before .before .before .if1 .taken) (sym (c .before .is-other .ensures) ∙ c .if2 .taken)) ∙ c .before .before .before .before .before .before .loop .inv .1
+    sym (any-found f (loop .h) (a .p .Z) (if1 .taken) (sym (c .before .is-other .ensures) ∙ c .if2 .taken)) ∙ loop .inv .1
 
 add-h : tie.Need-add-h Inv-loop μ-loop
 add-h c = omega arith
@@ -51,15 +56,18 @@ loop-less c = omega arith
 loop-again : tie.Need-loop-again Inv-loop μ-loop
 loop-again c =
     let a = c .before .before .before .before .before .before .before .before .before .args in
+    let if1 = c .before .before .before .before .if1 in
+    let loop = c .before .before .before .before .before .before .loop in
     let f : ℕ → Bool = λ x. getD (a .flags .now) x false && (not (eqb x (a .g)) && eqb (getD (a .serials .now) x 0) (a .c .0)) in
-    (omega (arith, c .before .before .before .before .if1 .taken), sym (any-passed f (c .before .before .before .before .before .before .loop .h) (a .p .Z) (c .before .before .before .before .if1 .taken) (sym (c .before .is-other .ensures) ∙ c .if2 .left)) ∙ c .before .before .before .before .before .before .loop .inv .1)
+    (omega (arith, if1 .taken), sym (any-passed f (loop .h) (a .p .Z) (if1 .taken) (sym (c .before .is-other .ensures) ∙ c .if2 .left)) ∙ loop .inv .1)
 
 returns-2 : tie.Need-returns-2 Inv-loop μ-loop
 unfolding otherSerial
 returns-2 c =
     let a = c .before .before .before .before .before .args in
+    let loop = c .before .before .loop in
     let f : ℕ → Bool = λ x. getD (a .flags .now) x false && (not (eqb x (a .g)) && eqb (getD (a .serials .now) x 0) (a .c .0)) in
-    sym (any-ended f (c .before .before .loop .h) (a .p .Z) (omega (arith, c .if1 .left))) ∙ c .before .before .loop .inv .1
+    sym (any-ended f (loop .h) (a .p .Z) (omega (arith, c .if1 .left))) ∙ loop .inv .1
 
 pub is-serial-of-other-spec : {M : Type 1} → statement M
 is-serial-of-other-spec =

@@ -22,7 +22,9 @@ low-drive-requires : tie.Need-low-drive-requires Inv-loop μ-loop
 low-drive-requires c κs = c .before .before .before .pre .0
 
 left-requires : tie.Need-left-requires Inv-loop μ-loop
-left-requires c κs = (c .before .before .before .before .pre .0, c .before .before .before .before .pre .1 .0 .pointers-long)
+left-requires c κs =
+    let pre = c .before .before .before .before .pre in
+    (pre .0, pre .1 .0 .pointers-long)
 
 loop-holds : tie.Need-loop-holds Inv-loop μ-loop
 loop-holds c = (omega arith, length-replicate {A = Bool} 1024 false, λ j l. absurd (let q : ⊥ = omega (arith, l) in q))
@@ -31,11 +33,31 @@ slice-aggregate-is-kept : tie.Need-slice-aggregate-is-kept Inv-loop μ-loop
 slice-aggregate-is-kept c = search needs
 
 is-kept-requires : tie.Need-is-kept-requires Inv-loop μ-loop
-is-kept-requires c κs = let f = c .before .before .before .before .left .ensures (c .before .before .before .before .before .before .before .before .before .args .image .now) (c .before .before .before .before .before .before .before .before .before .pre .1 .0 .image-long) .0 in
-    (c .before .before .before .before .before .before .before .before .before .pre .0, (c .before .before .before .before .before .before .before .before .before .pre .1 .0 .image-long, c .before .before .before .before .before .low-drive .ensures .1, c .before .if1 .taken, omega (arith, f, ranged (c .before .before .before .before .before .before .before .before .before .args .p) (c .before .before .before .before .before .before .before .before .before .pre .0) .zones-high), omega (arith, c .before .before .before .before .before .before .before .before .before .pre .1 .1 .0, ranged (c .before .before .before .before .before .before .before .before .before .args .p) (c .before .before .before .before .before .before .before .before .before .pre .0) .zones-high)))
+is-kept-requires c κs =
+    let left = c .before .before .before .before .left in
+    let low-drive = c .before .before .before .before .before .low-drive in
+    let entry = c .before .before .before .before .before .before .before .before .before in
+    let args = entry .args in
+    let pre = entry .pre in
+    let f = left .ensures (args .image .now) (pre .1 .0 .image-long) .0 in (
+      pre .0,
+      (
+        pre .1 .0 .image-long,
+        low-drive .ensures .1,
+        c .before .if1 .taken,
+        omega (arith, f, ranged (args .p) (pre .0) .zones-high),
+        omega (arith, pre .1 .1 .0, ranged (args .p) (pre .0) .zones-high),
+      ),
+    )
 
 array-write-out : tie.Need-array-write-out Inv-loop μ-loop
-array-write-out c = omega (arith, c .before .before .before .before .loop .inv .1, c .before .before .if1 .taken, ranged (c .before .before .before .before .before .before .before .before .before .before .args .p) (c .before .before .before .before .before .before .before .before .before .before .pre .0) .zones-high)
+array-write-out c =
+    let if1 = c .before .before .if1 in
+    let loop = c .before .before .before .before .loop in
+    let entry = c .before .before .before .before .before .before .before .before .before .before in
+    let args = entry .args in
+    let pre = entry .pre in
+    omega (arith, loop .inv .1, if1 .taken, ranged (args .p) (pre .0) .zones-high)
 
 add-g : tie.Need-add-g Inv-loop μ-loop
 add-g c = omega arith
@@ -44,15 +66,26 @@ loop-less : tie.Need-loop-less Inv-loop μ-loop
 loop-less c = omega arith
 
 loop-again : tie.Need-loop-again Inv-loop μ-loop
-loop-again c = (
-  omega (arith, c .before .before .if1 .taken),
-  length-set (c .before .before .before .before .loop .out) (c .before .before .before .before .loop .g) (c .is-kept .result) ∙ c .before .before .before .before .loop .inv .1,
-  set-more (c .before .before .before .before .loop .out) (c .before .before .before .before .loop .g) (c .is-kept .result) false (remains (c .before .before .before .before .before .before .before .before .before .before .args .p) (viewOf (c .before .before .before .before .before .before .before .before .before .before .args .p) (c .before .before .before .before .before .before .before .before .before .before .args .image .now) (c .before .before .before .before .before .before .before .before .before .before .args .pointers .now)) (c .before .before .before .before .before .before .before .before .before .before .args .gone)) (omega (arith, c .before .before .before .before .loop .inv .1, c .before .before .if1 .taken, ranged (c .before .before .before .before .before .before .before .before .before .before .args .p) (c .before .before .before .before .before .before .before .before .before .before .pre .0) .zones-high)) (c .before .before .before .before .loop .inv .2)
-      (c .is-kept .ensures (c .before .before .before .before .before .before .before .before .before .before .args .pointers .now) (c .before .before .before .before .before .before .before .before .before .before .args .gone) (c .before .before .before .before .before .before .before .before .before .before .pre .1 .0 .pointers-long) (c .before .before .before .before .before .before .low-drive .ensures .0) (c .before .before .before .before .before .left .ensures (c .before .before .before .before .before .before .before .before .before .before .args .image .now) (c .before .before .before .before .before .before .before .before .before .before .pre .1 .0 .image-long)) (c .before .before .before .before .before .before .before .before .before .before .pre .1 .1)),
-)
+loop-again c =
+    let if1 = c .before .before .if1 in
+    let loop = c .before .before .before .before .loop in
+    let left = c .before .before .before .before .before .left in
+    let low-drive = c .before .before .before .before .before .before .low-drive in
+    let entry = c .before .before .before .before .before .before .before .before .before .before in
+    let args = entry .args in
+    let pre = entry .pre in (
+      omega (arith, if1 .taken),
+      length-set (loop .out) (loop .g) (c .is-kept .result) ∙ loop .inv .1,
+      set-more (loop .out) (loop .g) (c .is-kept .result) false
+          (remains (args .p) (viewOf (args .p) (args .image .now) (args .pointers .now)) (args .gone))
+          (omega (arith, loop .inv .1, if1 .taken, ranged (args .p) (pre .0) .zones-high)) (loop .inv .2)
+          (c .is-kept .ensures (args .pointers .now) (args .gone) (pre .1 .0 .pointers-long) (low-drive .ensures .0) (left .ensures (args .image .now) (pre .1 .0 .image-long)) (pre .1 .1)),
+    )
 
 returns : tie.Need-returns Inv-loop μ-loop
-returns c = (c .before .before .loop .inv .1, λ j l. c .before .before .loop .inv .2 j (omega (arith, l, c .if1 .left)))
+returns c =
+    let loop = c .before .before .loop in
+    (loop .inv .1, λ j l. loop .inv .2 j (omega (arith, l, c .if1 .left)))
 
 pub kept-spec : {M : Type 1} → statement M
 kept-spec =

@@ -23,10 +23,16 @@ loop-holds : tie.Need-loop-holds Inv-loop μ-loop
 loop-holds c = (omega arith, length-replicate {A = Bool} 1024 false, λ im h j l. absurd (let q : ⊥ = omega (arith, l) in q))
 
 is-left-requires : tie.Need-is-left-requires Inv-loop μ-loop
-is-left-requires c κs = (c .before .before .before .before .pre .0, (c .before .before .before .before .pre .1, c .if1 .taken))
+is-left-requires c κs =
+    let pre = c .before .before .before .before .pre in
+    (pre .0, (pre .1, c .if1 .taken))
 
 array-write-out : tie.Need-array-write-out Inv-loop μ-loop
-array-write-out c = omega (arith, c .before .before .before .loop .inv .1, c .before .if1 .taken, ranged (c .before .before .before .before .before .args .p) (c .before .before .before .before .before .pre .0) .zones-high)
+array-write-out c =
+    let entry = c .before .before .before .before .before in
+    let args = entry .args in
+    let pre = entry .pre in
+    omega (arith, c .before .before .before .loop .inv .1, c .before .if1 .taken, ranged (args .p) (pre .0) .zones-high)
 
 add-g : tie.Need-add-g Inv-loop μ-loop
 add-g c = omega arith
@@ -35,14 +41,21 @@ loop-less : tie.Need-loop-less Inv-loop μ-loop
 loop-less c = omega arith
 
 loop-again : tie.Need-loop-again Inv-loop μ-loop
-loop-again c = (
-  omega (arith, c .before .if1 .taken),
-  length-set (c .before .before .before .loop .out) (c .before .before .before .loop .g) (c .is-left .result) ∙ c .before .before .before .loop .inv .1,
-  λ im h. set-more (c .before .before .before .loop .out) (c .before .before .before .loop .g) (c .is-left .result) false (isLeft (c .before .before .before .before .before .args .p) (viewOf (c .before .before .before .before .before .args .p) im (c .before .before .before .before .before .args .pointers .now)) (c .before .before .before .before .before .args .gone)) (omega (arith, c .before .before .before .loop .inv .1, c .before .if1 .taken, ranged (c .before .before .before .before .before .args .p) (c .before .before .before .before .before .pre .0) .zones-high)) (c .before .before .before .loop .inv .2 im h) (c .is-left .ensures im h),
-)
+loop-again c =
+    let loop = c .before .before .before .loop in
+    let entry = c .before .before .before .before .before in
+    let args = entry .args in
+    let pre = entry .pre in (
+      omega (arith, c .before .if1 .taken),
+      length-set (loop .out) (loop .g) (c .is-left .result) ∙ loop .inv .1,
+      λ im h. set-more (loop .out) (loop .g) (c .is-left .result) false (isLeft (args .p) (viewOf (args .p) im (args .pointers .now)) (args .gone))
+          (omega (arith, loop .inv .1, c .before .if1 .taken, ranged (args .p) (pre .0) .zones-high)) (loop .inv .2 im h) (c .is-left .ensures im h),
+    )
 
 returns : tie.Need-returns Inv-loop μ-loop
-returns c = λ im h. (c .before .before .loop .inv .1, λ j l. c .before .before .loop .inv .2 im h j (omega (arith, l, c .if1 .left)))
+returns c =
+    let loop = c .before .before .loop in
+    λ im h. (loop .inv .1, λ j l. loop .inv .2 im h j (omega (arith, l, c .if1 .left)))
 
 pub left-spec : {M : Type 1} → statement M
 left-spec =

@@ -25,7 +25,11 @@ has-drive-requires c κs = tt
 
 returns : tie.Need-returns Inv-loop μ-loop
 unfolding lowDrive present drivesOf
-returns c = (sym (first-turn (λ x. not (isIn (c .before .before .before .before .before .args .gone) x)) (c .before .before .before .before .loop .d) (c .before .before .before .before .before .args .p .N) (c .before .before .if1 .taken) (ap not (sym (c .before .has-drive .ensures)) ∙ c .if2 .taken)) ∙ c .before .before .before .before .loop .inv .1, c .before .before .if1 .taken)
+returns c =
+    let if1 = c .before .before .if1 in
+    let loop = c .before .before .before .before .loop in
+    let args = c .before .before .before .before .before .args in
+    (sym (first-turn (λ x. not (isIn (args .gone) x)) (loop .d) (args .p .N) (if1 .taken) (ap not (sym (c .before .has-drive .ensures)) ∙ c .if2 .taken)) ∙ loop .inv .1, if1 .taken)
 
 add-d : tie.Need-add-d Inv-loop μ-loop
 add-d c = omega arith
@@ -34,11 +38,20 @@ loop-less : tie.Need-loop-less Inv-loop μ-loop
 loop-less c = omega arith
 
 loop-again : tie.Need-loop-again Inv-loop μ-loop
-loop-again c = (omega (arith, c .before .before .if1 .taken), sym (first-pass (λ x. not (isIn (c .before .before .before .before .before .args .gone) x)) (c .before .before .before .before .loop .d) (c .before .before .before .before .before .args .p .N) (c .before .before .if1 .taken) (ap not (sym (c .before .has-drive .ensures)) ∙ c .if2 .left)) ∙ c .before .before .before .before .loop .inv .1)
+loop-again c =
+    let if1 = c .before .before .if1 in
+    let loop = c .before .before .before .before .loop in
+    let args = c .before .before .before .before .before .args in
+    (omega (arith, if1 .taken), sym (first-pass (λ x. not (isIn (args .gone) x)) (loop .d) (args .p .N) (if1 .taken) (ap not (sym (c .before .has-drive .ensures)) ∙ c .if2 .left)) ∙ loop .inv .1)
 
 returns-2 : tie.Need-returns-2 Inv-loop μ-loop
 unfolding lowDrive present drivesOf
-returns-2 c = (sym (first-end (λ x. not (isIn (c .before .before .before .args .gone) x)) (c .before .before .loop .d) (c .before .before .before .args .p .N) (omega (arith, c .if1 .left))) ∙ c .before .before .loop .inv .1, omega (arith, ranged (c .before .before .before .args .p) (c .before .before .before .pre) .drives-low))
+returns-2 c =
+    let loop = c .before .before .loop in
+    let entry = c .before .before .before in
+    let args = entry .args in
+    let pre = entry .pre in
+    (sym (first-end (λ x. not (isIn (args .gone) x)) (loop .d) (args .p .N) (omega (arith, c .if1 .left))) ∙ loop .inv .1, omega (arith, ranged (args .p) (pre) .drives-low))
 
 pub low-drive-spec : {M : Type 1} → statement M
 low-drive-spec =

@@ -27,8 +27,13 @@ shared-slice-read-if2 c = omega arith
 returns : tie.Need-returns Inv-loop μ-loop
 returns c =
     let a = c .before .before .before .before .before .args in
-    let f : ℕ → Bool = λ x. not (getD (a .kept .now) x false) in
-    (omega (arith, c .before .before .if1 .taken), λ v gone k. (sym (lowest-turn f (a .p .Z) (c .before .before .before .before .loop .z) (a .p .Z) (c .before .before .if1 .taken) (c .if2 .taken)) ∙ c .before .before .before .before .loop .inv .1) ∙ ap (firstOr (a .p .Z)) (sym (free-list (a .p) v gone (a .kept .now) k)))
+    let if1 = c .before .before .if1 in
+    let loop = c .before .before .before .before .loop in
+    let f : ℕ → Bool = λ x. not (getD (a .kept .now) x false) in (
+      omega (arith, if1 .taken),
+      λ v gone k. (sym (lowest-turn f (a .p .Z) (loop .z) (a .p .Z) (if1 .taken) (c .if2 .taken)) ∙ loop .inv .1)
+          ∙ ap (firstOr (a .p .Z)) (sym (free-list (a .p) v gone (a .kept .now) k)),
+    )
 
 add-z : tie.Need-add-z Inv-loop μ-loop
 add-z c = omega arith
@@ -39,14 +44,17 @@ loop-less c = omega arith
 loop-again : tie.Need-loop-again Inv-loop μ-loop
 loop-again c =
     let a = c .before .before .before .before .before .args in
+    let if1 = c .before .before .if1 in
+    let loop = c .before .before .before .before .loop in
     let f : ℕ → Bool = λ x. not (getD (a .kept .now) x false) in
-    (omega (arith, c .before .before .if1 .taken), sym (lowest-pass f (a .p .Z) (c .before .before .before .before .loop .z) (a .p .Z) (c .before .before .if1 .taken) (c .if2 .left)) ∙ c .before .before .before .before .loop .inv .1)
+    (omega (arith, if1 .taken), sym (lowest-pass f (a .p .Z) (loop .z) (a .p .Z) (if1 .taken) (c .if2 .left)) ∙ loop .inv .1)
 
 returns-2 : tie.Need-returns-2 Inv-loop μ-loop
 returns-2 c =
     let a = c .before .before .before .args in
+    let loop = c .before .before .loop in
     let f : ℕ → Bool = λ x. not (getD (a .kept .now) x false) in
-    (omega arith, λ v gone k. (sym (lowest-end f (a .p .Z) (c .before .before .loop .z) (a .p .Z) (omega (arith, c .if1 .left))) ∙ c .before .before .loop .inv .1) ∙ ap (firstOr (a .p .Z)) (sym (free-list (a .p) v gone (a .kept .now) k)))
+    (omega arith, λ v gone k. (sym (lowest-end f (a .p .Z) (loop .z) (a .p .Z) (omega (arith, c .if1 .left))) ∙ loop .inv .1) ∙ ap (firstOr (a .p .Z)) (sym (free-list (a .p) v gone (a .kept .now) k)))
 
 pub lowest-free-spec : {M : Type 1} → statement M
 lowest-free-spec =

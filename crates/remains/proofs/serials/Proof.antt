@@ -27,13 +27,23 @@ loop-holds : tie.Need-loop-holds Inv-loop μ-loop
 loop-holds c = (omega arith, length-replicate {A = ℕ} 1024 0, λ ps h j l. absurd (let q : ⊥ = omega (arith, l) in q))
 
 serial-on-requires : tie.Need-serial-on-requires Inv-loop μ-loop
-serial-on-requires c κs = (c .before .before .before .before .before .pre .0, (c .before .before .before .before .before .pre .1, c .before .before .before .low-drive .ensures .1, c .if1 .taken))
+serial-on-requires c κs =
+    let pre = c .before .before .before .before .before .pre in
+    (pre .0, (pre .1, c .before .before .before .low-drive .ensures .1, c .if1 .taken))
 
 mul-out : tie.Need-mul-out Inv-loop μ-loop
-mul-out c = omega (arith, c .before .before .before .loop .inv .1, c .before .if1 .taken, ranged (c .before .before .before .before .before .before .args .p) (c .before .before .before .before .before .before .pre .0) .zones-high)
+mul-out c =
+    let entry = c .before .before .before .before .before .before in
+    let args = entry .args in
+    let pre = entry .pre in
+    omega (arith, c .before .before .before .loop .inv .1, c .before .if1 .taken, ranged (args .p) (pre .0) .zones-high)
 
 array-write-out : tie.Need-array-write-out Inv-loop μ-loop
-array-write-out c = omega (arith, c .before .before .before .loop .inv .1, c .before .if1 .taken, ranged (c .before .before .before .before .before .before .args .p) (c .before .before .before .before .before .before .pre .0) .zones-high)
+array-write-out c =
+    let entry = c .before .before .before .before .before .before in
+    let args = entry .args in
+    let pre = entry .pre in
+    omega (arith, c .before .before .before .loop .inv .1, c .before .if1 .taken, ranged (args .p) (pre .0) .zones-high)
 
 add-g : tie.Need-add-g Inv-loop μ-loop
 add-g c = omega arith
@@ -43,15 +53,23 @@ loop-less c = omega arith
 
 loop-again : tie.Need-loop-again Inv-loop μ-loop
 unfolding serialOf
-loop-again c = (
-  omega (arith, c .before .if1 .taken),
-  length-set (c .before .before .before .loop .out) (c .before .before .before .loop .g) (c .serial-on .result .0) ∙ c .before .before .before .loop .inv .1,
-  λ ps h. set-more (c .before .before .before .loop .out) (c .before .before .before .loop .g) (c .serial-on .result .0) 0 (serialOf (c .before .before .before .before .before .before .args .p) (viewOf (c .before .before .before .before .before .before .args .p) (c .before .before .before .before .before .before .args .image .now) ps) (c .before .before .before .before .before .before .args .gone)) (omega (arith, c .before .before .before .loop .inv .1, c .before .if1 .taken, ranged (c .before .before .before .before .before .before .args .p) (c .before .before .before .before .before .before .pre .0) .zones-high)) (c .before .before .before .loop .inv .2 ps h)
-      (c .serial-on .ensures ps h ∙ ap (λ (d : ℕ). headerSerial (headerAt (viewOf (c .before .before .before .before .before .before .args .p) (c .before .before .before .before .before .before .args .image .now) ps) d (c .before .before .before .loop .g))) (c .before .before .before .before .low-drive .ensures .0)),
-)
+loop-again c =
+    let loop = c .before .before .before .loop in
+    let low-drive = c .before .before .before .before .low-drive in
+    let entry = c .before .before .before .before .before .before in
+    let args = entry .args in
+    let pre = entry .pre in (
+      omega (arith, c .before .if1 .taken),
+      length-set (loop .out) (loop .g) (c .serial-on .result .0) ∙ loop .inv .1,
+      λ ps h. set-more (loop .out) (loop .g) (c .serial-on .result .0) 0 (serialOf (args .p) (viewOf (args .p) (args .image .now) ps) (args .gone))
+          (omega (arith, loop .inv .1, c .before .if1 .taken, ranged (args .p) (pre .0) .zones-high)) (loop .inv .2 ps h)
+          (c .serial-on .ensures ps h ∙ ap (λ (d : ℕ). headerSerial (headerAt (viewOf (args .p) (args .image .now) ps) d (loop .g))) (low-drive .ensures .0)),
+    )
 
 returns : tie.Need-returns Inv-loop μ-loop
-returns c = λ ps h. (c .before .before .loop .inv .1, λ j l. c .before .before .loop .inv .2 ps h j (omega (arith, l, c .if1 .left)))
+returns c =
+    let loop = c .before .before .loop in
+    λ ps h. (loop .inv .1, λ j l. loop .inv .2 ps h j (omega (arith, l, c .if1 .left)))
 
 pub serials-spec : {M : Type 1} → statement M
 serials-spec =

@@ -15,7 +15,13 @@ use Rattle.remains.proofs.unsealed_count.Statement.{statement}
 use Rattle.remains.proofs.unsealed_count.Tie as tie
 
 abbrev Inv-loop : tie.InvT-loop
-Inv-loop p pointers gone kept n₀ g₀ n g = (g ≤ p .Z) × (n ≤ g) × ((im : List ℕ) → length im ≡ imageLen p → n + length (keep (λ x. getD kept x false && not (sealedIn p (viewOf p im pointers) gone x)) (upFrom g (p .Z - g))) ≡ length (keep (λ x. getD kept x false && not (sealedIn p (viewOf p im pointers) gone x)) (below (p .Z))))
+Inv-loop p pointers gone kept n₀ g₀ n g =
+    (g ≤ p .Z)
+    × (n ≤ g)
+    × ((im : List ℕ)
+    → length im ≡ imageLen p
+    → n + length (keep (λ x. getD kept x false && not (sealedIn p (viewOf p im pointers) gone x)) (upFrom g (p .Z - g))) ≡ length
+    (keep (λ x. getD kept x false && not (sealedIn p (viewOf p im pointers) gone x)) (below (p .Z))))
 
 abbrev μ-loop : tie.MeasureT-loop
 μ-loop p pointers gone kept n₀ g₀ n g = p .Z - g
@@ -28,7 +34,9 @@ loop-holds c =
     (omega arith, omega arith, λ im h. kept-start (f im) (p .Z))
 
 is-unsealed-requires : tie.Need-is-unsealed-requires Inv-loop μ-loop
-is-unsealed-requires c κs = (c .before .before .before .before .before .pre .0, (c .before .before .before .before .before .pre .1 .0, c .before .before .before .before .before .pre .1 .1, c .if1 .taken))
+is-unsealed-requires c κs =
+    let pre = c .before .before .before .before .before .pre in
+    (pre .0, (pre .1 .0, pre .1 .1, c .if1 .taken))
 
 add-n : tie.Need-add-n Inv-loop μ-loop
 add-n c = omega arith
@@ -42,21 +50,46 @@ loop-less c = omega arith
 loop-again : tie.Need-loop-again Inv-loop μ-loop
 loop-again c =
     let a = c .before .before .before .before .before .before .before .args in
+    let if1 = c .before .before .if1 in
+    let loop = c .before .before .before .before .loop in
     let p = a .p in
     let f : List ℕ → ℕ → Bool = λ im x. getD (a .kept .now) x false && not (sealedIn p (viewOf p im (a .pointers .now)) (a .gone) x) in
-    let b : (c .before .before .before .before .loop .g + 1 ≤ p .Z) × (c .if2 .n ≤ c .before .before .before .before .loop .g + 1) × ((im : List ℕ) → length im ≡ imageLen p → c .if2 .n + length (keep (f im) (upFrom (c .before .before .before .before .loop .g + 1) (p .Z - (c .before .before .before .before .loop .g + 1)))) ≡ length (keep (f im) (below (p .Z)))) =
+    let b : (loop .g + 1 ≤ p .Z)
+    × (c .if2 .n ≤ loop .g + 1)
+    × ((im : List ℕ)
+    → length im ≡ imageLen p
+    → c .if2 .n + length (keep (f im) (upFrom (loop .g + 1) (p .Z - (loop .g + 1)))) ≡ length (keep (f im) (below (p .Z)))) =
     ⊎-elim
-    (λ w. (omega (arith, c .before .before .if1 .taken), omega (arith, w .1), λ im h. ap (λ (x : ℕ). x + length (keep (f im) (upFrom (c .before .before .before .before .loop .g + 1) (p .Z - (c .before .before .before .before .loop .g + 1))))) (w .1) ∙ sym (kept-one (f im) (c .before .before .before .before .loop .g) (p .Z) (c .before .before .before .before .loop .n) (c .before .before .if1 .taken) (sym (c .before .is-unsealed .ensures im h) ∙ w .0 .taken)) ∙ c .before .before .before .before .loop .inv .2 im h))
-    (λ w. (omega (arith, c .before .before .if1 .taken), omega (arith, w .1), λ im h. ap (λ (x : ℕ). x + length (keep (f im) (upFrom (c .before .before .before .before .loop .g + 1) (p .Z - (c .before .before .before .before .loop .g + 1))))) (w .1) ∙ sym (kept-none (f im) (c .before .before .before .before .loop .g) (p .Z) (c .before .before .before .before .loop .n) (c .before .before .if1 .taken) (sym (c .before .is-unsealed .ensures im h) ∙ w .0 .left)) ∙ c .before .before .before .before .loop .inv .2 im h))
+    (λ w. (
+      omega (arith, if1 .taken),
+      omega (arith, w .1),
+      λ im h. ap
+          (λ (x : ℕ). x + length (keep (f im) (upFrom (loop .g + 1) (p .Z - (loop .g + 1))))) (w .1)
+          ∙ sym (kept-one (f im) (loop .g) (p .Z) (loop .n) (if1 .taken) (sym (c .before .is-unsealed .ensures im h) ∙ w .0 .taken))
+          ∙ loop .inv .2 im h,
+    ))
+    (λ w. (
+      omega (arith, if1 .taken),
+      omega (arith, w .1),
+      λ im h. ap
+          (λ (x : ℕ). x + length (keep (f im) (upFrom (loop .g + 1) (p .Z - (loop .g + 1))))) (w .1)
+          ∙ sym (kept-none (f im) (loop .g) (p .Z) (loop .n) (if1 .taken) (sym (c .before .is-unsealed .ensures im h) ∙ w .0 .left))
+          ∙ loop .inv .2 im h,
+    ))
     (c .if2 .came) in
     b
 
 returns : tie.Need-returns Inv-loop μ-loop
 returns c =
     let a = c .before .before .before .before .before .args in
+    let loop = c .before .before .loop in
     let p = a .p in
-    let f : List ℕ → ℕ → Bool = λ im x. getD (a .kept .now) x false && not (sealedIn p (viewOf p im (a .pointers .now)) (a .gone) x) in
-    (omega (arith, c .before .before .loop .inv .1, c .before .before .loop .inv .0), λ im h k. sym (kept-ended (f im) (c .before .before .loop .g) (p .Z) (c .before .before .loop .n) (omega (arith, c .if1 .left))) ∙ c .before .before .loop .inv .2 im h ∙ sym (unsealed-length p (viewOf p im (a .pointers .now)) (a .gone) (a .kept .now) k))
+    let f : List ℕ → ℕ → Bool = λ im x. getD (a .kept .now) x false && not (sealedIn p (viewOf p im (a .pointers .now)) (a .gone) x) in (
+      omega (arith, loop .inv .1, loop .inv .0),
+      λ im h k. sym (kept-ended (f im) (loop .g) (p .Z) (loop .n) (omega (arith, c .if1 .left)))
+          ∙ loop .inv .2 im h
+          ∙ sym (unsealed-length p (viewOf p im (a .pointers .now)) (a .gone) (a .kept .now) k),
+    )
 
 pub unsealed-count-spec : {M : Type 1} → statement M
 unsealed-count-spec =

@@ -22,25 +22,82 @@ bad-numbers-requires : tie.Need-bad-numbers-requires
 bad-numbers-requires c κs = search needs
 
 returns : tie.Need-returns
-returns c = λ st. numbers-fail (c .before .before .before .before .before .before .before .args .p) (lentOk (c .before .before .before .before .before .before .before .args .p) (mkDisk (c .before .before .before .before .before .before .before .args .image .now) (c .before .before .before .before .before .before .before .args .pointers .now)) (mkMemory st (c .before .before .before .before .before .before .before .args .addresses .now) (c .before .before .before .before .before .before .before .args .compact .now) (c .before .before .before .before .before .before .before .args .inflight .now))) (seen (c .before .before .before .before .before .before .before .args .p) (mkDisk (c .before .before .before .before .before .before .before .args .image .now) (c .before .before .before .before .before .before .before .args .pointers .now))) (c .before .before .before .before .before .before .before .args .missing) (sym (c .before .bad-numbers .ensures) ∙ c .if1 .taken)
+returns c =
+    let args = c .before .before .before .before .before .before .before .args in
+    λ st. numbers-fail (args .p) (lentOk (args .p) (mkDisk (args .image .now) (args .pointers .now))
+    (mkMemory st (args .addresses .now) (args .compact .now) (args .inflight .now)))
+    (seen (args .p) (mkDisk (args .image .now) (args .pointers .now))) (args .missing) (sym (c .before .bad-numbers .ensures) ∙ c .if1 .taken)
 
 lent-ok-requires : tie.Need-lent-ok-requires
-lent-ok-requires c κs = (not-false (inRange (c .before .before .before .before .before .before .before .args .p)) (or-left (not (inRange (c .before .before .before .before .before .before .before .args .p))) (not (namesDrive (c .before .before .before .before .before .before .before .args .p) (c .before .before .before .before .before .before .before .args .missing))) (sym (c .before .bad-numbers .ensures) ∙ c .if1 .left)))
+lent-ok-requires c κs =
+    let args = c .before .before .before .before .before .before .before .args in
+    (not-false (inRange (args .p)) (or-left (not (inRange (args .p))) (not (namesDrive (args .p) (args .missing))) (sym (c .before .bad-numbers .ensures) ∙ c .if1 .left)))
 
 returns-2 : tie.Need-returns-2
-returns-2 c = λ st. lengths-fail (c .before .before .before .before .before .before .before .before .before .args .p) (lentOk (c .before .before .before .before .before .before .before .before .before .args .p) (mkDisk (c .before .before .before .before .before .before .before .before .before .args .image .now) (c .before .before .before .before .before .before .before .before .before .args .pointers .now)) (mkMemory st (c .before .before .before .before .before .before .before .before .before .args .addresses .now) (c .before .before .before .before .before .before .before .before .before .args .compact .now) (c .before .before .before .before .before .before .before .before .before .args .inflight .now))) (seen (c .before .before .before .before .before .before .before .before .before .args .p) (mkDisk (c .before .before .before .before .before .before .before .before .before .args .image .now) (c .before .before .before .before .before .before .before .before .before .args .pointers .now))) (c .before .before .before .before .before .before .before .before .before .args .missing) (sym (c .before .before .before .bad-numbers .ensures) ∙ c .before .before .if1 .left) (sym (c .before .lent-ok .ensures st) ∙ not-true (c .before .lent-ok .result) (c .if2 .taken))
+returns-2 c =
+    let if1 = c .before .before .if1 in
+    let bad-numbers = c .before .before .before .bad-numbers in
+    let args = c .before .before .before .before .before .before .before .before .before .args in
+    λ st. lengths-fail (args .p) (lentOk (args .p) (mkDisk (args .image .now) (args .pointers .now))
+    (mkMemory st (args .addresses .now) (args .compact .now) (args .inflight .now)))
+    (seen (args .p) (mkDisk (args .image .now) (args .pointers .now))) (args .missing) (sym (bad-numbers .ensures) ∙ if1 .left)
+    (sym (c .before .lent-ok .ensures st) ∙ not-true (c .before .lent-ok .result) (c .if2 .taken))
 
 only-drive-requires : tie.Need-only-drive-requires
 only-drive-requires c κs = search needs
 
 pointer-fault-requires : tie.Need-pointer-fault-requires
-pointer-fault-requires c κs = ((not-false (inRange (c .before .before .before .before .before .before .before .before .before .before .args .p)) (or-left (not (inRange (c .before .before .before .before .before .before .before .before .before .before .args .p))) (not (namesDrive (c .before .before .before .before .before .before .before .before .before .before .args .p) (c .before .before .before .before .before .before .before .before .before .before .args .missing))) (sym (c .before .before .before .before .bad-numbers .ensures) ∙ c .before .before .before .if1 .left))), (whole-of (c .before .before .before .before .before .before .before .before .before .before .args .p) (mkDisk (c .before .before .before .before .before .before .before .before .before .before .args .image .now) (c .before .before .before .before .before .before .before .before .before .before .args .pointers .now)) (mkMemory zeroState (c .before .before .before .before .before .before .before .before .before .before .args .addresses .now) (c .before .before .before .before .before .before .before .before .before .before .args .compact .now) (c .before .before .before .before .before .before .before .before .before .before .args .inflight .now)) (sym (c .before .before .lent-ok .ensures zeroState) ∙ not-false (c .before .before .lent-ok .result) (c .before .if2 .left))) .pointers-long)
+pointer-fault-requires c κs =
+    let lent-ok = c .before .before .lent-ok in
+    let if1 = c .before .before .before .if1 in
+    let bad-numbers = c .before .before .before .before .bad-numbers in
+    let args = c .before .before .before .before .before .before .before .before .before .before .args in (
+      (not-false (inRange (args .p))
+          (or-left (not (inRange (args .p))) (not (namesDrive (args .p) (args .missing))) (sym (bad-numbers .ensures) ∙ if1 .left))),
+      (whole-of (args .p) (mkDisk (args .image .now) (args .pointers .now))
+          (mkMemory zeroState (args .addresses .now) (args .compact .now) (args .inflight .now))
+          (sym (lent-ok .ensures zeroState) ∙ not-false (lent-ok .result) (c .before .if2 .left))) .pointers-long,
+    )
 
 returns-3 : tie.Need-returns-3
-returns-3 c = λ st. pointers-fail (c .before .before .before .before .before .before .before .before .before .before .before .before .before .args .p) (lentOk (c .before .before .before .before .before .before .before .before .before .before .before .before .before .args .p) (mkDisk (c .before .before .before .before .before .before .before .before .before .before .before .before .before .args .image .now) (c .before .before .before .before .before .before .before .before .before .before .before .before .before .args .pointers .now)) (mkMemory st (c .before .before .before .before .before .before .before .before .before .before .before .before .before .args .addresses .now) (c .before .before .before .before .before .before .before .before .before .before .before .before .before .args .compact .now) (c .before .before .before .before .before .before .before .before .before .before .before .before .before .args .inflight .now))) (seen (c .before .before .before .before .before .before .before .before .before .before .before .before .before .args .p) (mkDisk (c .before .before .before .before .before .before .before .before .before .before .before .before .before .args .image .now) (c .before .before .before .before .before .before .before .before .before .before .before .before .before .args .pointers .now))) (c .before .before .before .before .before .before .before .before .before .before .before .before .before .args .missing) (sym (c .before .before .before .before .before .before .before .bad-numbers .ensures) ∙ c .before .before .before .before .before .before .if1 .left) (sym (c .before .before .before .before .before .lent-ok .ensures st) ∙ not-false (c .before .before .before .before .before .lent-ok .result) (c .before .before .before .before .if2 .left)) (c .before .before .pointer-fault .result) (c .before .before .pointer-fault .ensures .1 (c .before .before .before .before .before .before .before .before .before .before .before .before .before .args .image .now) ((whole-of (c .before .before .before .before .before .before .before .before .before .before .before .before .before .args .p) (mkDisk (c .before .before .before .before .before .before .before .before .before .before .before .before .before .args .image .now) (c .before .before .before .before .before .before .before .before .before .before .before .before .before .args .pointers .now)) (mkMemory zeroState (c .before .before .before .before .before .before .before .before .before .before .before .before .before .args .addresses .now) (c .before .before .before .before .before .before .before .before .before .before .before .before .before .args .compact .now) (c .before .before .before .before .before .before .before .before .before .before .before .before .before .args .inflight .now)) (sym (c .before .before .before .before .before .lent-ok .ensures zeroState) ∙ not-false (c .before .before .before .before .before .lent-ok .result) (c .before .before .before .before .if2 .left))) .image-long) ∙ ap (λ (y : ℕ). firstOr (c .before .before .before .before .before .before .before .before .before .before .before .before .before .args .p .Z) (pointerFaults (c .before .before .before .before .before .before .before .before .before .before .before .before .before .args .p) (seen (c .before .before .before .before .before .before .before .before .before .before .before .before .before .args .p) (mkDisk (c .before .before .before .before .before .before .before .before .before .before .before .before .before .args .image .now) (c .before .before .before .before .before .before .before .before .before .before .before .before .before .args .pointers .now))) y)) (c .before .before .before .only-drive .ensures ∙ named-is (c .before .before .before .before .before .before .before .before .before .before .before .before .before .args .missing))) (c .if3 .taken)
+returns-3 c =
+    let pointer-fault = c .before .before .pointer-fault in
+    let only-drive = c .before .before .before .only-drive in
+    let if2 = c .before .before .before .before .if2 in
+    let lent-ok = c .before .before .before .before .before .lent-ok in
+    let if1 = c .before .before .before .before .before .before .if1 in
+    let bad-numbers = c .before .before .before .before .before .before .before .bad-numbers in
+    let args = c .before .before .before .before .before .before .before .before .before .before .before .before .before .args in
+    λ st. pointers-fail (args .p) (lentOk (args .p) (mkDisk (args .image .now) (args .pointers .now))
+    (mkMemory st (args .addresses .now) (args .compact .now) (args .inflight .now)))
+    (seen (args .p) (mkDisk (args .image .now) (args .pointers .now))) (args .missing) (sym (bad-numbers .ensures) ∙ if1 .left)
+    (sym (lent-ok .ensures st) ∙ not-false (lent-ok .result) (if2 .left)) (pointer-fault .result)
+    (pointer-fault .ensures .1 (args .image .now)
+    ((whole-of (args .p) (mkDisk (args .image .now) (args .pointers .now))
+    (mkMemory zeroState (args .addresses .now) (args .compact .now) (args .inflight .now))
+    (sym (lent-ok .ensures zeroState) ∙ not-false (lent-ok .result) (if2 .left))) .image-long)
+    ∙ ap (λ (y : ℕ). firstOr (args .p .Z) (pointerFaults (args .p) (seen (args .p) (mkDisk (args .image .now) (args .pointers .now))) y))
+    (only-drive .ensures ∙ named-is (args .missing))) (c .if3 .taken)
 
 returns-4 : tie.Need-returns-4
-returns-4 c = λ st. pointers-pass (c .before .before .before .before .before .before .before .before .before .before .before .before .before .args .p) (lentOk (c .before .before .before .before .before .before .before .before .before .before .before .before .before .args .p) (mkDisk (c .before .before .before .before .before .before .before .before .before .before .before .before .before .args .image .now) (c .before .before .before .before .before .before .before .before .before .before .before .before .before .args .pointers .now)) (mkMemory st (c .before .before .before .before .before .before .before .before .before .before .before .before .before .args .addresses .now) (c .before .before .before .before .before .before .before .before .before .before .before .before .before .args .compact .now) (c .before .before .before .before .before .before .before .before .before .before .before .before .before .args .inflight .now))) (seen (c .before .before .before .before .before .before .before .before .before .before .before .before .before .args .p) (mkDisk (c .before .before .before .before .before .before .before .before .before .before .before .before .before .args .image .now) (c .before .before .before .before .before .before .before .before .before .before .before .before .before .args .pointers .now))) (c .before .before .before .before .before .before .before .before .before .before .before .before .before .args .missing) (sym (c .before .before .before .before .before .before .before .bad-numbers .ensures) ∙ c .before .before .before .before .before .before .if1 .left) (sym (c .before .before .before .before .before .lent-ok .ensures st) ∙ not-false (c .before .before .before .before .before .lent-ok .result) (c .before .before .before .before .if2 .left)) (c .before .before .pointer-fault .result) (c .before .before .pointer-fault .ensures .1 (c .before .before .before .before .before .before .before .before .before .before .before .before .before .args .image .now) ((whole-of (c .before .before .before .before .before .before .before .before .before .before .before .before .before .args .p) (mkDisk (c .before .before .before .before .before .before .before .before .before .before .before .before .before .args .image .now) (c .before .before .before .before .before .before .before .before .before .before .before .before .before .args .pointers .now)) (mkMemory zeroState (c .before .before .before .before .before .before .before .before .before .before .before .before .before .args .addresses .now) (c .before .before .before .before .before .before .before .before .before .before .before .before .before .args .compact .now) (c .before .before .before .before .before .before .before .before .before .before .before .before .before .args .inflight .now)) (sym (c .before .before .before .before .before .lent-ok .ensures zeroState) ∙ not-false (c .before .before .before .before .before .lent-ok .result) (c .before .before .before .before .if2 .left))) .image-long) ∙ ap (λ (y : ℕ). firstOr (c .before .before .before .before .before .before .before .before .before .before .before .before .before .args .p .Z) (pointerFaults (c .before .before .before .before .before .before .before .before .before .before .before .before .before .args .p) (seen (c .before .before .before .before .before .before .before .before .before .before .before .before .before .args .p) (mkDisk (c .before .before .before .before .before .before .before .before .before .before .before .before .before .args .image .now) (c .before .before .before .before .before .before .before .before .before .before .before .before .before .args .pointers .now))) y)) (c .before .before .before .only-drive .ensures ∙ named-is (c .before .before .before .before .before .before .before .before .before .before .before .before .before .args .missing))) (omega (arith, c .if3 .left))
+returns-4 c =
+    let pointer-fault = c .before .before .pointer-fault in
+    let only-drive = c .before .before .before .only-drive in
+    let if2 = c .before .before .before .before .if2 in
+    let lent-ok = c .before .before .before .before .before .lent-ok in
+    let if1 = c .before .before .before .before .before .before .if1 in
+    let bad-numbers = c .before .before .before .before .before .before .before .bad-numbers in
+    let args = c .before .before .before .before .before .before .before .before .before .before .before .before .before .args in
+    λ st. pointers-pass (args .p) (lentOk (args .p) (mkDisk (args .image .now) (args .pointers .now))
+    (mkMemory st (args .addresses .now) (args .compact .now) (args .inflight .now)))
+    (seen (args .p) (mkDisk (args .image .now) (args .pointers .now))) (args .missing) (sym (bad-numbers .ensures) ∙ if1 .left)
+    (sym (lent-ok .ensures st) ∙ not-false (lent-ok .result) (if2 .left)) (pointer-fault .result)
+    (pointer-fault .ensures .1 (args .image .now)
+    ((whole-of (args .p) (mkDisk (args .image .now) (args .pointers .now))
+    (mkMemory zeroState (args .addresses .now) (args .compact .now) (args .inflight .now))
+    (sym (lent-ok .ensures zeroState) ∙ not-false (lent-ok .result) (if2 .left))) .image-long)
+    ∙ ap (λ (y : ℕ). firstOr (args .p .Z) (pointerFaults (args .p) (seen (args .p) (mkDisk (args .image .now) (args .pointers .now))) y))
+    (only-drive .ensures ∙ named-is (args .missing))) (omega (arith, c .if3 .left))
 
 pub checks-spec : {M : Type 1} → statement M
 checks-spec =

@@ -13,7 +13,9 @@ unfolding raggedBy
 returns-2 c = simp (ne-eqb _ _ (c .before .before .if1 .left), ne-eqb _ _ (c .if2 .taken))
 
 returns-3 : tie.Need-returns-3
-returns-3 c = ragged-last (c .before .before .before .before .before .before .args .p) (c .before .before .before .before .before .before .args .e) (c .before .before .before .if1 .left) (c .before .if2 .left)
+returns-3 c =
+    let args = c .before .before .before .before .before .before .args in
+    ragged-last (args .p) (args .e) (c .before .before .before .if1 .left) (c .before .if2 .left)
 
 pub is-ragged-spec : {M : Type 1} → statement M
 is-ragged-spec = tie.close (tie.spec returns returns-2 returns-3)

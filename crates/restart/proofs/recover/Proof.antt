@@ -20,7 +20,12 @@ same-length-2 : tie.Need-same-length-2
 same-length-2 c = search needs
 
 returns : tie.Need-returns
-returns c = λ fl. ends-refused (c .before .before .before .before .before .before .before .before .before .before .before .before .before .before .args .p) (mkDisk (c .before .before .before .before .before .before .before .before .before .before .before .before .before .before .args .image .now) (c .before .before .before .before .before .before .before .before .before .before .before .before .before .before .args .pointers .now)) (mkMemory (c .before .before .before .before .before .before .before .before .before .before .before .before .before .before .args .state) (c .before .before .before .before .before .before .before .before .before .before .before .before .before .before .args .addresses .now) (c .before .before .before .before .before .before .before .before .before .before .before .before .before .before .args .compact .now) fl) (c .before .before .before .before .before .before .before .before .before .before .before .before .before .before .args .gone) (c .before .before .before .before .before .before .before .before .before .before .before .before .before .before .args .count) (c .before .before .before .before .before .before .before .settle .result) (mkDisk (c .before .before .before .before .before .before .before .settle .last .1 .0) (c .before .before .before .before .before .before .before .settle .last .1 .1 .0)) (c .before .before .before .before .before .before .before .settle .ensures) (c .before .c .given .0 .0) (c .before .c .given .1)
+returns c =
+    let settle = c .before .before .before .before .before .before .before .settle in
+    let args = c .before .before .before .before .before .before .before .before .before .before .before .before .before .before .args in
+    λ fl. ends-refused (args .p) (mkDisk (args .image .now) (args .pointers .now))
+    (mkMemory (args .state) (args .addresses .now) (args .compact .now) fl) (args .gone) (args .count) (settle .result)
+    (mkDisk (settle .last .1 .0) (settle .last .1 .1 .0)) (settle .ensures) (c .before .c .given .0 .0) (c .before .c .given .1)
 
 enum-told : tie.Need-enum-told
 enum-told c = search needs
@@ -41,10 +46,26 @@ same-length-6 : tie.Need-same-length-6
 same-length-6 c = search needs
 
 returns-2 : tie.Need-returns-2
-returns-2 c = λ fl. ends-cut (c .before .before .before .before .before .before .before .before .before .before .before .before .before .before .before .before .before .before .before .before .before .args .p) (mkDisk (c .before .before .before .before .before .before .before .before .before .before .before .before .before .before .before .before .before .before .before .before .before .args .image .now) (c .before .before .before .before .before .before .before .before .before .before .before .before .before .before .before .before .before .before .before .before .before .args .pointers .now)) (mkMemory (c .before .before .before .before .before .before .before .before .before .before .before .before .before .before .before .before .before .before .before .before .before .args .state) (c .before .before .before .before .before .before .before .before .before .before .before .before .before .before .before .before .before .before .before .before .before .args .addresses .now) (c .before .before .before .before .before .before .before .before .before .before .before .before .before .before .before .before .before .before .before .before .before .args .compact .now) fl) (c .before .before .before .before .before .before .before .before .before .before .before .before .before .before .before .before .before .before .before .before .before .args .gone) (c .before .before .before .before .before .before .before .before .before .before .before .before .before .before .before .before .before .before .before .before .before .args .count) (c .before .before .before .before .before .before .before .before .before .before .before .before .before .before .settle .result) (mkDisk (c .before .before .before .before .before .before .before .before .before .before .before .before .before .before .settle .last .1 .0) (c .before .before .before .before .before .before .before .before .before .before .before .before .before .before .settle .last .1 .1 .0)) (c .before .before .before .before .before .before .before .before .before .before .before .before .before .before .settle .ensures) (c .before .before .before .before .before .before .before .before .enum-told .given .1) (c .before .before .before .before .before .before .before .if1 .taken) (c .before .before .before .before .cut .result) (c .before .before .before .before .cut .last .0) (c .before .before .before .before .cut .last .1 .0) (c .before .before .before .before .before .before .before .before .before .before .before .before .before .before .before .before .before .before .before .before .before .pre .1 .1 .1 .0) (c .before .before .before .before .before .before .before .before .before .before .before .before .before .before .before .before .before .before .before .before .before .pre .1 .1 .1 .1) (c .before .before .before .before .cut .ensures .0 .0) (c .before .before .before .before .cut .ensures .0 .1) (c .before .before .before .before .cut .ensures .1 .0) (c .before .before .before .before .cut .ensures .1 .1)
+returns-2 c =
+    let cut = c .before .before .before .before .cut in
+    let if1 = c .before .before .before .before .before .before .before .if1 in
+    let enum-told = c .before .before .before .before .before .before .before .before .enum-told in
+    let settle = c .before .before .before .before .before .before .before .before .before .before .before .before .before .before .settle in
+    let entry = c .before .before .before .before .before .before .before .before .before .before .before .before .before .before .before .before .before .before .before .before .before in
+    let args = entry .args in
+    let pre = entry .pre in
+    λ fl. ends-cut (args .p) (mkDisk (args .image .now) (args .pointers .now)) (mkMemory (args .state) (args .addresses .now) (args .compact .now) fl)
+    (args .gone) (args .count) (settle .result) (mkDisk (settle .last .1 .0) (settle .last .1 .1 .0)) (settle .ensures) (enum-told .given .1)
+    (if1 .taken) (cut .result) (cut .last .0) (cut .last .1 .0) (pre .1 .1 .1 .0) (pre .1 .1 .1 .1) (cut .ensures .0 .0) (cut .ensures .0 .1)
+    (cut .ensures .1 .0) (cut .ensures .1 .1)
 
 load-requires : tie.Need-load-requires
-load-requires c κs = (c .before .before .before .before .before .before .before .before .before .before .before .before .before .before .before .before .before .before .pre .0, (c .before .before .before .before .before .before .before .before .before .before .before .settle .ensures .whole-is (ap checked (c .before .before .before .before .before .enum-told .given .1)) (c .before .before .before .before .if1 .left), ((c .before .before .before .before .before .before .before .before .before .before .before .before .before .before .before .before .before .before .pre .1 .1 .1 .0, c .before .before .before .before .before .before .before .before .before .before .before .before .before .before .before .before .before .before .pre .1 .1 .1 .1), c .before .before .before .before .before .before .before .before .before .before .before .settle .ensures .good (ap checked (c .before .before .before .before .before .enum-told .given .1)) (c .before .before .before .before .if1 .left))))
+load-requires c κs =
+    let if1 = c .before .before .before .before .if1 in
+    let enum-told = c .before .before .before .before .before .enum-told in
+    let settle = c .before .before .before .before .before .before .before .before .before .before .before .settle in
+    let pre = c .before .before .before .before .before .before .before .before .before .before .before .before .before .before .before .before .before .before .pre in
+    (pre .0, (settle .ensures .whole-is (ap checked (enum-told .given .1)) (if1 .left), ((pre .1 .1 .1 .0, pre .1 .1 .1 .1), settle .ensures .good (ap checked (enum-told .given .1)) (if1 .left))))
 
 same-length-7 : tie.Need-same-length-7
 same-length-7 c = search needs
@@ -59,7 +80,19 @@ same-length-10 : tie.Need-same-length-10
 same-length-10 c = search needs
 
 returns-3 : tie.Need-returns-3
-returns-3 c = λ fl. ends-done (c .before .before .before .before .before .before .before .before .before .before .before .before .before .before .before .before .before .before .before .before .before .before .before .args .p) (mkDisk (c .before .before .before .before .before .before .before .before .before .before .before .before .before .before .before .before .before .before .before .before .before .before .before .args .image .now) (c .before .before .before .before .before .before .before .before .before .before .before .before .before .before .before .before .before .before .before .before .before .before .before .args .pointers .now)) (mkMemory (c .before .before .before .before .before .before .before .before .before .before .before .before .before .before .before .before .before .before .before .before .before .before .before .args .state) (c .before .before .before .before .before .before .before .before .before .before .before .before .before .before .before .before .before .before .before .before .before .before .before .args .addresses .now) (c .before .before .before .before .before .before .before .before .before .before .before .before .before .before .before .before .before .before .before .before .before .before .before .args .compact .now) fl) (c .before .before .before .before .before .before .before .before .before .before .before .before .before .before .before .before .before .before .before .before .before .before .before .args .gone) (c .before .before .before .before .before .before .before .before .before .before .before .before .before .before .before .before .before .before .before .before .before .before .before .args .count) (c .before .before .before .before .before .before .before .before .before .before .before .before .before .before .before .before .settle .result) (mkDisk (c .before .before .before .before .before .before .before .before .before .before .before .before .before .before .before .before .settle .last .1 .0) (c .before .before .before .before .before .before .before .before .before .before .before .before .before .before .before .before .settle .last .1 .1 .0)) (c .before .before .before .before .before .before .before .before .before .before .before .before .before .before .before .before .settle .ensures) (c .before .before .before .before .before .before .before .before .before .before .enum-told .given .1) (c .before .before .before .before .before .before .before .before .before .if1 .left) (c .before .before .before .before .load .result) (c .before .before .before .before .load .last .1 .1 .1 .0) (c .before .before .before .before .load .last .1 .1 .1 .1 .0) (c .before .before .before .before .load .ensures)
+returns-3 c =
+    let load = c .before .before .before .before .load in
+    let if1 = c .before .before .before .before .before .before .before .before .before .if1 in
+    let enum-told = c .before .before .before .before .before .before .before .before .before .before .enum-told in
+    let settle = c .before .before .before .before .before .before .before .before .before .before .before .before .before .before .before .before .settle in
+    let at = c .before .before .before .before .before .before .before .before .before .before .before .before .before .before .before .before .before in
+    let args =
+    at
+    .before .before .before .before .before .before .args in
+    λ fl. ends-done (args .p) (mkDisk (args .image .now) (args .pointers .now))
+    (mkMemory (args .state) (args .addresses .now) (args .compact .now) fl) (args .gone) (args .count) (settle .result)
+    (mkDisk (settle .last .1 .0) (settle .last .1 .1 .0)) (settle .ensures) (enum-told .given .1) (if1 .left) (load .result)
+    (load .last .1 .1 .1 .0) (load .last .1 .1 .1 .1 .0) (load .ensures)
 
 pub recover-spec : {M : Type 1} → statement M
 recover-spec =

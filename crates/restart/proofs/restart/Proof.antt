@@ -35,7 +35,12 @@ same-length-4 : tie.Need-same-length-4
 same-length-4 c = search needs
 
 returns : tie.Need-returns
-returns c = restart-refused (c .before .before .before .before .before .before .before .before .before .before .before .before .before .args .p) (mkDisk (c .before .before .before .before .before .before .before .before .before .before .before .before .before .args .image .now) (c .before .before .before .before .before .before .before .before .before .before .before .before .before .args .pointers .now)) (mkMemory (c .before .before .before .before .before .before .before .before .before .before .before .before .before .args .state) (c .before .before .before .before .before .before .before .before .before .before .before .before .before .args .addresses .now) (c .before .before .before .before .before .before .before .before .before .before .before .before .before .args .compact .now) (c .before .before .before .before .before .before .before .before .before .before .before .before .before .args .inflight .now)) (c .before .before .before .before .before .before .before .before .before .before .before .before .before .args .missing) (c .before .before .before .before .before .before .before .before .before .before .before .before .before .args .count) (c .before .c .given .0 .0) (sym (c .before .before .before .checks .ensures (c .before .before .before .before .before .before .before .before .before .before .before .before .before .args .state)) ∙ ap checked (c .before .c .given .1))
+returns c =
+    let checks = c .before .before .before .checks in
+    let args = c .before .before .before .before .before .before .before .before .before .before .before .before .before .args in
+    restart-refused (args .p) (mkDisk (args .image .now) (args .pointers .now))
+    (mkMemory (args .state) (args .addresses .now) (args .compact .now) (args .inflight .now)) (args .missing) (args .count)
+    (c .before .c .given .0 .0) (sym (checks .ensures (args .state)) ∙ ap checked (c .before .c .given .1))
 
 enum-told : tie.Need-enum-told
 enum-told c = search needs
@@ -44,7 +49,51 @@ only-drive-requires : tie.Need-only-drive-requires
 only-drive-requires c κs = search needs
 
 recover-requires : tie.Need-recover-requires
-recover-requires c κs = ((front-passed (c .before .before .before .before .before .before .before .before .before .before .before .before .before .before .before .before .before .args .p) (lentOk (c .before .before .before .before .before .before .before .before .before .before .before .before .before .before .before .before .before .args .p) (mkDisk (c .before .before .before .before .before .before .before .before .before .before .before .before .before .before .before .before .before .args .image .now) (c .before .before .before .before .before .before .before .before .before .before .before .before .before .before .before .before .before .args .pointers .now)) (mkMemory (c .before .before .before .before .before .before .before .before .before .before .before .before .before .before .before .before .before .args .state) (c .before .before .before .before .before .before .before .before .before .before .before .before .before .before .before .before .before .args .addresses .now) (c .before .before .before .before .before .before .before .before .before .before .before .before .before .before .before .before .before .args .compact .now) (c .before .before .before .before .before .before .before .before .before .before .before .before .before .before .before .before .before .args .inflight .now))) (seen (c .before .before .before .before .before .before .before .before .before .before .before .before .before .before .before .before .before .args .p) (mkDisk (c .before .before .before .before .before .before .before .before .before .before .before .before .before .before .before .before .before .args .image .now) (c .before .before .before .before .before .before .before .before .before .before .before .before .before .before .before .before .before .args .pointers .now))) (c .before .before .before .before .before .before .before .before .before .before .before .before .before .before .before .before .before .args .missing) (segments (c .before .before .before .before .before .before .before .before .before .before .before .before .before .before .before .before .before .args .p) (seen (c .before .before .before .before .before .before .before .before .before .before .before .before .before .before .before .before .before .args .p) (mkDisk (c .before .before .before .before .before .before .before .before .before .before .before .before .before .before .before .before .before .args .image .now) (c .before .before .before .before .before .before .before .before .before .before .before .before .before .before .before .before .before .args .pointers .now))) (named (c .before .before .before .before .before .before .before .before .before .before .before .before .before .before .before .before .before .args .missing))) (sym (c .before .before .before .before .before .before .before .checks .ensures (c .before .before .before .before .before .before .before .before .before .before .before .before .before .before .before .before .before .args .state)) ∙ ap checked (c .before .before .before .before .before .enum-told .given .1))) .in-range, (whole-of (c .before .before .before .before .before .before .before .before .before .before .before .before .before .before .before .before .before .args .p) (mkDisk (c .before .before .before .before .before .before .before .before .before .before .before .before .before .before .before .before .before .args .image .now) (c .before .before .before .before .before .before .before .before .before .before .before .before .before .before .before .before .before .args .pointers .now)) (mkMemory (c .before .before .before .before .before .before .before .before .before .before .before .before .before .before .before .before .before .args .state) (c .before .before .before .before .before .before .before .before .before .before .before .before .before .before .before .before .before .args .addresses .now) (c .before .before .before .before .before .before .before .before .before .before .before .before .before .before .before .before .before .args .compact .now) (c .before .before .before .before .before .before .before .before .before .before .before .before .before .before .before .before .before .args .inflight .now)) ((front-passed (c .before .before .before .before .before .before .before .before .before .before .before .before .before .before .before .before .before .args .p) (lentOk (c .before .before .before .before .before .before .before .before .before .before .before .before .before .before .before .before .before .args .p) (mkDisk (c .before .before .before .before .before .before .before .before .before .before .before .before .before .before .before .before .before .args .image .now) (c .before .before .before .before .before .before .before .before .before .before .before .before .before .before .before .before .before .args .pointers .now)) (mkMemory (c .before .before .before .before .before .before .before .before .before .before .before .before .before .before .before .before .before .args .state) (c .before .before .before .before .before .before .before .before .before .before .before .before .before .before .before .before .before .args .addresses .now) (c .before .before .before .before .before .before .before .before .before .before .before .before .before .before .before .before .before .args .compact .now) (c .before .before .before .before .before .before .before .before .before .before .before .before .before .before .before .before .before .args .inflight .now))) (seen (c .before .before .before .before .before .before .before .before .before .before .before .before .before .before .before .before .before .args .p) (mkDisk (c .before .before .before .before .before .before .before .before .before .before .before .before .before .before .before .before .before .args .image .now) (c .before .before .before .before .before .before .before .before .before .before .before .before .before .before .before .before .before .args .pointers .now))) (c .before .before .before .before .before .before .before .before .before .before .before .before .before .before .before .before .before .args .missing) (segments (c .before .before .before .before .before .before .before .before .before .before .before .before .before .before .before .before .before .args .p) (seen (c .before .before .before .before .before .before .before .before .before .before .before .before .before .before .before .before .before .args .p) (mkDisk (c .before .before .before .before .before .before .before .before .before .before .before .before .before .before .before .before .before .args .image .now) (c .before .before .before .before .before .before .before .before .before .before .before .before .before .before .before .before .before .args .pointers .now))) (named (c .before .before .before .before .before .before .before .before .before .before .before .before .before .before .before .before .before .args .missing))) (sym (c .before .before .before .before .before .before .before .checks .ensures (c .before .before .before .before .before .before .before .before .before .before .before .before .before .before .before .before .before .args .state)) ∙ ap checked (c .before .before .before .before .before .enum-told .given .1))) .lent), (subst (λ (g : ℕ). pointerFaults (c .before .before .before .before .before .before .before .before .before .before .before .before .before .before .before .before .before .args .p) (seen (c .before .before .before .before .before .before .before .before .before .before .before .before .before .before .before .before .before .args .p) (mkDisk (c .before .before .before .before .before .before .before .before .before .before .before .before .before .before .before .before .before .args .image .now) (c .before .before .before .before .before .before .before .before .before .before .before .before .before .before .before .before .before .args .pointers .now))) g ≡ []) (sym (c .before .before .before .before .only-drive .ensures ∙ named-is (c .before .before .before .before .before .before .before .before .before .before .before .before .before .before .before .before .before .args .missing))) ((front-passed (c .before .before .before .before .before .before .before .before .before .before .before .before .before .before .before .before .before .args .p) (lentOk (c .before .before .before .before .before .before .before .before .before .before .before .before .before .before .before .before .before .args .p) (mkDisk (c .before .before .before .before .before .before .before .before .before .before .before .before .before .before .before .before .before .args .image .now) (c .before .before .before .before .before .before .before .before .before .before .before .before .before .before .before .before .before .args .pointers .now)) (mkMemory (c .before .before .before .before .before .before .before .before .before .before .before .before .before .before .before .before .before .args .state) (c .before .before .before .before .before .before .before .before .before .before .before .before .before .before .before .before .before .args .addresses .now) (c .before .before .before .before .before .before .before .before .before .before .before .before .before .before .before .before .before .args .compact .now) (c .before .before .before .before .before .before .before .before .before .before .before .before .before .before .before .before .before .args .inflight .now))) (seen (c .before .before .before .before .before .before .before .before .before .before .before .before .before .before .before .before .before .args .p) (mkDisk (c .before .before .before .before .before .before .before .before .before .before .before .before .before .before .before .before .before .args .image .now) (c .before .before .before .before .before .before .before .before .before .before .before .before .before .before .before .before .before .args .pointers .now))) (c .before .before .before .before .before .before .before .before .before .before .before .before .before .before .before .before .before .args .missing) (segments (c .before .before .before .before .before .before .before .before .before .before .before .before .before .before .before .before .before .args .p) (seen (c .before .before .before .before .before .before .before .before .before .before .before .before .before .before .before .before .before .args .p) (mkDisk (c .before .before .before .before .before .before .before .before .before .before .before .before .before .before .before .before .before .args .image .now) (c .before .before .before .before .before .before .before .before .before .before .before .before .before .before .before .before .before .args .pointers .now))) (named (c .before .before .before .before .before .before .before .before .before .before .before .before .before .before .before .before .before .args .missing))) (sym (c .before .before .before .before .before .before .before .checks .ensures (c .before .before .before .before .before .before .before .before .before .before .before .before .before .before .before .before .before .args .state)) ∙ ap checked (c .before .before .before .before .before .enum-told .given .1))) .pointers-ok), (lengths-of (c .before .before .before .before .before .before .before .before .before .before .before .before .before .before .before .before .before .args .p) (mkDisk (c .before .before .before .before .before .before .before .before .before .before .before .before .before .before .before .before .before .args .image .now) (c .before .before .before .before .before .before .before .before .before .before .before .before .before .before .before .before .before .args .pointers .now)) (mkMemory (c .before .before .before .before .before .before .before .before .before .before .before .before .before .before .before .before .before .args .state) (c .before .before .before .before .before .before .before .before .before .before .before .before .before .before .before .before .before .args .addresses .now) (c .before .before .before .before .before .before .before .before .before .before .before .before .before .before .before .before .before .args .compact .now) (c .before .before .before .before .before .before .before .before .before .before .before .before .before .before .before .before .before .args .inflight .now)) ((front-passed (c .before .before .before .before .before .before .before .before .before .before .before .before .before .before .before .before .before .args .p) (lentOk (c .before .before .before .before .before .before .before .before .before .before .before .before .before .before .before .before .before .args .p) (mkDisk (c .before .before .before .before .before .before .before .before .before .before .before .before .before .before .before .before .before .args .image .now) (c .before .before .before .before .before .before .before .before .before .before .before .before .before .before .before .before .before .args .pointers .now)) (mkMemory (c .before .before .before .before .before .before .before .before .before .before .before .before .before .before .before .before .before .args .state) (c .before .before .before .before .before .before .before .before .before .before .before .before .before .before .before .before .before .args .addresses .now) (c .before .before .before .before .before .before .before .before .before .before .before .before .before .before .before .before .before .args .compact .now) (c .before .before .before .before .before .before .before .before .before .before .before .before .before .before .before .before .before .args .inflight .now))) (seen (c .before .before .before .before .before .before .before .before .before .before .before .before .before .before .before .before .before .args .p) (mkDisk (c .before .before .before .before .before .before .before .before .before .before .before .before .before .before .before .before .before .args .image .now) (c .before .before .before .before .before .before .before .before .before .before .before .before .before .before .before .before .before .args .pointers .now))) (c .before .before .before .before .before .before .before .before .before .before .before .before .before .before .before .before .before .args .missing) (segments (c .before .before .before .before .before .before .before .before .before .before .before .before .before .before .before .before .before .args .p) (seen (c .before .before .before .before .before .before .before .before .before .before .before .before .before .before .before .before .before .args .p) (mkDisk (c .before .before .before .before .before .before .before .before .before .before .before .before .before .before .before .before .before .args .image .now) (c .before .before .before .before .before .before .before .before .before .before .before .before .before .before .before .before .before .args .pointers .now))) (named (c .before .before .before .before .before .before .before .before .before .before .before .before .before .before .before .before .before .args .missing))) (sym (c .before .before .before .before .before .before .before .checks .ensures (c .before .before .before .before .before .before .before .before .before .before .before .before .before .before .before .before .before .args .state)) ∙ ap checked (c .before .before .before .before .before .enum-told .given .1))) .lent) .addresses-ok, lengths-of (c .before .before .before .before .before .before .before .before .before .before .before .before .before .before .before .before .before .args .p) (mkDisk (c .before .before .before .before .before .before .before .before .before .before .before .before .before .before .before .before .before .args .image .now) (c .before .before .before .before .before .before .before .before .before .before .before .before .before .before .before .before .before .args .pointers .now)) (mkMemory (c .before .before .before .before .before .before .before .before .before .before .before .before .before .before .before .before .before .args .state) (c .before .before .before .before .before .before .before .before .before .before .before .before .before .before .before .before .before .args .addresses .now) (c .before .before .before .before .before .before .before .before .before .before .before .before .before .before .before .before .before .args .compact .now) (c .before .before .before .before .before .before .before .before .before .before .before .before .before .before .before .before .before .args .inflight .now)) ((front-passed (c .before .before .before .before .before .before .before .before .before .before .before .before .before .before .before .before .before .args .p) (lentOk (c .before .before .before .before .before .before .before .before .before .before .before .before .before .before .before .before .before .args .p) (mkDisk (c .before .before .before .before .before .before .before .before .before .before .before .before .before .before .before .before .before .args .image .now) (c .before .before .before .before .before .before .before .before .before .before .before .before .before .before .before .before .before .args .pointers .now)) (mkMemory (c .before .before .before .before .before .before .before .before .before .before .before .before .before .before .before .before .before .args .state) (c .before .before .before .before .before .before .before .before .before .before .before .before .before .before .before .before .before .args .addresses .now) (c .before .before .before .before .before .before .before .before .before .before .before .before .before .before .before .before .before .args .compact .now) (c .before .before .before .before .before .before .before .before .before .before .before .before .before .before .before .before .before .args .inflight .now))) (seen (c .before .before .before .before .before .before .before .before .before .before .before .before .before .before .before .before .before .args .p) (mkDisk (c .before .before .before .before .before .before .before .before .before .before .before .before .before .before .before .before .before .args .image .now) (c .before .before .before .before .before .before .before .before .before .before .before .before .before .before .before .before .before .args .pointers .now))) (c .before .before .before .before .before .before .before .before .before .before .before .before .before .before .before .before .before .args .missing) (segments (c .before .before .before .before .before .before .before .before .before .before .before .before .before .before .before .before .before .args .p) (seen (c .before .before .before .before .before .before .before .before .before .before .before .before .before .before .before .before .before .args .p) (mkDisk (c .before .before .before .before .before .before .before .before .before .before .before .before .before .before .before .before .before .args .image .now) (c .before .before .before .before .before .before .before .before .before .before .before .before .before .before .before .before .before .args .pointers .now))) (named (c .before .before .before .before .before .before .before .before .before .before .before .before .before .before .before .before .before .args .missing))) (sym (c .before .before .before .before .before .before .before .checks .ensures (c .before .before .before .before .before .before .before .before .before .before .before .before .before .before .before .before .before .args .state)) ∙ ap checked (c .before .before .before .before .before .enum-told .given .1))) .lent) .compact-ok))))
+recover-requires c κs =
+    let only-drive = c .before .before .before .before .only-drive in
+    let enum-told = c .before .before .before .before .before .enum-told in
+    let checks = c .before .before .before .before .before .before .before .checks in
+    let args = c .before .before .before .before .before .before .before .before .before .before .before .before .before .before .before .before .before .args in (
+      (front-passed (args .p) (lentOk (args .p) (mkDisk (args .image .now) (args .pointers .now))
+          (mkMemory (args .state) (args .addresses .now) (args .compact .now) (args .inflight .now)))
+          (seen (args .p) (mkDisk (args .image .now) (args .pointers .now))) (args .missing)
+          (segments (args .p) (seen (args .p) (mkDisk (args .image .now) (args .pointers .now))) (named (args .missing)))
+          (sym (checks .ensures (args .state)) ∙ ap checked (enum-told .given .1))) .in-range,
+      (
+        whole-of (args .p) (mkDisk (args .image .now) (args .pointers .now))
+            (mkMemory (args .state) (args .addresses .now) (args .compact .now) (args .inflight .now))
+            ((front-passed (args .p) (lentOk (args .p) (mkDisk (args .image .now) (args .pointers .now))
+            (mkMemory (args .state) (args .addresses .now) (args .compact .now) (args .inflight .now)))
+            (seen (args .p) (mkDisk (args .image .now) (args .pointers .now))) (args .missing)
+            (segments (args .p) (seen (args .p) (mkDisk (args .image .now) (args .pointers .now))) (named (args .missing)))
+            (sym (checks .ensures (args .state)) ∙ ap checked (enum-told .given .1))) .lent),
+        (
+          subst (λ (g : ℕ). pointerFaults (args .p) (seen (args .p) (mkDisk (args .image .now) (args .pointers .now))) g ≡ [])
+              (sym (only-drive .ensures ∙ named-is (args .missing)))
+              ((front-passed (args .p) (lentOk (args .p) (mkDisk (args .image .now) (args .pointers .now))
+              (mkMemory (args .state) (args .addresses .now) (args .compact .now) (args .inflight .now)))
+              (seen (args .p) (mkDisk (args .image .now) (args .pointers .now))) (args .missing)
+              (segments (args .p) (seen (args .p) (mkDisk (args .image .now) (args .pointers .now))) (named (args .missing)))
+              (sym (checks .ensures (args .state)) ∙ ap checked (enum-told .given .1))) .pointers-ok),
+          (
+            lengths-of (args .p) (mkDisk (args .image .now) (args .pointers .now))
+                (mkMemory (args .state) (args .addresses .now) (args .compact .now) (args .inflight .now))
+                ((front-passed (args .p) (lentOk (args .p) (mkDisk (args .image .now) (args .pointers .now))
+                (mkMemory (args .state) (args .addresses .now) (args .compact .now) (args .inflight .now)))
+                (seen (args .p) (mkDisk (args .image .now) (args .pointers .now))) (args .missing)
+                (segments (args .p) (seen (args .p) (mkDisk (args .image .now) (args .pointers .now))) (named (args .missing)))
+                (sym (checks .ensures (args .state)) ∙ ap checked (enum-told .given .1))) .lent) .addresses-ok,
+            lengths-of (args .p) (mkDisk (args .image .now) (args .pointers .now))
+                (mkMemory (args .state) (args .addresses .now) (args .compact .now) (args .inflight .now))
+                ((front-passed (args .p) (lentOk (args .p) (mkDisk (args .image .now) (args .pointers .now))
+                (mkMemory (args .state) (args .addresses .now) (args .compact .now) (args .inflight .now)))
+                (seen (args .p) (mkDisk (args .image .now) (args .pointers .now))) (args .missing)
+                (segments (args .p) (seen (args .p) (mkDisk (args .image .now) (args .pointers .now))) (named (args .missing)))
+                (sym (checks .ensures (args .state)) ∙ ap checked (enum-told .given .1))) .lent) .compact-ok,
+          ),
+        ),
+      ),
+    )
 
 same-length-5 : tie.Need-same-length-5
 same-length-5 c = search needs
@@ -59,7 +108,26 @@ same-length-8 : tie.Need-same-length-8
 same-length-8 c = search needs
 
 returns-2 : tie.Need-returns-2
-returns-2 c = c .before .before .before .before .before .before .before .before .recover .ensures (c .before .before .before .before .before .before .before .before .before .before .before .before .before .before .before .before .before .before .before .before .before .before .before .before .before .before .args .inflight .now) ∙ ap (λ (g : ℕ). recovered (c .before .before .before .before .before .before .before .before .before .before .before .before .before .before .before .before .before .before .before .before .before .before .before .before .before .before .args .p) (mkDisk (c .before .before .before .before .before .before .before .before .before .before .before .before .before .before .before .before .before .before .before .before .before .before .before .before .before .before .args .image .now) (c .before .before .before .before .before .before .before .before .before .before .before .before .before .before .before .before .before .before .before .before .before .before .before .before .before .before .args .pointers .now)) (mkMemory (c .before .before .before .before .before .before .before .before .before .before .before .before .before .before .before .before .before .before .before .before .before .before .before .before .before .before .args .state) (c .before .before .before .before .before .before .before .before .before .before .before .before .before .before .before .before .before .before .before .before .before .before .before .before .before .before .args .addresses .now) (c .before .before .before .before .before .before .before .before .before .before .before .before .before .before .before .before .before .before .before .before .before .before .before .before .before .before .args .compact .now) (c .before .before .before .before .before .before .before .before .before .before .before .before .before .before .before .before .before .before .before .before .before .before .before .before .before .before .args .inflight .now)) g (c .before .before .before .before .before .before .before .before .before .before .before .before .before .before .before .before .before .before .before .before .before .before .before .before .before .before .args .count)) (c .before .before .before .before .before .before .before .before .before .before .before .before .before .only-drive .ensures ∙ named-is (c .before .before .before .before .before .before .before .before .before .before .before .before .before .before .before .before .before .before .before .before .before .before .before .before .before .before .args .missing)) ∙ restart-recovers (c .before .before .before .before .before .before .before .before .before .before .before .before .before .before .before .before .before .before .before .before .before .before .before .before .before .before .args .p) (mkDisk (c .before .before .before .before .before .before .before .before .before .before .before .before .before .before .before .before .before .before .before .before .before .before .before .before .before .before .args .image .now) (c .before .before .before .before .before .before .before .before .before .before .before .before .before .before .before .before .before .before .before .before .before .before .before .before .before .before .args .pointers .now)) (mkMemory (c .before .before .before .before .before .before .before .before .before .before .before .before .before .before .before .before .before .before .before .before .before .before .before .before .before .before .args .state) (c .before .before .before .before .before .before .before .before .before .before .before .before .before .before .before .before .before .before .before .before .before .before .before .before .before .before .args .addresses .now) (c .before .before .before .before .before .before .before .before .before .before .before .before .before .before .before .before .before .before .before .before .before .before .before .before .before .before .args .compact .now) (c .before .before .before .before .before .before .before .before .before .before .before .before .before .before .before .before .before .before .before .before .before .before .before .before .before .before .args .inflight .now)) (c .before .before .before .before .before .before .before .before .before .before .before .before .before .before .before .before .before .before .before .before .before .before .before .before .before .before .args .missing) (c .before .before .before .before .before .before .before .before .before .before .before .before .before .before .before .before .before .before .before .before .before .before .before .before .before .before .args .count) (front-passed (c .before .before .before .before .before .before .before .before .before .before .before .before .before .before .before .before .before .before .before .before .before .before .before .before .before .before .args .p) (lentOk (c .before .before .before .before .before .before .before .before .before .before .before .before .before .before .before .before .before .before .before .before .before .before .before .before .before .before .args .p) (mkDisk (c .before .before .before .before .before .before .before .before .before .before .before .before .before .before .before .before .before .before .before .before .before .before .before .before .before .before .args .image .now) (c .before .before .before .before .before .before .before .before .before .before .before .before .before .before .before .before .before .before .before .before .before .before .before .before .before .before .args .pointers .now)) (mkMemory (c .before .before .before .before .before .before .before .before .before .before .before .before .before .before .before .before .before .before .before .before .before .before .before .before .before .before .args .state) (c .before .before .before .before .before .before .before .before .before .before .before .before .before .before .before .before .before .before .before .before .before .before .before .before .before .before .args .addresses .now) (c .before .before .before .before .before .before .before .before .before .before .before .before .before .before .before .before .before .before .before .before .before .before .before .before .before .before .args .compact .now) (c .before .before .before .before .before .before .before .before .before .before .before .before .before .before .before .before .before .before .before .before .before .before .before .before .before .before .args .inflight .now))) (seen (c .before .before .before .before .before .before .before .before .before .before .before .before .before .before .before .before .before .before .before .before .before .before .before .before .before .before .args .p) (mkDisk (c .before .before .before .before .before .before .before .before .before .before .before .before .before .before .before .before .before .before .before .before .before .before .before .before .before .before .args .image .now) (c .before .before .before .before .before .before .before .before .before .before .before .before .before .before .before .before .before .before .before .before .before .before .before .before .before .before .args .pointers .now))) (c .before .before .before .before .before .before .before .before .before .before .before .before .before .before .before .before .before .before .before .before .before .before .before .before .before .before .args .missing) (segments (c .before .before .before .before .before .before .before .before .before .before .before .before .before .before .before .before .before .before .before .before .before .before .before .before .before .before .args .p) (seen (c .before .before .before .before .before .before .before .before .before .before .before .before .before .before .before .before .before .before .before .before .before .before .before .before .before .before .args .p) (mkDisk (c .before .before .before .before .before .before .before .before .before .before .before .before .before .before .before .before .before .before .before .before .before .before .before .before .before .before .args .image .now) (c .before .before .before .before .before .before .before .before .before .before .before .before .before .before .before .before .before .before .before .before .before .before .before .before .before .before .args .pointers .now))) (named (c .before .before .before .before .before .before .before .before .before .before .before .before .before .before .before .before .before .before .before .before .before .before .before .before .before .before .args .missing))) (sym (c .before .before .before .before .before .before .before .before .before .before .before .before .before .before .before .before .checks .ensures (c .before .before .before .before .before .before .before .before .before .before .before .before .before .before .before .before .before .before .before .before .before .before .before .before .before .before .args .state)) ∙ ap checked (c .before .before .before .before .before .before .before .before .before .before .before .before .before .before .enum-told .given .1)))
+returns-2 c =
+    let recover = c .before .before .before .before .before .before .before .before .recover in
+    let only-drive = c .before .before .before .before .before .before .before .before .before .before .before .before .before .only-drive in
+    let enum-told = c .before .before .before .before .before .before .before .before .before .before .before .before .before .before .enum-told in
+    let checks = c .before .before .before .before .before .before .before .before .before .before .before .before .before .before .before .before .checks in
+    let at = c .before .before .before .before .before .before .before .before .before .before .before .before .before .before .before .before .before in
+    let args =
+    at
+    .before .before .before .before .before .before .before .before .before .args in
+    recover .ensures (args .inflight .now)
+    ∙ ap (λ (g : ℕ). recovered (args .p) (mkDisk (args .image .now) (args .pointers .now))
+    (mkMemory (args .state) (args .addresses .now) (args .compact .now) (args .inflight .now)) g (args .count))
+    (only-drive .ensures ∙ named-is (args .missing))
+    ∙ restart-recovers (args .p) (mkDisk (args .image .now) (args .pointers .now))
+    (mkMemory (args .state) (args .addresses .now) (args .compact .now) (args .inflight .now)) (args .missing) (args .count)
+    (front-passed (args .p) (lentOk (args .p) (mkDisk (args .image .now) (args .pointers .now))
+    (mkMemory (args .state) (args .addresses .now) (args .compact .now) (args .inflight .now)))
+    (seen (args .p) (mkDisk (args .image .now) (args .pointers .now))) (args .missing)
+    (segments (args .p) (seen (args .p) (mkDisk (args .image .now) (args .pointers .now))) (named (args .missing)))
+    (sym (checks .ensures (args .state)) ∙ ap checked (enum-told .given .1)))
 
 pub restart-spec : {M : Type 1} → statement M
 restart-spec =

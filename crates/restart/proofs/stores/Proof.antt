@@ -16,25 +16,48 @@ use Rattle.restart.proofs.stores.Statement.{statement}
 use Rattle.restart.proofs.stores.Tie as tie
 
 returns : tie.Need-returns
-returns c = subst (λ (l : List Store). Storing (c .before .before .before .before .before .args .p) (c .before .before .before .before .before .args .count) l (mkDisk (c .before .before .before .before .before .args .image .now) (c .before .before .before .before .before .args .pointers .now)) (record { left = c .before .before .before .before .before .args .count; cut = false }) (mkDisk (c .before .before .before .before .before .args .image .now) (c .before .before .before .before .before .args .pointers .now))) (sym (missing-stores (c .before .before .before .before .before .args .p) (c .before .before .before .before .before .args .gone) (segments (c .before .before .before .before .before .args .p) (seen (c .before .before .before .before .before .args .p) (mkDisk (c .before .before .before .before .before .args .image .now) (c .before .before .before .before .before .args .pointers .now))) (c .before .before .before .before .before .args .gone)) (c .if1 .taken))) (storing-none (c .before .before .before .before .before .args .p) (c .before .before .before .before .before .args .count) (mkDisk (c .before .before .before .before .before .args .image .now) (c .before .before .before .before .before .args .pointers .now)))
+returns c =
+    let args = c .before .before .before .before .before .args in
+    subst (λ (l : List Store). Storing (args .p) (args .count) l (mkDisk (args .image .now) (args .pointers .now))
+    (record { left = args .count; cut = false }) (mkDisk (args .image .now) (args .pointers .now)))
+    (sym (missing-stores (args .p) (args .gone) (segments (args .p) (seen (args .p) (mkDisk (args .image .now) (args .pointers .now))) (args .gone))
+    (c .if1 .taken))) (storing-none (args .p) (args .count) (mkDisk (args .image .now) (args .pointers .now)))
 
 is-ragged-requires : tie.Need-is-ragged-requires
 is-ragged-requires c κs = search needs
 
 healthy-stores-requires : tie.Need-healthy-stores-requires
-healthy-stores-requires c κs = (
-  c .before .before .before .before .before .before .before .before .before .before .pre .0,
-  (
-    c .before .before .before .before .before .before .before .before .before .before .pre .1 .0,
-    (
-      (subst (λ (g : ℕ). Keeps (c .before .before .before .before .before .before .before .before .before .before .args .p) (seen (c .before .before .before .before .before .before .before .before .before .before .args .p) (mkDisk (c .before .before .before .before .before .before .before .before .before .before .args .image .now) (c .before .before .before .before .before .before .before .before .before .before .args .pointers .now))) g (c .before .before .before .before .before .before .before .before .before .before .args .kept .now)) (c .before .before .before .before .before .if1 .left) (c .before .before .before .before .before .before .before .before .before .before .pre .1 .1 .0 .0), subst (λ (g : ℕ). Serials (c .before .before .before .before .before .before .before .before .before .before .args .p) (seen (c .before .before .before .before .before .before .before .before .before .before .args .p) (mkDisk (c .before .before .before .before .before .before .before .before .before .before .args .image .now) (c .before .before .before .before .before .before .before .before .before .before .args .pointers .now))) g (c .before .before .before .before .before .before .before .before .before .before .args .serials .now)) (c .before .before .before .before .before .if1 .left) (c .before .before .before .before .before .before .before .before .before .before .pre .1 .1 .0 .1)),
+healthy-stores-requires c κs =
+    let is-ragged = c .before .before .is-ragged in
+    let if1 = c .before .before .before .before .before .if1 in
+    let entry = c .before .before .before .before .before .before .before .before .before .before in
+    let args = entry .args in
+    let pre = entry .pre in (
+      pre .0,
       (
-        c .before .before .before .before .before .before .before .before .before .before .pre .1 .1 .1 .2 (c .before .before .before .before .before .if1 .left),
-        λ g us. (sym (whole-is (c .before .before .before .before .before .before .before .before .before .before .args .p) (segments (c .before .before .before .before .before .before .before .before .before .before .args .p) (seen (c .before .before .before .before .before .before .before .before .before .before .args .p) (mkDisk (c .before .before .before .before .before .before .before .before .before .before .args .image .now) (c .before .before .before .before .before .before .before .before .before .before .args .pointers .now))) 0) (c .before .before .before .before .before .before .before .before .before .before .args .e) (subst (λ (g : ℕ). Examined (c .before .before .before .before .before .before .before .before .before .before .args .p) g (segments (c .before .before .before .before .before .before .before .before .before .before .args .p) (seen (c .before .before .before .before .before .before .before .before .before .before .args .p) (mkDisk (c .before .before .before .before .before .before .before .before .before .before .args .image .now) (c .before .before .before .before .before .before .before .before .before .before .args .pointers .now))) g) (c .before .before .before .before .before .before .before .before .before .before .args .e)) (c .before .before .before .before .before .if1 .left) (c .before .before .before .before .before .before .before .before .before .before .pre .1 .1 .1 .0)) (c .before .before .before .before .before .before .before .before .before .before .pre .1 .1 .1 .1) g us), c .before .before .is-ragged .ensures ∙ sym (ragged-is (c .before .before .before .before .before .before .before .before .before .before .args .p) (segments (c .before .before .before .before .before .before .before .before .before .before .args .p) (seen (c .before .before .before .before .before .before .before .before .before .before .args .p) (mkDisk (c .before .before .before .before .before .before .before .before .before .before .args .image .now) (c .before .before .before .before .before .before .before .before .before .before .args .pointers .now))) 0) (c .before .before .before .before .before .before .before .before .before .before .args .e) (subst (λ (g : ℕ). Examined (c .before .before .before .before .before .before .before .before .before .before .args .p) g (segments (c .before .before .before .before .before .before .before .before .before .before .args .p) (seen (c .before .before .before .before .before .before .before .before .before .before .args .p) (mkDisk (c .before .before .before .before .before .before .before .before .before .before .args .image .now) (c .before .before .before .before .before .before .before .before .before .before .args .pointers .now))) g) (c .before .before .before .before .before .before .before .before .before .before .args .e)) (c .before .before .before .before .before .if1 .left) (c .before .before .before .before .before .before .before .before .before .before .pre .1 .1 .1 .0)) (c .before .before .before .before .before .before .before .before .before .before .pre .1 .1 .1 .1) g us)),
+        pre .1 .0,
+        (
+          (
+            subst (λ (g : ℕ). Keeps (args .p) (seen (args .p) (mkDisk (args .image .now) (args .pointers .now))) g (args .kept .now)) (if1 .left)
+                (pre .1 .1 .0 .0),
+            subst (λ (g : ℕ). Serials (args .p) (seen (args .p) (mkDisk (args .image .now) (args .pointers .now))) g (args .serials .now)) (if1 .left)
+                (pre .1 .1 .0 .1),
+          ),
+          (
+            pre .1 .1 .1 .2 (if1 .left),
+            λ g us. (
+              sym (whole-is (args .p) (segments (args .p) (seen (args .p) (mkDisk (args .image .now) (args .pointers .now))) 0) (args .e)
+                  (subst (λ (g : ℕ). Examined (args .p) g (segments (args .p) (seen (args .p) (mkDisk (args .image .now) (args .pointers .now))) g)
+                  (args .e)) (if1 .left) (pre .1 .1 .1 .0)) (pre .1 .1 .1 .1) g us),
+              is-ragged .ensures
+                  ∙ sym (ragged-is (args .p) (segments (args .p) (seen (args .p) (mkDisk (args .image .now) (args .pointers .now))) 0) (args .e)
+                  (subst (λ (g : ℕ). Examined (args .p) g (segments (args .p) (seen (args .p) (mkDisk (args .image .now) (args .pointers .now))) g)
+                  (args .e)) (if1 .left) (pre .1 .1 .1 .0)) (pre .1 .1 .1 .1) g us),
+            ),
+          ),
+        ),
       ),
-    ),
-  ),
-)
+    )
 
 same-length : tie.Need-same-length
 same-length c = search needs
@@ -43,7 +66,14 @@ same-length-2 : tie.Need-same-length-2
 same-length-2 c = search needs
 
 returns-2 : tie.Need-returns-2
-returns-2 c = subst (λ (g : ℕ). Storing (c .before .before .before .before .before .before .before .before .before .before .before .before .before .before .before .args .p) (c .before .before .before .before .before .before .before .before .before .before .before .before .before .before .before .args .count) (restartStores (c .before .before .before .before .before .before .before .before .before .before .before .before .before .before .before .args .p) g (segments (c .before .before .before .before .before .before .before .before .before .before .before .before .before .before .before .args .p) (seen (c .before .before .before .before .before .before .before .before .before .before .before .before .before .before .before .args .p) (mkDisk (c .before .before .before .before .before .before .before .before .before .before .before .before .before .before .before .args .image .now) (c .before .before .before .before .before .before .before .before .before .before .before .before .before .before .before .args .pointers .now))) g)) (mkDisk (c .before .before .before .before .before .before .before .before .before .before .before .before .before .before .before .args .image .now) (c .before .before .before .before .before .before .before .before .before .before .before .before .before .before .before .args .pointers .now)) (c .before .before .before .before .healthy-stores .result) (mkDisk (c .before .before .before .before .healthy-stores .last .1 .0) (c .before .before .before .before .healthy-stores .last .1 .1 .0))) (sym (c .before .before .before .before .before .before .before .before .before .before .if1 .left)) (c .before .before .before .before .healthy-stores .ensures)
+returns-2 c =
+    let healthy-stores = c .before .before .before .before .healthy-stores in
+    let if1 = c .before .before .before .before .before .before .before .before .before .before .if1 in
+    let args = c .before .before .before .before .before .before .before .before .before .before .before .before .before .before .before .args in
+    subst (λ (g : ℕ). Storing (args .p) (args .count)
+    (restartStores (args .p) g (segments (args .p) (seen (args .p) (mkDisk (args .image .now) (args .pointers .now))) g))
+    (mkDisk (args .image .now) (args .pointers .now)) (healthy-stores .result)
+    (mkDisk (healthy-stores .last .1 .0) (healthy-stores .last .1 .1 .0))) (sym (if1 .left)) (healthy-stores .ensures)
 
 pub stores-spec : {M : Type 1} → statement M
 stores-spec =

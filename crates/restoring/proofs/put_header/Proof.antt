@@ -22,10 +22,14 @@ array-borrow-prefix-unit c = search needs
 
 slice-aggregate-put-header-with : tie.Need-slice-aggregate-put-header-with
 slice-aggregate-put-header-with c =
-    let p = c .before .before .before .before .before .before .args .p in
+    let unit-len = c .before .before .before .unit-len in
+    let entry = c .before .before .before .before .before .before in
+    let args = entry .args in
+    let pre = entry .pre in
+    let p = args .p in
     let s : List ℕ = replicate 4116 0 in
-    let n = c .before .before .before .unit-len .result in
-    sym (length-take-le n s (omega (arith, c .before .before .before .unit-len .ensures .0, unit-high p (ranged p (c .before .before .before .before .before .before .pre .0)))))
+    let n = unit-len .result in
+    sym (length-take-le n s (omega (arith, unit-len .ensures .0, unit-high p (ranged p (pre .0)))))
 
 slice-aggregate-put-header-with-2 : tie.Need-slice-aggregate-put-header-with-2
 slice-aggregate-put-header-with-2 c = search needs
@@ -33,11 +37,15 @@ slice-aggregate-put-header-with-2 c = search needs
 put-header-with-requires : tie.Need-put-header-with-requires
 unfolding zeroSpare spareLen recordWidths total
 put-header-with-requires c κs =
-    let p = c .before .before .before .before .before .before .before .args .p in
-    let q = c .before .before .before .before .before .before .before .pre in
+    let unit-len = c .before .before .before .before .unit-len in
+    let entry = c .before .before .before .before .before .before .before in
+    let args = entry .args in
+    let pre = entry .pre in
+    let p = args .p in
+    let q = pre in
     let s : List ℕ = replicate 4116 0 in
-    let n = c .before .before .before .before .unit-len .result in
-    let t : length (take n s) ≡ unitLen p = length-take-le n s (omega (arith, c .before .before .before .before .unit-len .ensures .0, unit-high p (ranged p (q .0)))) ∙ c .before .before .before .before .unit-len .ensures .0 in
+    let n = unit-len .result in
+    let t : length (take n s) ≡ unitLen p = length-take-le n s (omega (arith, unit-len .ensures .0, unit-high p (ranged p (q .0)))) ∙ unit-len .ensures .0 in
     (q .0, (q .1 .0, (q .1 .1 .0, q .1 .1 .1, q .1 .1 .2, t, refl)))
 
 same-length : tie.Need-same-length
@@ -50,4 +58,5 @@ returns : tie.Need-returns
 returns c = search needs
 
 pub put-header-spec : {M : Type 1} → statement M
-put-header-spec = tie.close (tie.spec unit-len-requires array-borrow-prefix-unit slice-aggregate-put-header-with slice-aggregate-put-header-with-2 put-header-with-requires same-length same-length-2 returns)
+put-header-spec =
+    tie.close (tie.spec unit-len-requires array-borrow-prefix-unit slice-aggregate-put-header-with slice-aggregate-put-header-with-2 put-header-with-requires same-length same-length-2 returns)

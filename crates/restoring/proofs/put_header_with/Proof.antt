@@ -18,25 +18,45 @@ use Rattle.restoring.proofs.put_header_with.Statement.{statement}
 use Rattle.restoring.proofs.put_header_with.Tie as tie
 
 write-header-requires : tie.Need-write-header-requires
-write-header-requires c κs = (c .before .before .before .before .before .pre .0, c .before .before .before .before .before .pre .1 .1 .3)
+write-header-requires c κs =
+    let pre = c .before .before .before .before .before .pre in
+    (pre .0, pre .1 .1 .3)
 
 -- the block and its length
-block-is : (c : tie.After-put-limited-arg2) → take (c .before .before .before .before .before .before .before .before .before .before .args .p .B) (c .before .before .before .before .write-header .last .0) ≡ headerBlock (c .before .before .before .before .before .before .before .before .before .before .args .p) (c .before .before .before .before .before .before .before .before .before .before .args .drive) (c .before .before .before .before .before .before .before .before .before .before .args .zone) (c .before .before .before .before .before .before .before .before .before .before .args .serial .0) (c .before .before .before .before .before .before .before .before .before .before .args .copied .0)
+block-is :
+    (c : tie.After-put-limited-arg2)
+    → take (c .before .before .before .before .before .before .before .before .before .before .args .p .B)
+    (c .before .before .before .before .write-header .last .0) ≡ headerBlock
+    (c .before .before .before .before .before .before .before .before .before .before .args .p)
+    (c .before .before .before .before .before .before .before .before .before .before .args .drive)
+    (c .before .before .before .before .before .before .before .before .before .before .args .zone)
+    (c .before .before .before .before .before .before .before .before .before .before .args .serial .0)
+    (c .before .before .before .before .before .before .before .before .before .before .args .copied .0)
 block-is c =
     let a = c .before .before .before .before .before .before .before .before .before .before .args in
-    let r = ranged (a .p) (c .before .before .before .before .before .before .before .before .before .before .pre .0) in
+    let write-header = c .before .before .before .before .write-header in
+    let pre = c .before .before .before .before .before .before .before .before .before .before .pre in
+    let r = ranged (a .p) (pre .0) in
     let h = headerBlock (a .p) (a .drive) (a .zone) (a .serial .0) (a .copied .0) in
-    ap (take (a .p .B)) (c .before .before .before .before .write-header .ensures) ∙ take-at h zeroSpare (a .p .B) (header-block-long (a .p) (a .drive) (a .zone) (a .serial .0) (a .copied .0) (omega (arith, r .block-low)))
+    ap (take (a .p .B)) (write-header .ensures) ∙ take-at h zeroSpare (a .p .B) (header-block-long (a .p) (a .drive) (a .zone) (a .serial .0) (a .copied .0) (omega (arith, r .block-low)))
 
-block-long : (c : tie.After-put-limited-arg2) → length (take (c .before .before .before .before .before .before .before .before .before .before .args .p .B) (c .before .before .before .before .write-header .last .0)) ≡ c .before .before .before .before .before .before .before .before .before .before .args .p .B
+block-long :
+    (c : tie.After-put-limited-arg2)
+    → length (take (c .before .before .before .before .before .before .before .before .before .before .args .p .B)
+    (c .before .before .before .before .write-header .last .0)) ≡
+    c .before .before .before .before .before .before .before .before .before .before .args .p .B
 block-long c =
     let a = c .before .before .before .before .before .before .before .before .before .before .args in
-    let r = ranged (a .p) (c .before .before .before .before .before .before .before .before .before .before .pre .0) in
+    let pre = c .before .before .before .before .before .before .before .before .before .before .pre in
+    let r = ranged (a .p) (pre .0) in
     ap length (block-is c) ∙ header-block-long (a .p) (a .drive) (a .zone) (a .serial .0) (a .copied .0) (omega (arith, r .block-low))
 
 slice-reshare-prefix-put-limited : tie.Need-slice-reshare-prefix-put-limited
 unfolding unitLen
-slice-reshare-prefix-put-limited c = omega (arith, c .before .before .before .before .write-header .kept .0, c .before .before .before .before .before .before .before .before .before .before .pre .1 .1 .3)
+slice-reshare-prefix-put-limited c =
+    let write-header = c .before .before .before .before .write-header in
+    let pre = c .before .before .before .before .before .before .before .before .before .before .pre in
+    omega (arith, write-header .kept .0, pre .1 .1 .3)
 
 slice-aggregate-put-limited : tie.Need-slice-aggregate-put-limited
 slice-aggregate-put-limited c = sym (block-long (c .before))
@@ -58,11 +78,15 @@ same-length-3 c = search needs
 returns : tie.Need-returns
 returns c =
     let a = c .before .before .before .before .before .before .before .before .before .before .before .before .before .before .before .before .args in
+    let put-limited = c .before .before .before .before .put-limited in
+    let at = c .before .before .before .before .before .before in
+    let write-header = c .before .before .before .before .before .before .before .before .before .before .write-header in
+    let pre = c .before .before .before .before .before .before .before .before .before .before .before .before .before .before .before .before .pre in
     let k = mkDisk (a .image .now) (a .pointers .now) in
-    let k′ = mkDisk (c .before .before .before .before .put-limited .last .1 .0) (c .before .before .before .before .put-limited .last .1 .1 .0) in
-    let m = c .before .before .before .before .put-limited .result in
-    subst (λ (x : List ℕ). Storing (a .p) (a .count) (put (a .drive) (a .zone) x zeroSpare ∷ []) k m k′) (block-is (c .before .before .before .before .before .before))
-    (subst (λ (x : List ℕ). Storing (a .p) (a .count) (put (a .drive) (a .zone) (take (a .p .B) (c .before .before .before .before .before .before .before .before .before .before .write-header .last .0)) x ∷ []) k m k′) (c .before .before .before .before .before .before .before .before .before .before .before .before .before .before .before .before .pre .1 .1 .4) (c .before .before .before .before .put-limited .ensures))
+    let k′ = mkDisk (put-limited .last .1 .0) (put-limited .last .1 .1 .0) in
+    let m = put-limited .result in
+    subst (λ (x : List ℕ). Storing (a .p) (a .count) (put (a .drive) (a .zone) x zeroSpare ∷ []) k m k′) (block-is (at))
+    (subst (λ (x : List ℕ). Storing (a .p) (a .count) (put (a .drive) (a .zone) (take (a .p .B) (write-header .last .0)) x ∷ []) k m k′) (pre .1 .1 .4) (put-limited .ensures))
 
 pub put-header-with-spec : {M : Type 1} → statement M
 put-header-with-spec = tie.close (tie.spec write-header-requires slice-reshare-prefix-put-limited slice-aggregate-put-limited put-limited-requires same-length same-length-2 same-length-3 returns)

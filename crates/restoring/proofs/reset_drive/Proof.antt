@@ -13,7 +13,8 @@ use Rattle.restoring.proofs.reset_drive.Statement.{statement}
 use Rattle.restoring.proofs.reset_drive.Tie as tie
 
 abbrev Inv-loop : tie.InvT-loop
-Inv-loop p pointers₀ drive count left₀ z₀ pointers left z = (length pointers ≡ length pointers₀) × ((im : List ℕ) → Rest p (λ y. reset drive y) (p .Z) count (mkDisk im pointers₀) z left (mkDisk im pointers))
+Inv-loop p pointers₀ drive count left₀ z₀ pointers left z =
+    (length pointers ≡ length pointers₀) × ((im : List ℕ) → Rest p (λ y. reset drive y) (p .Z) count (mkDisk im pointers₀) z left (mkDisk im pointers))
 
 abbrev μ-loop : tie.MeasureT-loop
 μ-loop p pointers₀ drive count left₀ z₀ pointers left z = p .Z - z
@@ -51,11 +52,16 @@ loop-less c = omega arith
 loop-again : tie.Need-loop-again Inv-loop μ-loop
 loop-again c =
     let a = c .before .before .before .before .before .before .before .before .before .args in
+    let reset′ = c .before .before .reset in
+    let if2 = c .before .before .before .before .if2 in
+    let if1 = c .before .before .before .before .before .if1 in
+    let loop = c .before .before .before .before .before .before .before .loop in
     let p = a .p in
-    let l = c .before .before .before .before .before .before .before .loop in (
-      c .before .before .reset .kept .1 .0 ∙ l .inv .0,
-      (λ im. rest-turn p (λ y. reset (a .drive) y) (p .Z) (a .count) (mkDisk im (a .pointers .now)) (l .z) (l .left) (mkDisk im (l .pointers)) (mkDisk im (c .before .before .reset .last .1 .0)) (l .inv .1 im) (c .before .before .before .before .before .if1 .taken)
-          (omega (arith, c .before .before .before .before .if2 .left)) (reset-disk p (a .drive) (l .z) im (l .pointers) (c .before .before .reset .last .1 .0) (c .before .before .reset .ensures))),
+    let l = loop in (
+      reset′ .kept .1 .0 ∙ l .inv .0,
+      (λ im. rest-turn p (λ y. reset (a .drive) y) (p .Z) (a .count) (mkDisk im (a .pointers .now)) (l .z) (l .left) (mkDisk im (l .pointers))
+          (mkDisk im (reset′ .last .1 .0)) (l .inv .1 im) (if1 .taken)
+          (omega (arith, if2 .left)) (reset-disk p (a .drive) (l .z) im (l .pointers) (reset′ .last .1 .0) (reset′ .ensures))),
     )
 
 same-length-2 : tie.Need-same-length-2 Inv-loop μ-loop

@@ -23,7 +23,9 @@ returns c =
     let d = a .drive in
     let v = viewOf p (a .image .now) (a .pointers .now) in
     let k = mkDisk (a .image .now) (a .pointers .now) in
-    subst (λ (l : List Store). Storing p (a .count) l k (record { left = a .count; cut = false }) k) (sym (cond-false (a .kept) (rebuiltZone p d (segmentOf p v (named d) (a .seg))) [] (not-true (a .kept) (c .if1 .taken)))) (storing-none p (a .count) k)
+    subst (λ (l : List Store). Storing p (a .count) l k (record { left = a .count; cut = false }) k)
+    (sym (cond-false (a .kept) (rebuiltZone p d (segmentOf p v (named d) (a .seg))) [] (not-true (a .kept) (c .if1 .taken))))
+    (storing-none p (a .count) k)
 
 rebuild-zone-requires : tie.Need-rebuild-zone-requires
 rebuild-zone-requires c κs =
@@ -44,12 +46,14 @@ same-length-2 c = search needs
 returns-2 : tie.Need-returns-2
 returns-2 c =
     let a = c .before .before .before .before .before .before .before .before .before .before .args in
+    let rebuild-zone = c .before .before .before .before .rebuild-zone in
+    let if1 = c .before .before .before .before .before .before .before .if1 in
     let p = a .p in
     let d = a .drive in
     let v = viewOf p (a .image .now) (a .pointers .now) in
-    let t : a .kept ≡ true = not-false (a .kept) (c .before .before .before .before .before .before .before .if1 .left) in
-    subst (λ (l : List Store). Storing p (a .count) l (mkDisk (a .image .now) (a .pointers .now)) (c .before .before .before .before .rebuild-zone .result) (mkDisk (c .before .before .before .before .rebuild-zone .last .1 .0) (c .before .before .before .before .rebuild-zone .last .1 .1 .0)))
-    (sym (cond-true (a .kept) (rebuiltZone p d (segmentOf p v (named d) (a .seg))) [] t)) (c .before .before .before .before .rebuild-zone .ensures)
+    let t : a .kept ≡ true = not-false (a .kept) (if1 .left) in
+    subst (λ (l : List Store). Storing p (a .count) l (mkDisk (a .image .now) (a .pointers .now)) (rebuild-zone .result) (mkDisk (rebuild-zone .last .1 .0) (rebuild-zone .last .1 .1 .0)))
+    (sym (cond-true (a .kept) (rebuiltZone p d (segmentOf p v (named d) (a .seg))) [] t)) (rebuild-zone .ensures)
 
 pub rebuild-if-spec : {M : Type 1} → statement M
 rebuild-if-spec = tie.close (tie.spec returns rebuild-zone-requires same-length same-length-2 returns-2)

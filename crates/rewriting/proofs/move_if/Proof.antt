@@ -17,17 +17,77 @@ use Rattle.rewriting.proofs.move_if.Statement.{statement}
 use Rattle.rewriting.proofs.move_if.Tie as tie
 
 counts-requires : tie.Need-counts-requires
-counts-requires c κs = (c .before .before .before .pre .0, (c .before .before .before .pre .1 .1 .0 .at-long, omega (arith, group-len-le (c .before .before .before .args .p) (c .before .before .before .args .w .base), c .before .before .before .pre .1 .1 .0 .in-group, (ranged (c .before .before .before .args .p) (c .before .before .before .pre .0)) .group-high)))
+counts-requires c κs =
+    let entry = c .before .before .before in
+    let args = entry .args in
+    let pre = entry .pre in
+    (pre .0, (pre .1 .1 .0 .at-long, omega (arith, group-len-le (args .p) (args .w .base), pre .1 .1 .0 .in-group, (ranged (args .p) (pre .0)) .group-high)))
 
 returns : tie.Need-returns
-returns c = step-none (c .before .before .before .before .before .args .p) (segmentIn (c .before .before .before .before .before .args .p) (c .before .before .before .before .before .args .image .now) (c .before .before .before .before .before .args .pointers .now) (c .before .before .before .before .before .args .w)) (c .before .before .before .before .before .args .to) (itself (c .before .before .before .before .before .args .p) (segmentIn (c .before .before .before .before .before .args .p) (c .before .before .before .before .before .args .image .now) (c .before .before .before .before .before .args .pointers .now) (c .before .before .before .before .before .args .w)) (c .before .before .before .before .before .args .w .base + c .before .before .before .before .before .args .k)) (c .before .before .before .before .before .args .m) (mkDisk (c .before .before .before .before .before .args .image .now) (c .before .before .before .before .before .args .pointers .now)) (itself-none (c .before .before .before .before .before .args .p) (segmentIn (c .before .before .before .before .before .args .p) (c .before .before .before .before .before .args .image .now) (c .before .before .before .before .before .args .pointers .now) (c .before .before .before .before .before .args .w)) (c .before .before .before .before .before .args .w .base + c .before .before .before .before .before .args .k) (ap (λ (y : ℕ). counts (c .before .before .before .before .before .args .p) y (segmentIn (c .before .before .before .before .before .args .p) (c .before .before .before .before .before .args .image .now) (c .before .before .before .before .before .args .pointers .now) (c .before .before .before .before .before .args .w)) (c .before .before .before .before .before .args .w .base + c .before .before .before .before .before .args .k)) (sym (c .before .before .before .before .before .pre .1 .1 .0 .none-gone)) ∙ sym (c .before .counts .ensures (segmentIn (c .before .before .before .before .before .args .p) (c .before .before .before .before .before .args .image .now) (c .before .before .before .before .before .args .pointers .now) (c .before .before .before .before .before .args .w)) (c .before .before .before .before .before .args .w .base) (c .before .before .before .before .before .pre .1 .1 .1 .0 .indexed) (c .before .before .before .before .before .pre .1 .1 .0 .in-group)) ∙ not-true (c .before .counts .result) (c .if1 .taken))) (c .before .before .before .before .before .pre .1 .1 .1 .1 .0 .2)
+returns c =
+    let entry = c .before .before .before .before .before in
+    let args = entry .args in
+    let pre = entry .pre in
+    step-none (args .p) (segmentIn (args .p) (args .image .now) (args .pointers .now) (args .w)) (args .to)
+    (itself (args .p) (segmentIn (args .p) (args .image .now) (args .pointers .now) (args .w)) (args .w .base + args .k)) (args .m)
+    (mkDisk (args .image .now) (args .pointers .now))
+    (itself-none (args .p) (segmentIn (args .p) (args .image .now) (args .pointers .now) (args .w)) (args .w .base + args .k)
+    (ap (λ (y : ℕ). counts (args .p) y (segmentIn (args .p) (args .image .now) (args .pointers .now) (args .w)) (args .w .base + args .k))
+    (sym (pre .1 .1 .0 .none-gone))
+    ∙ sym (c .before .counts .ensures (segmentIn (args .p) (args .image .now) (args .pointers .now) (args .w)) (args .w .base)
+    (pre .1 .1 .1 .0 .indexed) (pre .1 .1 .0 .in-group))
+    ∙ not-true (c .before .counts .result) (c .if1 .taken))) (pre .1 .1 .1 .1 .0 .2)
 
 move-stripe-requires : tie.Need-move-stripe-requires
-move-stripe-requires c κs = let cnt : counts (c .before .before .before .before .before .before .before .args .p) 0 (segmentIn (c .before .before .before .before .before .before .before .args .p) (c .before .before .before .before .before .before .before .args .image .now) (c .before .before .before .before .before .before .before .args .pointers .now) (c .before .before .before .before .before .before .before .args .w)) (c .before .before .before .before .before .before .before .args .w .base + c .before .before .before .before .before .before .before .args .k) ≡ true = (ap (λ (y : ℕ). counts (c .before .before .before .before .before .before .before .args .p) y (segmentIn (c .before .before .before .before .before .before .before .args .p) (c .before .before .before .before .before .before .before .args .image .now) (c .before .before .before .before .before .before .before .args .pointers .now) (c .before .before .before .before .before .before .before .args .w)) (c .before .before .before .before .before .before .before .args .w .base + c .before .before .before .before .before .before .before .args .k)) (sym (c .before .before .before .before .before .before .before .pre .1 .1 .0 .none-gone)) ∙ sym (c .before .before .before .counts .ensures (segmentIn (c .before .before .before .before .before .before .before .args .p) (c .before .before .before .before .before .before .before .args .image .now) (c .before .before .before .before .before .before .before .args .pointers .now) (c .before .before .before .before .before .before .before .args .w)) (c .before .before .before .before .before .before .before .args .w .base) (c .before .before .before .before .before .before .before .pre .1 .1 .1 .0 .indexed) (c .before .before .before .before .before .before .before .pre .1 .1 .0 .in-group)) ∙ not-false (c .before .before .before .counts .result) (c .before .before .if1 .left)) in
-    (c .before .before .before .before .before .before .before .pre .0, (c .before .before .before .before .before .before .before .pre .1 .0, (c .before .before .before .before .before .before .before .pre .1 .1 .0, (counts-entered (c .before .before .before .before .before .before .before .args .p) 0 (segmentIn (c .before .before .before .before .before .before .before .args .p) (c .before .before .before .before .before .before .before .args .image .now) (c .before .before .before .before .before .before .before .args .pointers .now) (c .before .before .before .before .before .before .before .args .w)) (c .before .before .before .before .before .before .before .args .w .base) (c .before .before .before .before .before .before .before .args .at .now) (c .before .before .before .before .before .before .before .args .k) (c .before .before .before .before .before .before .before .pre .1 .1 .1 .0 .indexed) (c .before .before .before .before .before .before .before .pre .1 .1 .0 .in-group) cnt, (c .before .before .before .before .before .before .before .pre .1 .1 .1 .0, ((c .before .before .before .before .before .before .before .pre .1 .1 .1 .1 .0 .0, omega (arith, shown-low (c .before .before .before .before .before .before .before .args .p) (c .before .before .before .before .before .before .before .args .w) (c .before .before .before .before .before .before .before .args .at .now) (c .before .before .before .before .before .before .before .args .k) (c .before .before .before .before .before .before .before .pre .1 .1 .0), (ranged (c .before .before .before .before .before .before .before .args .p) (c .before .before .before .before .before .before .before .pre .0)) .stripes-high, c .before .before .before .before .before .before .before .pre .1 .1 .1 .1 .0 .1), c .before .before .before .before .before .before .before .pre .1 .1 .1 .1 .0 .3), fit-one (c .before .before .before .before .before .before .before .args .p) (seen (c .before .before .before .before .before .before .before .args .p) (mkDisk (c .before .before .before .before .before .before .before .args .image .now) (c .before .before .before .before .before .before .before .args .pointers .now))) (segmentIn (c .before .before .before .before .before .before .before .args .p) (c .before .before .before .before .before .before .before .args .image .now) (c .before .before .before .before .before .before .before .args .pointers .now) (c .before .before .before .before .before .before .before .args .w)) (c .before .before .before .before .before .before .before .args .to) (c .before .before .before .before .before .before .before .args .w .base + c .before .before .before .before .before .before .before .args .k) (c .before .before .before .before .before .before .before .args .m .next) cnt (c .before .before .before .before .before .before .before .pre .1 .1 .1 .1 .1)))))))
+move-stripe-requires c κs =
+    let if1 = c .before .before .if1 in
+    let counts′ = c .before .before .before .counts in
+    let entry = c .before .before .before .before .before .before .before in
+    let args = entry .args in
+    let pre = entry .pre in
+    let cnt : counts (args .p) 0 (segmentIn (args .p) (args .image .now) (args .pointers .now) (args .w)) (args .w .base + args .k) ≡ true =
+    (ap (λ (y : ℕ). counts (args .p) y (segmentIn (args .p) (args .image .now) (args .pointers .now) (args .w)) (args .w .base + args .k))
+    (sym (pre .1 .1 .0 .none-gone))
+    ∙ sym (counts′ .ensures (segmentIn (args .p) (args .image .now) (args .pointers .now) (args .w)) (args .w .base)
+    (pre .1 .1 .1 .0 .indexed) (pre .1 .1 .0 .in-group))
+    ∙ not-false (counts′ .result) (if1 .left)) in (
+      pre .0,
+      (
+        pre .1 .0,
+        (
+          pre .1 .1 .0,
+          (
+            counts-entered (args .p) 0 (segmentIn (args .p) (args .image .now) (args .pointers .now) (args .w)) (args .w .base) (args .at .now)
+                (args .k) (pre .1 .1 .1 .0 .indexed) (pre .1 .1 .0 .in-group) cnt,
+            (
+              pre .1 .1 .1 .0,
+              (
+                (
+                  pre .1 .1 .1 .1 .0 .0,
+                  omega (
+                    arith,
+                    shown-low (args .p) (args .w) (args .at .now) (args .k) (pre .1 .1 .0),
+                    (ranged (args .p) (pre .0)) .stripes-high,
+                    pre .1 .1 .1 .1 .0 .1,
+                  ),
+                  pre .1 .1 .1 .1 .0 .3,
+                ),
+                fit-one (args .p) (seen (args .p) (mkDisk (args .image .now) (args .pointers .now)))
+                    (segmentIn (args .p) (args .image .now) (args .pointers .now) (args .w)) (args .to) (args .w .base + args .k)
+                    (args .m .next) cnt (pre .1 .1 .1 .1 .1),
+              ),
+            ),
+          ),
+        ),
+      ),
+    )
 
 add-t16 : tie.Need-add-t16
-add-t16 c = omega (arith, shown-low (c .before .before .before .before .before .before .before .before .before .before .before .before .before .args .p) (c .before .before .before .before .before .before .before .before .before .before .before .before .before .args .w) (c .before .before .before .before .before .before .before .before .before .before .before .before .before .args .at .now) (c .before .before .before .before .before .before .before .before .before .before .before .before .before .args .k) (c .before .before .before .before .before .before .before .before .before .before .before .before .before .pre .1 .1 .0), (ranged (c .before .before .before .before .before .before .before .before .before .before .before .before .before .args .p) (c .before .before .before .before .before .before .before .before .before .before .before .before .before .pre .0)) .stripes-high, c .before .before .before .before .before .before .before .before .before .before .before .before .before .pre .1 .1 .1 .1 .0 .1)
+add-t16 c =
+    let entry = c .before .before .before .before .before .before .before .before .before .before .before .before .before in
+    let args = entry .args in
+    let pre = entry .pre in
+    omega (arith, shown-low (args .p) (args .w) (args .at .now) (args .k) (pre .1 .1 .0), (ranged (args .p) (pre .0)) .stripes-high, pre .1 .1 .1 .1 .0 .1)
 
 same-length : tie.Need-same-length
 same-length c = search needs
@@ -36,8 +96,24 @@ same-length-2 : tie.Need-same-length-2
 same-length-2 c = search needs
 
 returns-2 : tie.Need-returns-2
-returns-2 c = let cnt : counts (c .before .before .before .before .before .before .before .before .before .before .before .before .before .args .p) 0 (segmentIn (c .before .before .before .before .before .before .before .before .before .before .before .before .before .args .p) (c .before .before .before .before .before .before .before .before .before .before .before .before .before .args .image .now) (c .before .before .before .before .before .before .before .before .before .before .before .before .before .args .pointers .now) (c .before .before .before .before .before .before .before .before .before .before .before .before .before .args .w)) (c .before .before .before .before .before .before .before .before .before .before .before .before .before .args .w .base + c .before .before .before .before .before .before .before .before .before .before .before .before .before .args .k) ≡ true = (ap (λ (y : ℕ). counts (c .before .before .before .before .before .before .before .before .before .before .before .before .before .args .p) y (segmentIn (c .before .before .before .before .before .before .before .before .before .before .before .before .before .args .p) (c .before .before .before .before .before .before .before .before .before .before .before .before .before .args .image .now) (c .before .before .before .before .before .before .before .before .before .before .before .before .before .args .pointers .now) (c .before .before .before .before .before .before .before .before .before .before .before .before .before .args .w)) (c .before .before .before .before .before .before .before .before .before .before .before .before .before .args .w .base + c .before .before .before .before .before .before .before .before .before .before .before .before .before .args .k)) (sym (c .before .before .before .before .before .before .before .before .before .before .before .before .before .pre .1 .1 .0 .none-gone)) ∙ sym (c .before .before .before .before .before .before .before .before .before .counts .ensures (segmentIn (c .before .before .before .before .before .before .before .before .before .before .before .before .before .args .p) (c .before .before .before .before .before .before .before .before .before .before .before .before .before .args .image .now) (c .before .before .before .before .before .before .before .before .before .before .before .before .before .args .pointers .now) (c .before .before .before .before .before .before .before .before .before .before .before .before .before .args .w)) (c .before .before .before .before .before .before .before .before .before .before .before .before .before .args .w .base) (c .before .before .before .before .before .before .before .before .before .before .before .before .before .pre .1 .1 .1 .0 .indexed) (c .before .before .before .before .before .before .before .before .before .before .before .before .before .pre .1 .1 .0 .in-group)) ∙ not-false (c .before .before .before .before .before .before .before .before .before .counts .result) (c .before .before .before .before .before .before .before .before .if1 .left)) in
-    step-one (c .before .before .before .before .before .before .before .before .before .before .before .before .before .args .p) (segmentIn (c .before .before .before .before .before .before .before .before .before .before .before .before .before .args .p) (c .before .before .before .before .before .before .before .before .before .before .before .before .before .args .image .now) (c .before .before .before .before .before .before .before .before .before .before .before .before .before .args .pointers .now) (c .before .before .before .before .before .before .before .before .before .before .before .before .before .args .w)) (c .before .before .before .before .before .before .before .before .before .before .before .before .before .args .to) (c .before .before .before .before .before .before .before .before .before .before .before .before .before .args .w .base + c .before .before .before .before .before .before .before .before .before .before .before .before .before .args .k) (itself (c .before .before .before .before .before .before .before .before .before .before .before .before .before .args .p) (segmentIn (c .before .before .before .before .before .before .before .before .before .before .before .before .before .args .p) (c .before .before .before .before .before .before .before .before .before .before .before .before .before .args .image .now) (c .before .before .before .before .before .before .before .before .before .before .before .before .before .args .pointers .now) (c .before .before .before .before .before .before .before .before .before .before .before .before .before .args .w)) (c .before .before .before .before .before .before .before .before .before .before .before .before .before .args .w .base + c .before .before .before .before .before .before .before .before .before .before .before .before .before .args .k)) (c .before .before .before .before .before .before .before .before .before .before .before .before .before .args .m) (mkDisk (c .before .before .before .before .before .before .before .before .before .before .before .before .before .args .image .now) (c .before .before .before .before .before .before .before .before .before .before .before .before .before .args .pointers .now)) (c .before .before .before .before .before .move-stripe .result) (mkDisk (c .before .before .before .before .before .move-stripe .last .1 .0) (c .before .before .before .before .before .move-stripe .last .1 .1 .0)) (itself-counts (c .before .before .before .before .before .before .before .before .before .before .before .before .before .args .p) (segmentIn (c .before .before .before .before .before .before .before .before .before .before .before .before .before .args .p) (c .before .before .before .before .before .before .before .before .before .before .before .before .before .args .image .now) (c .before .before .before .before .before .before .before .before .before .before .before .before .before .args .pointers .now) (c .before .before .before .before .before .before .before .before .before .before .before .before .before .args .w)) (c .before .before .before .before .before .before .before .before .before .before .before .before .before .args .w .base + c .before .before .before .before .before .before .before .before .before .before .before .before .before .args .k) cnt) (c .before .before .before .before .before .move-stripe .ensures)
+returns-2 c =
+    let move-stripe = c .before .before .before .before .before .move-stripe in
+    let if1 = c .before .before .before .before .before .before .before .before .if1 in
+    let counts′ = c .before .before .before .before .before .before .before .before .before .counts in
+    let entry = c .before .before .before .before .before .before .before .before .before .before .before .before .before in
+    let args = entry .args in
+    let pre = entry .pre in
+    let cnt : counts (args .p) 0 (segmentIn (args .p) (args .image .now) (args .pointers .now) (args .w)) (args .w .base + args .k) ≡ true =
+    (ap (λ (y : ℕ). counts (args .p) y (segmentIn (args .p) (args .image .now) (args .pointers .now) (args .w)) (args .w .base + args .k))
+    (sym (pre .1 .1 .0 .none-gone))
+    ∙ sym (counts′ .ensures (segmentIn (args .p) (args .image .now) (args .pointers .now) (args .w)) (args .w .base)
+    (pre .1 .1 .1 .0 .indexed) (pre .1 .1 .0 .in-group))
+    ∙ not-false (counts′ .result) (if1 .left)) in
+    step-one (args .p) (segmentIn (args .p) (args .image .now) (args .pointers .now) (args .w)) (args .to) (args .w .base + args .k)
+    (itself (args .p) (segmentIn (args .p) (args .image .now) (args .pointers .now) (args .w)) (args .w .base + args .k)) (args .m)
+    (mkDisk (args .image .now) (args .pointers .now)) (move-stripe .result) (mkDisk (move-stripe .last .1 .0) (move-stripe .last .1 .1 .0))
+    (itself-counts (args .p) (segmentIn (args .p) (args .image .now) (args .pointers .now) (args .w)) (args .w .base + args .k) cnt)
+    (move-stripe .ensures)
 
 pub move-if-spec : {M : Type 1} → statement M
 move-if-spec =

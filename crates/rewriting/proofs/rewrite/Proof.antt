@@ -6,7 +6,11 @@ use Rattle.rewriting.proofs.rewrite.Statement.{statement}
 use Rattle.rewriting.proofs.rewrite.Tie as tie
 
 header-stores-requires : tie.Need-header-stores-requires
-header-stores-requires c κs = (c .before .before .before .before .pre .0, (c .before .before .before .before .pre .1 .0, (c .before .before .before .before .pre .1 .1 .0 .1, λ d hd. head-room (c .before .before .before .before .args .p) (ranged (c .before .before .before .before .args .p) (c .before .before .before .before .pre .0)) (c .before .before .before .before .args .pointers .now) (c .before .before .before .before .args .to) d (c .before .before .before .before .pre .1 .1 .1 .0 .1 d hd))))
+header-stores-requires c κs =
+    let entry = c .before .before .before .before in
+    let args = entry .args in
+    let pre = entry .pre in
+    (pre .0, (pre .1 .0, (pre .1 .1 .0 .1, λ d hd. head-room (args .p) (ranged (args .p) (pre .0)) (args .pointers .now) (args .to) d (pre .1 .1 .1 .0 .1 d hd))))
 
 same-length : tie.Need-same-length
 same-length c = search needs
@@ -15,10 +19,48 @@ same-length-2 : tie.Need-same-length-2
 same-length-2 c = search needs
 
 returns : tie.Need-returns
-returns c = rewrite-heads (c .before .before .before .before .before .before .before .before .before .before .args .p) (ranged (c .before .before .before .before .before .before .before .before .before .before .args .p) (c .before .before .before .before .before .before .before .before .before .before .pre .0)) (c .before .before .before .before .before .before .before .before .before .before .args .count) (c .before .before .before .before .before .before .before .before .before .before .args .seg) (c .before .before .before .before .before .before .before .before .before .before .pre .1 .1 .0 .0) (c .before .before .before .before .before .before .before .before .before .before .args .to) (c .before .before .before .before .before .before .before .before .before .before .pre .1 .1 .0 .4) (c .before .before .before .before .before .before .before .before .before .before .args .serial .0) (mkDisk (c .before .before .before .before .before .before .before .before .before .before .args .image .now) (c .before .before .before .before .before .before .before .before .before .before .args .pointers .now)) (c .before .before .before .before .before .before .before .before .before .before .pre .1 .0) (c .before .before .before .before .before .before .before .before .before .before .pre .1 .1 .1 .1) (c .before .before .before .before .before .before .before .before .before .before .args .copied .0) (c .before .before .before .before .before .before .before .before .before .before .pre .1 .1 .1 .0 .0) (c .before .before .before .before .before .header-stores .result) (mkDisk (c .before .before .before .before .before .header-stores .last .1 .0) (c .before .before .before .before .before .header-stores .last .1 .1 .0)) (c .before .before .before .before .before .header-stores .ensures) (c .if1 .taken)
+returns c =
+    let header-stores = c .before .before .before .before .before .header-stores in
+    let entry = c .before .before .before .before .before .before .before .before .before .before in
+    let args = entry .args in
+    let pre = entry .pre in
+    rewrite-heads (args .p) (ranged (args .p) (pre .0)) (args .count) (args .seg) (pre .1 .1 .0 .0) (args .to) (pre .1 .1 .0 .4) (args .serial .0)
+    (mkDisk (args .image .now) (args .pointers .now)) (pre .1 .0) (pre .1 .1 .1 .1) (args .copied .0) (pre .1 .1 .1 .0 .0) (header-stores .result)
+    (mkDisk (header-stores .last .1 .0) (header-stores .last .1 .1 .0)) (header-stores .ensures) (c .if1 .taken)
 
 move-stripes-requires : tie.Need-move-stripes-requires
-move-stripes-requires c κs = (c .before .before .before .before .before .before .before .before .before .before .before .before .pre .0, (rewrite-whole (c .before .before .before .before .before .before .before .before .before .before .before .before .args .p) (ranged (c .before .before .before .before .before .before .before .before .before .before .before .before .args .p) (c .before .before .before .before .before .before .before .before .before .before .before .before .pre .0)) (c .before .before .before .before .before .before .before .before .before .before .before .before .args .count) (c .before .before .before .before .before .before .before .before .before .before .before .before .args .seg) (c .before .before .before .before .before .before .before .before .before .before .before .before .pre .1 .1 .0 .0) (c .before .before .before .before .before .before .before .before .before .before .before .before .args .to) (c .before .before .before .before .before .before .before .before .before .before .before .before .pre .1 .1 .0 .4) (c .before .before .before .before .before .before .before .before .before .before .before .before .args .serial .0) (mkDisk (c .before .before .before .before .before .before .before .before .before .before .before .before .args .image .now) (c .before .before .before .before .before .before .before .before .before .before .before .before .args .pointers .now)) (c .before .before .before .before .before .before .before .before .before .before .before .before .pre .1 .0) (c .before .before .before .before .before .before .before .before .before .before .before .before .pre .1 .1 .1 .1) (c .before .before .before .before .before .before .before .before .before .before .before .before .args .copied .0) (c .before .before .before .before .before .before .before .before .before .before .before .before .pre .1 .1 .1 .0 .0) (c .before .before .before .before .before .before .before .header-stores .result) (mkDisk (c .before .before .before .before .before .before .before .header-stores .last .1 .0) (c .before .before .before .before .before .before .before .header-stores .last .1 .1 .0)) (c .before .before .before .before .before .before .before .header-stores .ensures) (c .before .before .if1 .left), ((c .before .before .before .before .before .before .before .before .before .before .before .before .pre .1 .1 .0 .0, c .before .before .before .before .before .before .before .before .before .before .before .before .pre .1 .1 .0 .1, rewrite-sealed (c .before .before .before .before .before .before .before .before .before .before .before .before .args .p) (ranged (c .before .before .before .before .before .before .before .before .before .before .before .before .args .p) (c .before .before .before .before .before .before .before .before .before .before .before .before .pre .0)) (c .before .before .before .before .before .before .before .before .before .before .before .before .args .count) (c .before .before .before .before .before .before .before .before .before .before .before .before .args .seg) (c .before .before .before .before .before .before .before .before .before .before .before .before .pre .1 .1 .0 .0) (c .before .before .before .before .before .before .before .before .before .before .before .before .args .to) (c .before .before .before .before .before .before .before .before .before .before .before .before .pre .1 .1 .0 .4) (c .before .before .before .before .before .before .before .before .before .before .before .before .args .serial .0) (mkDisk (c .before .before .before .before .before .before .before .before .before .before .before .before .args .image .now) (c .before .before .before .before .before .before .before .before .before .before .before .before .args .pointers .now)) (c .before .before .before .before .before .before .before .before .before .before .before .before .pre .1 .0) (c .before .before .before .before .before .before .before .before .before .before .before .before .pre .1 .1 .1 .1) (c .before .before .before .before .before .before .before .before .before .before .before .before .args .copied .0) (c .before .before .before .before .before .before .before .before .before .before .before .before .pre .1 .1 .1 .0 .0) (c .before .before .before .before .before .before .before .header-stores .result) (mkDisk (c .before .before .before .before .before .before .before .header-stores .last .1 .0) (c .before .before .before .before .before .before .before .header-stores .last .1 .1 .0)) (c .before .before .before .before .before .before .before .header-stores .ensures) (c .before .before .if1 .left) (c .before .before .before .before .before .before .before .before .before .before .before .before .pre .1 .1 .0 .2), rewrite-good (c .before .before .before .before .before .before .before .before .before .before .before .before .args .p) (ranged (c .before .before .before .before .before .before .before .before .before .before .before .before .args .p) (c .before .before .before .before .before .before .before .before .before .before .before .before .pre .0)) (c .before .before .before .before .before .before .before .before .before .before .before .before .args .count) (c .before .before .before .before .before .before .before .before .before .before .before .before .args .seg) (c .before .before .before .before .before .before .before .before .before .before .before .before .pre .1 .1 .0 .0) (c .before .before .before .before .before .before .before .before .before .before .before .before .args .to) (c .before .before .before .before .before .before .before .before .before .before .before .before .pre .1 .1 .0 .4) (c .before .before .before .before .before .before .before .before .before .before .before .before .args .serial .0) (mkDisk (c .before .before .before .before .before .before .before .before .before .before .before .before .args .image .now) (c .before .before .before .before .before .before .before .before .before .before .before .before .args .pointers .now)) (c .before .before .before .before .before .before .before .before .before .before .before .before .pre .1 .0) (c .before .before .before .before .before .before .before .before .before .before .before .before .pre .1 .1 .1 .1) (c .before .before .before .before .before .before .before .before .before .before .before .before .args .copied .0) (c .before .before .before .before .before .before .before .before .before .before .before .before .pre .1 .1 .1 .0 .0) (c .before .before .before .before .before .before .before .header-stores .result) (mkDisk (c .before .before .before .before .before .before .before .header-stores .last .1 .0) (c .before .before .before .before .before .before .before .header-stores .last .1 .1 .0)) (c .before .before .before .before .before .before .before .header-stores .ensures) (c .before .before .if1 .left) (c .before .before .before .before .before .before .before .before .before .before .before .before .pre .1 .1 .0 .3), c .before .before .before .before .before .before .before .before .before .before .before .before .pre .1 .1 .0 .4), rewrite-fits (c .before .before .before .before .before .before .before .before .before .before .before .before .args .p) (ranged (c .before .before .before .before .before .before .before .before .before .before .before .before .args .p) (c .before .before .before .before .before .before .before .before .before .before .before .before .pre .0)) (c .before .before .before .before .before .before .before .before .before .before .before .before .args .count) (c .before .before .before .before .before .before .before .before .before .before .before .before .args .seg) (c .before .before .before .before .before .before .before .before .before .before .before .before .pre .1 .1 .0 .0) (c .before .before .before .before .before .before .before .before .before .before .before .before .args .to) (c .before .before .before .before .before .before .before .before .before .before .before .before .pre .1 .1 .0 .4) (c .before .before .before .before .before .before .before .before .before .before .before .before .args .serial .0) (mkDisk (c .before .before .before .before .before .before .before .before .before .before .before .before .args .image .now) (c .before .before .before .before .before .before .before .before .before .before .before .before .args .pointers .now)) (c .before .before .before .before .before .before .before .before .before .before .before .before .pre .1 .0) (c .before .before .before .before .before .before .before .before .before .before .before .before .pre .1 .1 .1 .1) (c .before .before .before .before .before .before .before .before .before .before .before .before .args .copied .0) (c .before .before .before .before .before .before .before .before .before .before .before .before .pre .1 .1 .1 .0 .0) (c .before .before .before .before .before .before .before .header-stores .result) (mkDisk (c .before .before .before .before .before .before .before .header-stores .last .1 .0) (c .before .before .before .before .before .before .before .header-stores .last .1 .1 .0)) (c .before .before .before .before .before .before .before .header-stores .ensures) (c .before .before .if1 .left))))
+move-stripes-requires c κs =
+    let if1 = c .before .before .if1 in
+    let header-stores = c .before .before .before .before .before .before .before .header-stores in
+    let entry = c .before .before .before .before .before .before .before .before .before .before .before .before in
+    let args = entry .args in
+    let pre = entry .pre in (
+      pre .0,
+      (
+        rewrite-whole (args .p) (ranged (args .p) (pre .0)) (args .count) (args .seg) (pre .1 .1 .0 .0) (args .to) (pre .1 .1 .0 .4)
+            (args .serial .0) (mkDisk (args .image .now) (args .pointers .now)) (pre .1 .0) (pre .1 .1 .1 .1) (args .copied .0) (pre .1 .1 .1 .0 .0)
+            (header-stores .result) (mkDisk (header-stores .last .1 .0) (header-stores .last .1 .1 .0)) (header-stores .ensures) (if1 .left),
+        (
+          (
+            pre .1 .1 .0 .0,
+            pre .1 .1 .0 .1,
+            rewrite-sealed (args .p) (ranged (args .p) (pre .0)) (args .count) (args .seg) (pre .1 .1 .0 .0) (args .to) (pre .1 .1 .0 .4)
+                (args .serial .0) (mkDisk (args .image .now) (args .pointers .now)) (pre .1 .0) (pre .1 .1 .1 .1) (args .copied .0)
+                (pre .1 .1 .1 .0 .0) (header-stores .result) (mkDisk (header-stores .last .1 .0) (header-stores .last .1 .1 .0))
+                (header-stores .ensures) (if1 .left) (pre .1 .1 .0 .2),
+            rewrite-good (args .p) (ranged (args .p) (pre .0)) (args .count) (args .seg) (pre .1 .1 .0 .0) (args .to) (pre .1 .1 .0 .4)
+                (args .serial .0) (mkDisk (args .image .now) (args .pointers .now)) (pre .1 .0) (pre .1 .1 .1 .1) (args .copied .0)
+                (pre .1 .1 .1 .0 .0) (header-stores .result) (mkDisk (header-stores .last .1 .0) (header-stores .last .1 .1 .0))
+                (header-stores .ensures) (if1 .left) (pre .1 .1 .0 .3),
+            pre .1 .1 .0 .4,
+          ),
+          rewrite-fits (args .p) (ranged (args .p) (pre .0)) (args .count) (args .seg) (pre .1 .1 .0 .0) (args .to) (pre .1 .1 .0 .4)
+              (args .serial .0) (mkDisk (args .image .now) (args .pointers .now)) (pre .1 .0) (pre .1 .1 .1 .1) (args .copied .0)
+              (pre .1 .1 .1 .0 .0) (header-stores .result) (mkDisk (header-stores .last .1 .0) (header-stores .last .1 .1 .0))
+              (header-stores .ensures) (if1 .left),
+        ),
+      ),
+    )
 
 same-length-3 : tie.Need-same-length-3
 same-length-3 c = search needs
@@ -27,7 +69,17 @@ same-length-4 : tie.Need-same-length-4
 same-length-4 c = search needs
 
 returns-2 : tie.Need-returns-2
-returns-2 c = rewrite-moves (c .before .before .before .before .before .before .before .before .before .before .before .before .before .before .before .before .before .before .args .p) (ranged (c .before .before .before .before .before .before .before .before .before .before .before .before .before .before .before .before .before .before .args .p) (c .before .before .before .before .before .before .before .before .before .before .before .before .before .before .before .before .before .before .pre .0)) (c .before .before .before .before .before .before .before .before .before .before .before .before .before .before .before .before .before .before .args .count) (c .before .before .before .before .before .before .before .before .before .before .before .before .before .before .before .before .before .before .args .seg) (c .before .before .before .before .before .before .before .before .before .before .before .before .before .before .before .before .before .before .pre .1 .1 .0 .0) (c .before .before .before .before .before .before .before .before .before .before .before .before .before .before .before .before .before .before .args .to) (c .before .before .before .before .before .before .before .before .before .before .before .before .before .before .before .before .before .before .pre .1 .1 .0 .4) (c .before .before .before .before .before .before .before .before .before .before .before .before .before .before .before .before .before .before .args .serial .0) (mkDisk (c .before .before .before .before .before .before .before .before .before .before .before .before .before .before .before .before .before .before .args .image .now) (c .before .before .before .before .before .before .before .before .before .before .before .before .before .before .before .before .before .before .args .pointers .now)) (c .before .before .before .before .before .before .before .before .before .before .before .before .before .before .before .before .before .before .pre .1 .0) (c .before .before .before .before .before .before .before .before .before .before .before .before .before .before .before .before .before .before .pre .1 .1 .1 .1) (c .before .before .before .before .before .before .before .before .before .before .before .before .before .before .before .before .before .before .args .copied .0) (c .before .before .before .before .before .before .before .before .before .before .before .before .before .before .before .before .before .before .pre .1 .1 .1 .0 .0) (c .before .before .before .before .before .before .before .before .before .before .before .before .before .header-stores .result) (mkDisk (c .before .before .before .before .before .before .before .before .before .before .before .before .before .header-stores .last .1 .0) (c .before .before .before .before .before .before .before .before .before .before .before .before .before .header-stores .last .1 .1 .0)) (c .before .before .before .before .before .before .before .before .before .before .before .before .before .header-stores .ensures) (c .before .before .before .before .before .before .before .before .if1 .left) (c .before .before .before .before .before .move-stripes .result) (mkDisk (c .before .before .before .before .before .move-stripes .last .1 .0) (c .before .before .before .before .before .move-stripes .last .1 .1 .0)) (c .before .before .before .before .before .move-stripes .ensures) (c .if2 .taken)
+returns-2 c =
+    let move-stripes = c .before .before .before .before .before .move-stripes in
+    let if1 = c .before .before .before .before .before .before .before .before .if1 in
+    let header-stores = c .before .before .before .before .before .before .before .before .before .before .before .before .before .header-stores in
+    let entry = c .before .before .before .before .before .before .before .before .before .before .before .before .before .before .before .before .before .before in
+    let args = entry .args in
+    let pre = entry .pre in
+    rewrite-moves (args .p) (ranged (args .p) (pre .0)) (args .count) (args .seg) (pre .1 .1 .0 .0) (args .to) (pre .1 .1 .0 .4) (args .serial .0)
+    (mkDisk (args .image .now) (args .pointers .now)) (pre .1 .0) (pre .1 .1 .1 .1) (args .copied .0) (pre .1 .1 .1 .0 .0) (header-stores .result)
+    (mkDisk (header-stores .last .1 .0) (header-stores .last .1 .1 .0)) (header-stores .ensures) (if1 .left) (move-stripes .result)
+    (mkDisk (move-stripes .last .1 .0) (move-stripes .last .1 .1 .0)) (move-stripes .ensures) (c .if2 .taken)
 
 reset-stores-requires : tie.Need-reset-stores-requires
 reset-stores-requires c κs = search needs
@@ -39,7 +91,20 @@ same-length-6 : tie.Need-same-length-6
 same-length-6 c = search needs
 
 returns-3 : tie.Need-returns-3
-returns-3 c = rewrite-resets (c .before .before .before .before .before .before .before .before .before .before .before .before .before .before .before .before .before .before .before .before .before .before .args .p) (ranged (c .before .before .before .before .before .before .before .before .before .before .before .before .before .before .before .before .before .before .before .before .before .before .args .p) (c .before .before .before .before .before .before .before .before .before .before .before .before .before .before .before .before .before .before .before .before .before .before .pre .0)) (c .before .before .before .before .before .before .before .before .before .before .before .before .before .before .before .before .before .before .before .before .before .before .args .count) (c .before .before .before .before .before .before .before .before .before .before .before .before .before .before .before .before .before .before .before .before .before .before .args .seg) (c .before .before .before .before .before .before .before .before .before .before .before .before .before .before .before .before .before .before .before .before .before .before .pre .1 .1 .0 .0) (c .before .before .before .before .before .before .before .before .before .before .before .before .before .before .before .before .before .before .before .before .before .before .args .to) (c .before .before .before .before .before .before .before .before .before .before .before .before .before .before .before .before .before .before .before .before .before .before .pre .1 .1 .0 .4) (c .before .before .before .before .before .before .before .before .before .before .before .before .before .before .before .before .before .before .before .before .before .before .args .serial .0) (mkDisk (c .before .before .before .before .before .before .before .before .before .before .before .before .before .before .before .before .before .before .before .before .before .before .args .image .now) (c .before .before .before .before .before .before .before .before .before .before .before .before .before .before .before .before .before .before .before .before .before .before .args .pointers .now)) (c .before .before .before .before .before .before .before .before .before .before .before .before .before .before .before .before .before .before .before .before .before .before .pre .1 .0) (c .before .before .before .before .before .before .before .before .before .before .before .before .before .before .before .before .before .before .before .before .before .before .pre .1 .1 .1 .1) (c .before .before .before .before .before .before .before .before .before .before .before .before .before .before .before .before .before .before .before .before .before .before .args .copied .0) (c .before .before .before .before .before .before .before .before .before .before .before .before .before .before .before .before .before .before .before .before .before .before .pre .1 .1 .1 .0 .0) (c .before .before .before .before .before .before .before .before .before .before .before .before .before .before .before .before .before .header-stores .result) (mkDisk (c .before .before .before .before .before .before .before .before .before .before .before .before .before .before .before .before .before .header-stores .last .1 .0) (c .before .before .before .before .before .before .before .before .before .before .before .before .before .before .before .before .before .header-stores .last .1 .1 .0)) (c .before .before .before .before .before .before .before .before .before .before .before .before .before .before .before .before .before .header-stores .ensures) (c .before .before .before .before .before .before .before .before .before .before .before .before .if1 .left) (c .before .before .before .before .before .before .before .before .before .move-stripes .result) (mkDisk (c .before .before .before .before .before .before .before .before .before .move-stripes .last .1 .0) (c .before .before .before .before .before .before .before .before .before .move-stripes .last .1 .1 .0)) (c .before .before .before .before .before .before .before .before .before .move-stripes .ensures) (c .before .before .before .before .if2 .left) (c .before .before .reset-stores .result) (mkDisk (c .before .before .before .before .before .before .before .before .before .move-stripes .last .1 .0) (c .before .before .reset-stores .last .1 .0)) (c .before .before .reset-stores .ensures (c .before .before .before .before .before .before .before .before .before .move-stripes .last .1 .0))
+returns-3 c =
+    let reset-stores = c .before .before .reset-stores in
+    let if2 = c .before .before .before .before .if2 in
+    let move-stripes = c .before .before .before .before .before .before .before .before .before .move-stripes in
+    let if1 = c .before .before .before .before .before .before .before .before .before .before .before .before .if1 in
+    let header-stores = c .before .before .before .before .before .before .before .before .before .before .before .before .before .before .before .before .before .header-stores in
+    let entry = c .before .before .before .before .before .before .before .before .before .before .before .before .before .before .before .before .before .before .before .before .before .before in
+    let args = entry .args in
+    let pre = entry .pre in
+    rewrite-resets (args .p) (ranged (args .p) (pre .0)) (args .count) (args .seg) (pre .1 .1 .0 .0) (args .to) (pre .1 .1 .0 .4) (args .serial .0)
+    (mkDisk (args .image .now) (args .pointers .now)) (pre .1 .0) (pre .1 .1 .1 .1) (args .copied .0) (pre .1 .1 .1 .0 .0) (header-stores .result)
+    (mkDisk (header-stores .last .1 .0) (header-stores .last .1 .1 .0)) (header-stores .ensures) (if1 .left) (move-stripes .result)
+    (mkDisk (move-stripes .last .1 .0) (move-stripes .last .1 .1 .0)) (move-stripes .ensures) (if2 .left) (reset-stores .result)
+    (mkDisk (move-stripes .last .1 .0) (reset-stores .last .1 .0)) (reset-stores .ensures (move-stripes .last .1 .0))
 
 pub rewrite-spec : {M : Type 1} → statement M
 rewrite-spec =

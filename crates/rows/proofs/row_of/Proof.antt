@@ -73,7 +73,9 @@ mul-offsets : tie.Need-mul-offsets Inv-loop μ-loop
 mul-offsets c = omega arith
 
 element-copy-out-offsets : tie.Need-element-copy-out-offsets Inv-loop μ-loop
-element-copy-out-offsets c = omega (arith, sized (c .before .before .before .before) .offsets)
+element-copy-out-offsets c =
+    let at = c .before .before .before .before in
+    omega (arith, sized (at) .offsets)
 
 mul-offsets-2 : tie.Need-mul-offsets-2 Inv-loop μ-loop
 mul-offsets-2 c = omega arith
@@ -91,7 +93,8 @@ loop-again : tie.Need-loop-again Inv-loop μ-loop
 loop-again c =
     let a = c .before .before .before .before .before .args in
     let l = c .before .before .before .before .loop in
-    let z = sized (c .before .before .before .before .before) in
+    let at = c .before .before .before .before .before in
+    let z = sized (at) in
     let q = l .inv in (
       omega arith,
       length-set (l .addresses) (l .k) _ ∙ q .1,
@@ -112,10 +115,14 @@ element-copy-out-t33 : tie.Need-element-copy-out-t33 Inv-loop μ-loop
 element-copy-out-t33 c = omega (arith, sized (c .before .before .before) .filled)
 
 element-copy-out-t36 : tie.Need-element-copy-out-t36 Inv-loop μ-loop
-element-copy-out-t36 c = omega (arith, sized (c .before .before .before .before) .writes)
+element-copy-out-t36 c =
+    let at = c .before .before .before .before in
+    omega (arith, sized (at) .writes)
 
 element-copy-out-t39 : tie.Need-element-copy-out-t39 Inv-loop μ-loop
-element-copy-out-t39 c = omega (arith, sized (c .before .before .before .before .before) .landed)
+element-copy-out-t39 c =
+    let at = c .before .before .before .before .before in
+    omega (arith, sized (at) .landed)
 
 returns : tie.Need-returns Inv-loop μ-loop
 unfolding rowOf stripeIn filledIn landedIn

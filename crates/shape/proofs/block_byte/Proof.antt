@@ -17,11 +17,12 @@ place-byte-requires c κs = search needs
 returns : tie.Need-returns
 returns c =
     let a = c .before .before .args in
+    let pre = c .before .before .pre in
     let p = a .p in
-    let h = c .before .before .pre .1 in
+    let h = pre .1 in
     let e : c .place-byte .result ≡ placeByte p (placeOf p (a .drive) (a .zone) (a .block)) = c .place-byte .ensures .0 ∙ ap (placeByte p) (c .before .place-of .ensures .0) in
     let w : placeByte p (placeOf p (a .drive) (a .zone) (a .block)) + unitLen p ≤ imageLen p = block-within p (a .drive) (a .zone) (a .block) (h .0) (h .1) (h .2) in
-    (e, omega arith, omega (arith, image-high p (ranged p (c .before .before .pre .0))))
+    (e, omega arith, omega (arith, image-high p (ranged p (pre .0))))
 
 pub block-byte-spec : {M : Type 1} → statement M
 block-byte-spec = tie.close (tie.spec place-of-requires place-byte-requires returns)

@@ -38,9 +38,10 @@ mul-result-2 : tie.Need-mul-result-2
 unfolding compactAt
 mul-result-2 c =
     let a = c .before .before .args in
+    let pre = c .before .before .pre in
     let p = a .p in
-    let h = c .before .before .pre .1 in
-    let r = ranged p (c .before .before .pre .0) in
+    let h = pre .1 in
+    let r = ranged p (pre .0) in
     let d : a .drive * p .Z + a .zone < p .N * p .Z = zone-index-lt p (a .drive) (a .zone) (h .0) (h .1) in
     let n : p .N * p .Z ≤ 8192 = zones-all p r in
     let c : compactAt p (a .drive) (a .zone) (a .offset) < compactLen p = compact-within p (a .drive) (a .zone) (a .offset) (h .0) (h .1) (h .2) in
@@ -51,9 +52,10 @@ add-result-2 : tie.Need-add-result-2
 unfolding compactAt
 add-result-2 c =
     let a = c .before .before .args in
+    let pre = c .before .before .pre in
     let p = a .p in
-    let h = c .before .before .pre .1 in
-    let r = ranged p (c .before .before .pre .0) in
+    let h = pre .1 in
+    let r = ranged p (pre .0) in
     let d : a .drive * p .Z + a .zone < p .N * p .Z = zone-index-lt p (a .drive) (a .zone) (h .0) (h .1) in
     let n : p .N * p .Z ≤ 8192 = zones-all p r in
     let c : compactAt p (a .drive) (a .zone) (a .offset) < compactLen p = compact-within p (a .drive) (a .zone) (a .offset) (h .0) (h .1) (h .2) in
@@ -64,9 +66,10 @@ returns : tie.Need-returns
 unfolding compactAt
 returns c =
     let a = c .before .before .args in
+    let pre = c .before .before .pre in
     let p = a .p in
-    let h = c .before .before .pre .1 in
-    let r = ranged p (c .before .before .pre .0) in
+    let h = pre .1 in
+    let r = ranged p (pre .0) in
     let d : a .drive * p .Z + a .zone < p .N * p .Z = zone-index-lt p (a .drive) (a .zone) (h .0) (h .1) in
     let n : p .N * p .Z ≤ 8192 = zones-all p r in
     let c : compactAt p (a .drive) (a .zone) (a .offset) < compactLen p = compact-within p (a .drive) (a .zone) (a .offset) (h .0) (h .1) (h .2) in

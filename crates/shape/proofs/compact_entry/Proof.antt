@@ -9,10 +9,14 @@ use Rattle.shape.proofs.compact_entry.Statement.{statement}
 use Rattle.shape.proofs.compact_entry.Tie as tie
 
 rem-result : tie.Need-rem-result
-rem-result c = let r = ranged (c .before .args .p) (c .before .pre) in let l : c .before .args .stripe % c .before .args .p .G < c .before .args .p .G = mod-lt (c .before .args .stripe) (omega (arith, r .group-low)) in omega arith
+rem-result c =
+    let r = ranged (c .before .args .p) (c .before .pre) in
+    let l : c .before .args .stripe % c .before .args .p .G < c .before .args .p .G = mod-lt (c .before .args .stripe) (omega (arith, r .group-low)) in omega arith
 
 cast-result : tie.Need-cast-result
-cast-result c = let r = ranged (c .before .args .p) (c .before .pre) in let l : c .before .args .stripe % c .before .args .p .G < c .before .args .p .G = mod-lt (c .before .args .stripe) (omega (arith, r .group-low)) in omega arith
+cast-result c =
+    let r = ranged (c .before .args .p) (c .before .pre) in
+    let l : c .before .args .stripe % c .before .args .p .G < c .before .args .p .G = mod-lt (c .before .args .stripe) (omega (arith, r .group-low)) in omega arith
 
 returns : tie.Need-returns
 unfolding compactEntry

@@ -11,11 +11,15 @@ mul-result c = let r = ranged (c .before .args .p) (c .before .pre) in omega (ar
 
 mul-result-2 : tie.Need-mul-result-2
 unfolding compactLen
-mul-result-2 c = let r = ranged (c .before .before .args .p) (c .before .before .pre) in omega (arith, compact-high (c .before .before .args .p) r)
+mul-result-2 c =
+    let args = c .before .before .args in
+    let r = ranged (args .p) (c .before .before .pre) in omega (arith, compact-high (args .p) r)
 
 returns : tie.Need-returns
 unfolding compactLen
-returns c = let r = ranged (c .before .before .args .p) (c .before .before .pre) in (refl, compact-high (c .before .before .args .p) r)
+returns c =
+    let args = c .before .before .args in
+    let r = ranged (args .p) (c .before .before .pre) in (refl, compact-high (args .p) r)
 
 pub compact-len-spec : {M : Type 1} → statement M
 compact-len-spec = tie.close (tie.spec mul-result mul-result-2 returns)

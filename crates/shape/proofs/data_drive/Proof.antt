@@ -29,7 +29,10 @@ returns c =
     (sym (ap (λ (b : Bool). cond b i (suc i)) e), omega (arith, c .if1 .taken, c .before .parity-drive .ensures .1))
 
 add-result : tie.Need-add-result
-add-result c = let r = ranged (c .before .before .args .p) (c .before .before .pre .0) in omega (arith, c .before .before .pre .1, data-count-high (c .before .before .args .p) r)
+add-result c =
+    let args = c .before .before .args in
+    let pre = c .before .before .pre in
+    let r = ranged (args .p) (pre .0) in omega (arith, pre .1, data-count-high (args .p) r)
 
 returns-2 : tie.Need-returns-2
 unfolding dataDrive dataCount

@@ -18,35 +18,53 @@ mul-result : tie.Need-mul-result
 mul-result c =
     let p = c .before .before .args .p in
     let r = ranged p (c .before .before .pre) in
-    let h : c .before .capacity .result * c .unit-len .result ≤ 359660196 = prod-le (c .before .capacity .result) (c .unit-len .result) 87381 4116 359660196 (omega arith) (omega arith) (omega arith) in
+    let h : c .before .capacity .result * c .unit-len .result ≤ 359660196 =
+    prod-le (c .before .capacity .result) (c .unit-len .result) 87381 4116 359660196 (omega arith) (omega arith) (omega arith) in
     omega arith
 
 mul-result-2 : tie.Need-mul-result-2
 mul-result-2 c =
-    let p = c .before .before .before .args .p in
-    let r = ranged p (c .before .before .before .pre) in
-    let h : c .before .before .capacity .result * c .before .unit-len .result ≤ 359660196 = prod-le (c .before .before .capacity .result) (c .before .unit-len .result) 87381 4116 359660196 (omega arith) (omega arith) (omega arith) in
-    let k : p .Z * (c .before .before .capacity .result * c .before .unit-len .result) ≤ 368292040704 = prod-le (p .Z) (c .before .before .capacity .result * c .before .unit-len .result) 1024 359660196 368292040704 (r .zones-high) h (omega arith) in
+    let capacity = c .before .before .capacity in
+    let entry = c .before .before .before in
+    let args = entry .args in
+    let pre = entry .pre in
+    let p = args .p in
+    let r = ranged p (pre) in
+    let h : capacity .result * c .before .unit-len .result ≤ 359660196 = prod-le (capacity .result) (c .before .unit-len .result) 87381 4116 359660196 (omega arith) (omega arith) (omega arith) in
+    let k : p .Z * (capacity .result * c .before .unit-len .result) ≤ 368292040704 =
+    prod-le (p .Z) (capacity .result * c .before .unit-len .result) 1024 359660196 368292040704 (r .zones-high) h (omega arith) in
     omega arith
 
 mul-result-3 : tie.Need-mul-result-3
 mul-result-3 c =
-    let p = c .before .before .before .before .args .p in
-    let r = ranged p (c .before .before .before .before .pre) in
-    let h : c .before .before .before .capacity .result * c .before .before .unit-len .result ≤ 359660196 = prod-le (c .before .before .before .capacity .result) (c .before .before .unit-len .result) 87381 4116 359660196 (omega arith) (omega arith) (omega arith) in
-    let k : p .Z * (c .before .before .before .capacity .result * c .before .before .unit-len .result) ≤ 368292040704 = prod-le (p .Z) (c .before .before .before .capacity .result * c .before .before .unit-len .result) 1024 359660196 368292040704 (r .zones-high) h (omega arith) in
-    let m : p .N * (p .Z * (c .before .before .before .capacity .result * c .before .before .unit-len .result)) ≤ 2946336325632 = prod-le (p .N) (p .Z * (c .before .before .before .capacity .result * c .before .before .unit-len .result)) 8 368292040704 2946336325632 (r .drives-high) k (omega arith) in
+    let unit-len = c .before .before .unit-len in
+    let capacity = c .before .before .before .capacity in
+    let entry = c .before .before .before .before in
+    let args = entry .args in
+    let pre = entry .pre in
+    let p = args .p in
+    let r = ranged p (pre) in
+    let h : capacity .result * unit-len .result ≤ 359660196 = prod-le (capacity .result) (unit-len .result) 87381 4116 359660196 (omega arith) (omega arith) (omega arith) in
+    let k : p .Z * (capacity .result * unit-len .result) ≤ 368292040704 = prod-le (p .Z) (capacity .result * unit-len .result) 1024 359660196 368292040704 (r .zones-high) h (omega arith) in
+    let m : p .N * (p .Z * (capacity .result * unit-len .result)) ≤ 2946336325632 =
+    prod-le (p .N) (p .Z * (capacity .result * unit-len .result)) 8 368292040704 2946336325632 (r .drives-high) k (omega arith) in
     omega arith
 
 returns : tie.Need-returns
 unfolding imageLen driveLen zoneLen
 returns c =
-    let p = c .before .before .before .before .args .p in
-    let r = ranged p (c .before .before .before .before .pre) in
-    let h : c .before .before .before .capacity .result * c .before .before .unit-len .result ≤ 359660196 = prod-le (c .before .before .before .capacity .result) (c .before .before .unit-len .result) 87381 4116 359660196 (omega arith) (omega arith) (omega arith) in
-    let k : p .Z * (c .before .before .before .capacity .result * c .before .before .unit-len .result) ≤ 368292040704 = prod-le (p .Z) (c .before .before .before .capacity .result * c .before .before .unit-len .result) 1024 359660196 368292040704 (r .zones-high) h (omega arith) in
-    let m : p .N * (p .Z * (c .before .before .before .capacity .result * c .before .before .unit-len .result)) ≤ 2946336325632 = prod-le (p .N) (p .Z * (c .before .before .before .capacity .result * c .before .before .unit-len .result)) 8 368292040704 2946336325632 (r .drives-high) k (omega arith) in
-    (ap₂ (λ (x y : ℕ). p .N * (p .Z * (x * y))) (c .before .before .before .capacity .ensures .0) (c .before .before .unit-len .ensures .0), m)
+    let unit-len = c .before .before .unit-len in
+    let capacity = c .before .before .before .capacity in
+    let entry = c .before .before .before .before in
+    let args = entry .args in
+    let pre = entry .pre in
+    let p = args .p in
+    let r = ranged p (pre) in
+    let h : capacity .result * unit-len .result ≤ 359660196 = prod-le (capacity .result) (unit-len .result) 87381 4116 359660196 (omega arith) (omega arith) (omega arith) in
+    let k : p .Z * (capacity .result * unit-len .result) ≤ 368292040704 = prod-le (p .Z) (capacity .result * unit-len .result) 1024 359660196 368292040704 (r .zones-high) h (omega arith) in
+    let m : p .N * (p .Z * (capacity .result * unit-len .result)) ≤ 2946336325632 =
+    prod-le (p .N) (p .Z * (capacity .result * unit-len .result)) 8 368292040704 2946336325632 (r .drives-high) k (omega arith) in
+    (ap₂ (λ (x y : ℕ). p .N * (p .Z * (x * y))) (capacity .ensures .0) (unit-len .ensures .0), m)
 
 pub image-len-spec : {M : Type 1} → statement M
 image-len-spec =

@@ -11,11 +11,15 @@ mul-result c = let r = ranged (c .before .args .p) (c .before .pre) in omega ari
 
 mul-result-2 : tie.Need-mul-result-2
 unfolding inflightLen
-mul-result-2 c = let r = ranged (c .before .before .args .p) (c .before .before .pre) in omega (arith, inflight-high (c .before .before .args .p) r)
+mul-result-2 c =
+    let args = c .before .before .args in
+    let r = ranged (args .p) (c .before .before .pre) in omega (arith, inflight-high (args .p) r)
 
 returns : tie.Need-returns
 unfolding inflightLen
-returns c = let r = ranged (c .before .before .args .p) (c .before .before .pre) in (refl, inflight-high (c .before .before .args .p) r)
+returns c =
+    let args = c .before .before .args in
+    let r = ranged (args .p) (c .before .before .pre) in (refl, inflight-high (args .p) r)
 
 pub inflight-len-spec : {M : Type 1} → statement M
 inflight-len-spec = tie.close (tie.spec mul-result mul-result-2 returns)

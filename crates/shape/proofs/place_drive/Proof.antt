@@ -24,10 +24,12 @@ div-result-2 c = let r = ranged (c .before .before .before .args .p) (c .before 
 returns : tie.Need-returns
 unfolding placeDrive
 returns c =
-    let p = c .before .before .before .args .p in
-    let q = c .before .before .before .args .place .0 in
+    let capacity = c .before .before .capacity in
+    let args = c .before .before .before .args in
+    let p = args .p in
+    let q = args .place .0 in
     let f : q < 4294967296 = search needs in
-    (ap (λ (x : ℕ). q / x / p .Z) (c .before .before .capacity .ensures .0), omega (arith, div-le-self (q / c .before .before .capacity .result) (p .Z), div-le-self q (c .before .before .capacity .result)))
+    (ap (λ (x : ℕ). q / x / p .Z) (capacity .ensures .0), omega (arith, div-le-self (q / capacity .result) (p .Z), div-le-self q (capacity .result)))
 
 pub place-drive-spec : {M : Type 1} → statement M
 place-drive-spec =

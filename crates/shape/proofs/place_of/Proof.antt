@@ -14,9 +14,10 @@ capacity-requires c κs = search needs
 mul-at : tie.Need-mul-at
 mul-at c =
     let a = c .before .before .args in
+    let pre = c .before .before .pre in
     let p = a .p in
-    let h = c .before .before .pre .1 in
-    let r = ranged p (c .before .before .pre .0) in
+    let h = pre .1 in
+    let r = ranged p (pre .0) in
     let d : a .drive * p .Z + a .zone < p .N * p .Z = zone-index-lt p (a .drive) (a .zone) (h .0) (h .1) in
     let n : p .N * p .Z ≤ 8192 = zones-all p r in
     omega arith
@@ -24,9 +25,10 @@ mul-at c =
 add-at : tie.Need-add-at
 add-at c =
     let a = c .before .before .args in
+    let pre = c .before .before .pre in
     let p = a .p in
-    let h = c .before .before .pre .1 in
-    let r = ranged p (c .before .before .pre .0) in
+    let h = pre .1 in
+    let r = ranged p (pre .0) in
     let d : a .drive * p .Z + a .zone < p .N * p .Z = zone-index-lt p (a .drive) (a .zone) (h .0) (h .1) in
     let n : p .N * p .Z ≤ 8192 = zones-all p r in
     omega arith
@@ -34,35 +36,41 @@ add-at c =
 mul-at-2 : tie.Need-mul-at-2
 mul-at-2 c =
     let a = c .before .before .args in
+    let pre = c .before .before .pre in
     let p = a .p in
-    let h = c .before .before .pre .1 in
-    let r = ranged p (c .before .before .pre .0) in
+    let h = pre .1 in
+    let r = ranged p (pre .0) in
     let d : a .drive * p .Z + a .zone < p .N * p .Z = zone-index-lt p (a .drive) (a .zone) (h .0) (h .1) in
     let n : p .N * p .Z ≤ 8192 = zones-all p r in
-    let m : (a .drive * p .Z + a .zone) * c .before .capacity .result ≤ 715737771 = prod-le (a .drive * p .Z + a .zone) (c .before .capacity .result) 8191 87381 715737771 (omega arith) (omega arith) (omega arith) in
+    let m : (a .drive * p .Z + a .zone) * c .before .capacity .result ≤ 715737771 =
+    prod-le (a .drive * p .Z + a .zone) (c .before .capacity .result) 8191 87381 715737771 (omega arith) (omega arith) (omega arith) in
     omega arith
 
 add-at-2 : tie.Need-add-at-2
 add-at-2 c =
     let a = c .before .before .args in
+    let pre = c .before .before .pre in
     let p = a .p in
-    let h = c .before .before .pre .1 in
-    let r = ranged p (c .before .before .pre .0) in
+    let h = pre .1 in
+    let r = ranged p (pre .0) in
     let d : a .drive * p .Z + a .zone < p .N * p .Z = zone-index-lt p (a .drive) (a .zone) (h .0) (h .1) in
     let n : p .N * p .Z ≤ 8192 = zones-all p r in
-    let m : (a .drive * p .Z + a .zone) * c .before .capacity .result ≤ 715737771 = prod-le (a .drive * p .Z + a .zone) (c .before .capacity .result) 8191 87381 715737771 (omega arith) (omega arith) (omega arith) in
+    let m : (a .drive * p .Z + a .zone) * c .before .capacity .result ≤ 715737771 =
+    prod-le (a .drive * p .Z + a .zone) (c .before .capacity .result) 8191 87381 715737771 (omega arith) (omega arith) (omega arith) in
     let b : a .block < c .before .capacity .result = omega (arith, c .before .capacity .ensures .0, h .2) in
     omega arith
 
 cast-t10 : tie.Need-cast-t10
 cast-t10 c =
     let a = c .before .before .args in
+    let pre = c .before .before .pre in
     let p = a .p in
-    let h = c .before .before .pre .1 in
-    let r = ranged p (c .before .before .pre .0) in
+    let h = pre .1 in
+    let r = ranged p (pre .0) in
     let d : a .drive * p .Z + a .zone < p .N * p .Z = zone-index-lt p (a .drive) (a .zone) (h .0) (h .1) in
     let n : p .N * p .Z ≤ 8192 = zones-all p r in
-    let m : (a .drive * p .Z + a .zone) * c .before .capacity .result ≤ 715737771 = prod-le (a .drive * p .Z + a .zone) (c .before .capacity .result) 8191 87381 715737771 (omega arith) (omega arith) (omega arith) in
+    let m : (a .drive * p .Z + a .zone) * c .before .capacity .result ≤ 715737771 =
+    prod-le (a .drive * p .Z + a .zone) (c .before .capacity .result) 8191 87381 715737771 (omega arith) (omega arith) (omega arith) in
     let b : a .block < c .before .capacity .result = omega (arith, c .before .capacity .ensures .0, h .2) in
     omega arith
 
@@ -70,12 +78,14 @@ returns : tie.Need-returns
 unfolding placeOf
 returns c =
     let a = c .before .before .args in
+    let pre = c .before .before .pre in
     let p = a .p in
-    let h = c .before .before .pre .1 in
-    let r = ranged p (c .before .before .pre .0) in
+    let h = pre .1 in
+    let r = ranged p (pre .0) in
     let d : a .drive * p .Z + a .zone < p .N * p .Z = zone-index-lt p (a .drive) (a .zone) (h .0) (h .1) in
     let n : p .N * p .Z ≤ 8192 = zones-all p r in
-    let m : (a .drive * p .Z + a .zone) * c .before .capacity .result ≤ 715737771 = prod-le (a .drive * p .Z + a .zone) (c .before .capacity .result) 8191 87381 715737771 (omega arith) (omega arith) (omega arith) in
+    let m : (a .drive * p .Z + a .zone) * c .before .capacity .result ≤ 715737771 =
+    prod-le (a .drive * p .Z + a .zone) (c .before .capacity .result) 8191 87381 715737771 (omega arith) (omega arith) (omega arith) in
     let b : a .block < c .before .capacity .result = omega (arith, c .before .capacity .ensures .0, h .2) in
     (ap (λ (x : ℕ). (a .drive * p .Z + a .zone) * x + a .block) (c .before .capacity .ensures .0), omega arith)
 

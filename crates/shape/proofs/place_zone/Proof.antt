@@ -24,10 +24,14 @@ rem-result c = let r = ranged (c .before .before .before .args .p) (c .before .b
 returns : tie.Need-returns
 unfolding placeZone
 returns c =
-    let p = c .before .before .before .args .p in
-    let r = ranged p (c .before .before .before .pre) in
-    let q = c .before .before .before .args .place .0 in
-    (ap (λ (x : ℕ). q / x % p .Z) (c .before .before .capacity .ensures .0), mod-lt (q / c .before .before .capacity .result) (omega (arith, r .zones-low)))
+    let capacity = c .before .before .capacity in
+    let entry = c .before .before .before in
+    let args = entry .args in
+    let pre = entry .pre in
+    let p = args .p in
+    let r = ranged p (pre) in
+    let q = args .place .0 in
+    (ap (λ (x : ℕ). q / x % p .Z) (capacity .ensures .0), mod-lt (q / capacity .result) (omega (arith, r .zones-low)))
 
 pub place-zone-spec : {M : Type 1} → statement M
 place-zone-spec = tie.close (tie.spec capacity-requires cast-result div-result rem-result returns)

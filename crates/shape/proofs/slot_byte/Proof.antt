@@ -37,9 +37,10 @@ mul-result-2 : tie.Need-mul-result-2
 unfolding slotByte
 mul-result-2 c =
     let a = c .before .before .args in
+    let pre = c .before .before .pre in
     let p = a .p in
-    let h = c .before .before .pre .1 in
-    let r = ranged p (c .before .before .pre .0) in
+    let h = pre .1 in
+    let r = ranged p (pre .0) in
     let d : a .slot * p .N + a .drive < 8 * p .N = digits-lt (h .0) (h .1) in
     let w : slotByte p (a .slot) (a .drive) + p .B ≤ inflightLen p = slot-within p (a .slot) (a .drive) (h .0) (h .1) in
     let m : inflightLen p ≤ 262144 = inflight-high p r in
@@ -49,9 +50,10 @@ returns : tie.Need-returns
 unfolding slotByte
 returns c =
     let a = c .before .before .args in
+    let pre = c .before .before .pre in
     let p = a .p in
-    let h = c .before .before .pre .1 in
-    let r = ranged p (c .before .before .pre .0) in
+    let h = pre .1 in
+    let r = ranged p (pre .0) in
     let d : a .slot * p .N + a .drive < 8 * p .N = digits-lt (h .0) (h .1) in
     let w : slotByte p (a .slot) (a .drive) + p .B ≤ inflightLen p = slot-within p (a .slot) (a .drive) (h .0) (h .1) in
     let m : inflightLen p ≤ 262144 = inflight-high p r in

@@ -13,9 +13,11 @@ add-block-byte c = let r = ranged (c .before .before .args .p) (c .before .befor
 
 block-byte-requires : tie.Need-block-byte-requires
 block-byte-requires c κs =
-    let p = c .before .before .args .p in
-    let r = ranged p (c .before .before .pre .0) in
-    (c .before .before .pre .0, (c .before .before .pre .1 .0, c .before .before .pre .1 .1, first-foot-below p r))
+    let args = c .before .before .args in
+    let pre = c .before .before .pre in
+    let p = args .p in
+    let r = ranged p (pre .0) in
+    (pre .0, (pre .1 .0, pre .1 .1, first-foot-below p r))
 
 returns : tie.Need-returns
 unfolding firstByte

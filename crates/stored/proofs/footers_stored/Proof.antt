@@ -19,10 +19,12 @@ add-if1 c = omega (arith, ranged (c .before .before .before .args .p) (c .before
 returns : tie.Need-returns
 returns c =
     let a = c .before .before .before .before .args in
+    let pointer = c .before .before .pointer in
+    let pre = c .before .before .before .before .pre in
     let p = a .p in
-    let h = c .before .before .before .before .pre .1 in
-    let n : c .before .before .pointer .result ≡ pointerOf p (a .pointers .now) (a .drive) (a .zone) = c .before .before .pointer .ensures in
-    ((λ im hi. let e = footers-stored-by p (ranged p (c .before .before .before .before .pre .0)) im (a .pointers .now) hi (h .0) (a .drive) (a .zone) (h .1) (h .2) in omega (arith, e, n, c .if1 .taken)), omega arith)
+    let h = pre .1 in
+    let n : pointer .result ≡ pointerOf p (a .pointers .now) (a .drive) (a .zone) = pointer .ensures in
+    ((λ im hi. let e = footers-stored-by p (ranged p (pre .0)) im (a .pointers .now) hi (h .0) (a .drive) (a .zone) (h .1) (h .2) in omega (arith, e, n, c .if1 .taken)), omega arith)
 
 sub-m : tie.Need-sub-m
 sub-m c = search needs
@@ -36,18 +38,28 @@ footers-requires c κs = search needs
 returns-2 : tie.Need-returns-2
 returns-2 c =
     let a = c .before .before .before .before .before .before .before .args in
+    let pointer = c .before .before .before .before .before .pointer in
+    let pre = c .before .before .before .before .before .before .before .pre in
     let p = a .p in
-    let h = c .before .before .before .before .before .before .before .pre .1 in
-    let n : c .before .before .before .before .before .pointer .result ≡ pointerOf p (a .pointers .now) (a .drive) (a .zone) = c .before .before .before .before .before .pointer .ensures in
-    ((λ im hi. let e = footers-stored-by p (ranged p (c .before .before .before .before .before .before .before .pre .0)) im (a .pointers .now) hi (h .0) (a .drive) (a .zone) (h .1) (h .2) in omega (arith, e, n, c .if2 .taken, c .before .footers .ensures .0)), omega (arith, c .before .footers .ensures .0))
+    let h = pre .1 in
+    let n : pointer .result ≡ pointerOf p (a .pointers .now) (a .drive) (a .zone) = pointer .ensures in (
+      (λ im hi. let e = footers-stored-by p (ranged p (pre .0)) im (a .pointers .now) hi (h .0) (a .drive) (a .zone) (h .1) (h .2) in omega
+          (arith, e, n, c .if2 .taken, c .before .footers .ensures .0)),
+      omega (arith, c .before .footers .ensures .0),
+    )
 
 returns-3 : tie.Need-returns-3
 returns-3 c =
     let a = c .before .before .before .before .before .before .before .args in
+    let pointer = c .before .before .before .before .before .pointer in
+    let pre = c .before .before .before .before .before .before .before .pre in
     let p = a .p in
-    let h = c .before .before .before .before .before .before .before .pre .1 in
-    let n : c .before .before .before .before .before .pointer .result ≡ pointerOf p (a .pointers .now) (a .drive) (a .zone) = c .before .before .before .before .before .pointer .ensures in
-    ((λ im hi. let e = footers-stored-by p (ranged p (c .before .before .before .before .before .before .before .pre .0)) im (a .pointers .now) hi (h .0) (a .drive) (a .zone) (h .1) (h .2) in omega (arith, e, n, c .if2 .left, c .before .footers .ensures .0)), omega (arith, c .if2 .left, c .before .footers .ensures .0))
+    let h = pre .1 in
+    let n : pointer .result ≡ pointerOf p (a .pointers .now) (a .drive) (a .zone) = pointer .ensures in (
+      (λ im hi. let e = footers-stored-by p (ranged p (pre .0)) im (a .pointers .now) hi (h .0) (a .drive) (a .zone) (h .1) (h .2) in omega
+          (arith, e, n, c .if2 .left, c .before .footers .ensures .0)),
+      omega (arith, c .if2 .left, c .before .footers .ensures .0),
+    )
 
 pub footers-stored-spec : {M : Type 1} → statement M
 footers-stored-spec =

@@ -16,15 +16,17 @@ zone-on-requires c κs = search needs
 record-in-requires : tie.Need-record-in-requires
 record-in-requires c κs =
     let a = c .before .before .before .before .args in
-    let h = c .before .before .before .before .pre .1 .1 in
-    let w = c .before .before .before .before .pre .1 .0 in
-    (c .before .before .before .before .pre .0, (w .image-long, h .0, rw (c .zone-on .ensures) (zone-on-lt (a .p) (a .segment) (a .drive) (h .1)), h .2))
+    let pre = c .before .before .before .before .pre in
+    let h = pre .1 .1 in
+    let w = pre .1 .0 in
+    (pre .0, (w .image-long, h .0, rw (c .zone-on .ensures) (zone-on-lt (a .p) (a .segment) (a .drive) (h .1)), h .2))
 
 returns : tie.Need-returns
 unfolding recordAt
 returns c =
     let a = c .before .before .before .before .before .args in
-    let w = c .before .before .before .before .before .pre .1 .0 in
+    let pre = c .before .before .before .before .before .pre in
+    let w = pre .1 .0 in
     let v = viewOf (a .p) (a .image .now) (a .pointers .now) in
     c .record-in .ensures (a .pointers .now) (w .pointers-long)
     ∙ ap₂ (λ (f : Bool) (z : ℕ). recordIn (a .p) f (zoneAt v (a .drive) z) (a .offset)) (c .before .before .is-sealed .ensures (a .image .now) (w .image-long)) (c .before .zone-on .ensures)

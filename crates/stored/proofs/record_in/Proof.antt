@@ -28,14 +28,19 @@ read-record-requires : tie.Need-read-record-requires
 read-record-requires c κs = search needs
 
 returns : tie.Need-returns
-returns c = λ ps hp.
-    let a = c .before .before .before .before .args in
+returns c =
+    let record-byte = c .before .before .record-byte in
+    let entry = c .before .before .before .before in
+    let args = entry .args in
+    let pre = entry .pre in
+    λ ps hp.
+    let a = args in
     let p = a .p in
-    let r = ranged p (c .before .before .before .before .pre .0) in
-    let h = c .before .before .before .before .pre .1 in
+    let r = ranged p (pre .0) in
+    let h = pre .1 in
     let im = a .image .now in
     c .read-record .ensures
-    ∙ ap recordOf (part-lent (c .before .before .record-byte .result) 20 im ∙ ap (λ (x : ℕ). part x 20 im) (c .before .before .record-byte .ensures .0))
+    ∙ ap recordOf (part-lent (record-byte .result) 20 im ∙ ap (λ (x : ℕ). part x 20 im) (record-byte .ensures .0))
     ∙ record-by p r im ps (h .0) hp (a .drive) (a .zone) (h .1) (h .2) (a .full) (a .offset) (h .3)
 
 pub record-in-spec : {M : Type 1} → statement M

@@ -21,10 +21,14 @@ loop-holds c =
     (omega arith, any-start (λ e. isIn (a .gone) e && isData (a .p) (a .s) e) (a .p .N))
 
 lost-data-requires : tie.Need-lost-data-requires Inv-loop μ-loop
-lost-data-requires c κs = c .before .before .before .before .pre
+lost-data-requires c κs =
+    let pre = c .before .before .before .before .pre in
+    pre
 
 returns : tie.Need-returns Inv-loop μ-loop
-returns c = let a = c .before .args in absent-none (a .p) (a .gone) (isData (a .p) (a .s)) (c .if1 .taken)
+returns c =
+    let a = c .before .args in
+    absent-none (a .p) (a .gone) (isData (a .p) (a .s)) (c .if1 .taken)
 
 returns-2 : tie.Need-returns-2 Inv-loop μ-loop
 returns-2 c =
@@ -43,8 +47,9 @@ loop-again : tie.Need-loop-again Inv-loop μ-loop
 loop-again c =
     let a = c .before .before .before .before .before .before .args in
     let l = c .before .before .before .before .loop in
+    let if2 = c .before .before .if2 in
     let f : ℕ → Bool = λ e. isIn (a .gone) e && isData (a .p) (a .s) e in
-    (omega (arith, c .before .before .if2 .taken), sym (any-passed f (l .d) (a .p .N) (c .before .before .if2 .taken) (sym (c .before .lost-data .ensures) ∙ c .if3 .left)) ∙ l .inv .1)
+    (omega (arith, if2 .taken), sym (any-passed f (l .d) (a .p .N) (if2 .taken) (sym (c .before .lost-data .ensures) ∙ c .if3 .left)) ∙ l .inv .1)
 
 returns-3 : tie.Need-returns-3 Inv-loop μ-loop
 returns-3 c =

@@ -35,10 +35,11 @@ is-entered-requires c κs =
 
 returns : tie.Need-returns Inv-loop μ-loop
 returns c =
-    let i = c .before .is-entered in (
+    let i = c .before .is-entered in
+    let loop = c .before .before .before .before .loop in (
       (λ q. absurd (not-both false q refl)),
       (λ f.
-          absurd (not-both (i .result) (i .ensures .1 (λ e. f (c .before .before .before .before .loop .d) (c .before .before .if1 .taken) e)) (not-true (i .result) (c .if2 .taken)))),
+          absurd (not-both (i .result) (i .ensures .1 (λ e. f (loop .d) (c .before .before .if1 .taken) e)) (not-true (i .result) (c .if2 .taken)))),
     )
 
 add-d : tie.Need-add-d Inv-loop μ-loop

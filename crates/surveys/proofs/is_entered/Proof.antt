@@ -71,8 +71,9 @@ group-len-requires c κs = search needs
 returns-3 : tie.Need-returns-3
 returns-3 c =
     let a = c .before .before .before .before .before .before .args in
+    let has-drive = c .before .before .before .before .has-drive in
     let o = getD (a .at .now) (256 * a .drive + a .k) 0 in
-    let e : isIn (a .w .gone) (a .drive) ≡ false = sym (c .before .before .before .before .has-drive .ensures) ∙ c .before .before .before .if1 .left in
+    let e : isIn (a .w .gone) (a .drive) ≡ false = sym (has-drive .ensures) ∙ c .before .before .before .if1 .left in
     let z : o ≡ 0 → ⊥ = c .before .if2 .left in (
       (λ q _. (omega (arith, z), subst (λ (x : ℕ). o ≤ x) (c .group-len .ensures .0) (leb-true o (c .group-len .result) q))),
       (λ f. le-leb o (c .group-len .result) (subst (λ (x : ℕ). o ≤ x) (sym (c .group-len .ensures .0)) (f e .1))),

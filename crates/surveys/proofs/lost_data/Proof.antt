@@ -20,7 +20,8 @@ is-data-requires c κs = search needs
 returns-2 : tie.Need-returns-2
 returns-2 c =
     let a = c .before .before .before .args in
-    c .is-data .ensures ∙ sym (ap (λ (x : Bool). x && isData (a .p) (a .s) (a .drive)) (sym (c .before .before .has-drive .ensures) ∙ not-false (c .before .before .has-drive .result) (c .before .if1 .left)))
+    let has-drive = c .before .before .has-drive in
+    c .is-data .ensures ∙ sym (ap (λ (x : Bool). x && isData (a .p) (a .s) (a .drive)) (sym (has-drive .ensures) ∙ not-false (has-drive .result) (c .before .if1 .left)))
 
 pub lost-data-spec : {M : Type 1} → statement M
 lost-data-spec = tie.close (tie.spec has-drive-requires returns is-data-requires returns-2)

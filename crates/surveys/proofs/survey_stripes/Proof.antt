@@ -41,9 +41,10 @@ loop-holds c =
 survey-stripe-requires : tie.Need-survey-stripe-requires Inv-loop μ-loop
 survey-stripe-requires c κs =
     let a = c .before .before .before .before .before .args in
+    let pre = c .before .before .before .before .before .pre in
     let p = a .p in
     let w = a .w in
-    let h = c .before .before .before .before .before .pre in
+    let h = pre in
     let l = c .before .loop in
     let e : l .k < groupLen p (w .base) = subst (λ (x : ℕ). l .k < x) (c .before .before .group-len .ensures .0) (c .loop-test .taken) in
     (h .0, ((h .1 .0 .0, h .1 .0 .1, h .1 .0 .2, h .1 .0 .3, e), (l .inv .1, l .inv .2)))
@@ -59,9 +60,10 @@ loop-less c =
 loop-again : tie.Need-loop-again Inv-loop μ-loop
 loop-again c =
     let a = c .before .before .before .before .before .before .args in
+    let pre = c .before .before .before .before .before .before .pre in
     let p = a .p in
     let w = a .w in
-    let h = c .before .before .before .before .before .before .pre in
+    let h = pre in
     let l = c .before .before .loop in
     let y = c .survey-stripe in
     let e : w .base + l .k + 1 ≡ w .base + (l .k + 1) = add-assoc (w .base) (l .k) 1 in (
@@ -75,11 +77,13 @@ loop-again c =
 returns : tie.Need-returns Inv-loop μ-loop
 returns c =
     let a = c .before .before .before .before .before .args in
+    let group-len = c .before .before .group-len in
+    let pre = c .before .before .before .before .before .pre in
     let p = a .p in
     let w = a .w in
-    let h = c .before .before .before .before .before .pre in
+    let h = pre in
     let l = c .before .loop in
-    let e : l .k ≡ groupLen p (w .base) = let f : l .k ≤ c .before .before .group-len .result = l .inv .0 in omega (arith, f, c .loop-test .left, c .before .before .group-len .ensures .0) in (
+    let e : l .k ≡ groupLen p (w .base) = let f : l .k ≤ group-len .result = l .inv .0 in omega (arith, f, c .loop-test .left, group-len .ensures .0) in (
       (subst (λ (x : ℕ). l .next .counted ≤ w .base + x) e (l .inv .1), subst (λ (x : ℕ). l .next .loose ≤ w .base + x) e (l .inv .2), l .inv .3),
       λ ps sh T. subst (λ (x : ℕ). Tallied p (w .gone) (segmentIn p (a .image .now) ps w) (w .base + x) (l .next)) e (l .inv .4 ps sh T),
     )

@@ -17,7 +17,9 @@ span-of-requires : tie.Need-span-of-requires Inv-loop μ-loop
 span-of-requires c κs = tt
 
 loop-holds : tie.Need-loop-holds Inv-loop μ-loop
-loop-holds c = (omega arith, count-none (c .before .before .args .table .now) (c .before .before .args .lo .0) (c .before .before .args .hi .0), omega arith)
+loop-holds c =
+    let args = c .before .before .args in
+    (omega arith, count-none (args .table .now) (args .lo .0) (args .hi .0), omega arith)
 
 mul-read-be32 : tie.Need-mul-read-be32 Inv-loop μ-loop
 mul-read-be32 c = omega arith
@@ -29,7 +31,9 @@ is-near-requires : tie.Need-is-near-requires Inv-loop μ-loop
 is-near-requires c κs = c .before .before .before .span-of .ensures
 
 add-k : tie.Need-add-k Inv-loop μ-loop
-add-k c = omega (arith, c .is-near .ensures, bit-le (isWithin (c .before .before .before .before .before .before .args .lo .0) (c .before .before .before .before .before .before .args .hi .0) (c .before .read-be32 .result)))
+add-k c =
+    let args = c .before .before .before .before .before .before .args in
+    omega (arith, c .is-near .ensures, bit-le (isWithin (args .lo .0) (args .hi .0) (c .before .read-be32 .result)))
 
 add-a : tie.Need-add-a Inv-loop μ-loop
 add-a c = omega arith

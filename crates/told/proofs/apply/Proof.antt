@@ -27,13 +27,19 @@ same-length c = search needs
 returns-2 : tie.Need-returns-2
 returns-2 c =
     let s = c .before .before .before .before .before .before .before .before .before .before in
+    let clear = c .before .before .clear in
+    let if2 = c .before .before .before .before .if2 in
+    let if1 = c .before .before .before .before .before .before .if1 in
+    let told-of = c .before .before .before .before .before .before .before .before .told-of in
     let a = s .args in
-    let t = c .before .before .before .before .before .before .before .before .told-of in
+    let t = told-of in
     let k : t .result .kind ≡ kind (a .change .answer) = ap (λ (x : Told). x .kind) (t .ensures) in
-    (t .ensures, applied-cut (a .state .now) (a .change) (omega (arith, c .before .before .before .before .before .before .if1 .left, k)) (c .before .before .clear .last .0) (sym k ∙ c .before .before .before .before .if2 .taken) (s .pre) (c .before .before .clear .ensures))
+    (t .ensures, applied-cut (a .state .now) (a .change) (omega (arith, if1 .left, k)) (clear .last .0) (sym k ∙ if2 .taken) (s .pre) (clear .ensures))
 
 put-change-requires : tie.Need-put-change-requires
-put-change-requires c κs = c .before .before .before .before .before .before .before .pre
+put-change-requires c κs =
+    let pre = c .before .before .before .before .before .before .before .pre in
+    pre
 
 same-length-2 : tie.Need-same-length-2
 same-length-2 c = search needs
@@ -41,10 +47,14 @@ same-length-2 c = search needs
 returns-3 : tie.Need-returns-3
 returns-3 c =
     let s = c .before .before .before .before .before .before .before .before .before .before in
+    let put-change = c .before .before .put-change in
+    let if2 = c .before .before .before .before .if2 in
+    let if1 = c .before .before .before .before .before .before .if1 in
+    let told-of = c .before .before .before .before .before .before .before .before .told-of in
     let a = s .args in
-    let t = c .before .before .before .before .before .before .before .before .told-of in
+    let t = told-of in
     let k : t .result .kind ≡ kind (a .change .answer) = ap (λ (x : Told). x .kind) (t .ensures) in
-    (t .ensures, applied-done (a .state .now) (a .change) (omega (arith, c .before .before .before .before .before .before .if1 .left, k)) (c .before .before .put-change .last .0) (λ e. c .before .before .before .before .if2 .left (k ∙ e)) (c .before .before .put-change .ensures))
+    (t .ensures, applied-done (a .state .now) (a .change) (omega (arith, if1 .left, k)) (put-change .last .0) (λ e. if2 .left (k ∙ e)) (put-change .ensures))
 
 pub apply-spec : {M : Type 1} → statement M
 apply-spec =

@@ -22,7 +22,9 @@ returns c =
 returns-2 : tie.Need-returns-2
 returns-2 c =
     let a = c .before .before .before .before .before .args in
-    let e : inRange (a .p) ≡ true = sym (c .before .before .before .in-range .ensures) ∙ not-false (c .before .before .before .in-range .result) (c .before .before .if1 .left) in
+    let if1 = c .before .before .if1 in
+    let in-range = c .before .before .before .in-range in
+    let e : inRange (a .p) ≡ true = sym (in-range .ensures) ∙ not-false (in-range .result) (if1 .left) in
     names-beyond (a .p) (stateOf (a .state .now)) (a .drive) e (c .if2 .taken)
 
 missing-in-requires : tie.Need-missing-in-requires
@@ -34,8 +36,11 @@ only-drive-requires c κs = search needs
 returns-3 : tie.Need-returns-3
 returns-3 c =
     let a = c .before .before .before .before .before .before .before .args in
-    let e : inRange (a .p) ≡ true = sym (c .before .before .before .before .before .in-range .ensures) ∙ not-false (c .before .before .before .before .before .in-range .result) (c .before .before .before .before .if1 .left) in
-    names-it (a .p) (stateOf (a .state .now)) (a .drive) e (omega (arith, c .before .before .if2 .left)) (c .before .missing-in .result) (c .only-drive .result)
+    let if2 = c .before .before .if2 in
+    let if1 = c .before .before .before .before .if1 in
+    let in-range = c .before .before .before .before .before .in-range in
+    let e : inRange (a .p) ≡ true = sym (in-range .ensures) ∙ not-false (in-range .result) (if1 .left) in
+    names-it (a .p) (stateOf (a .state .now)) (a .drive) e (omega (arith, if2 .left)) (c .before .missing-in .result) (c .only-drive .result)
     (eqb (c .before .missing-in .result) (c .only-drive .result)) (c .before .missing-in .ensures) (c .only-drive .ensures) refl
 
 pub good-rebuild-spec : {M : Type 1} → statement M

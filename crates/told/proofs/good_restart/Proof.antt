@@ -21,13 +21,17 @@ returns c =
 returns-2 : tie.Need-returns-2
 returns-2 c =
     let a = c .before .before .before .before .args in
-    let e : inRange (a .p) ≡ true = sym (c .before .before .before .in-range .ensures) ∙ not-false (c .before .before .before .in-range .result) (c .before .before .if1 .left) in
+    let if1 = c .before .before .if1 in
+    let in-range = c .before .before .before .in-range in
+    let e : inRange (a .p) ≡ true = sym (in-range .ensures) ∙ not-false (in-range .result) (if1 .left) in
     names-one (a .p) (a .missing) e (c .if2 .taken)
 
 returns-3 : tie.Need-returns-3
 returns-3 c =
     let a = c .before .before .before .before .args in
-    let e : inRange (a .p) ≡ true = sym (c .before .before .before .in-range .ensures) ∙ not-false (c .before .before .before .in-range .result) (c .before .before .if1 .left) in
+    let if1 = c .before .before .if1 in
+    let in-range = c .before .before .before .in-range in
+    let e : inRange (a .p) ≡ true = sym (in-range .ensures) ∙ not-false (in-range .result) (if1 .left) in
     names-none (a .p) (a .missing) e (omega (arith, c .if2 .left)) (eqb (a .missing) 255) refl
 
 pub good-restart-spec : {M : Type 1} → statement M

@@ -28,9 +28,11 @@ returns : tie.Need-returns
 unfolding addressesLen
 returns c =
     let a = c .before .before .before .args in
+    let shared-slice-known = c .before .before .shared-slice-known in
+    let pre = c .before .before .before .pre in
     let p = a .p in
     let tb = a .addresses .now in
-    outside-count p (ranged p (c .before .before .before .pre .0)) tb (omega (arith, c .before .before .before .pre .1)) (λ i. omega (arith, c .before .before .shared-slice-known .given i))
+    outside-count p (ranged p (pre .0)) tb (omega (arith, pre .1)) (λ i. omega (arith, shared-slice-known .given i))
     ∙ ap (λ (n : ℕ). consIf (not (eqb n 0)) 0 []) (ap (λ (x : ℕ). countPlaces tb (p .L) x neverPlace) (sym (c .before .places .ensures .0)) ∙ sym (c .count-places .ensures))
 
 pub any-outside-spec : {M : Type 1} → statement M

@@ -26,7 +26,9 @@ loop-holds c =
     (omega arith, λ im h. any-start (sealedIn (a .p) (viewOf (a .p) im (a .pointers .now)) 0) (a .p .Z))
 
 is-sealed-requires : tie.Need-is-sealed-requires Inv-loop μ-loop
-is-sealed-requires c κs = (c .before .before .before .before .pre .0, (c .before .before .before .before .pre .1, c .if1 .taken))
+is-sealed-requires c κs =
+    let pre = c .before .before .before .before .pre in
+    (pre .0, (pre .1, c .if1 .taken))
 
 returns : tie.Need-returns Inv-loop μ-loop
 returns c =

@@ -16,8 +16,10 @@ holds-requires c κs = search needs
 returns : tie.Need-returns
 returns c =
     let a = c .before .before .before .before .before .before .args in
+    let record-of = c .before .before .before .record-of in
+    let pre = c .before .before .before .before .before .before .pre in
     let v = viewOf (a .p) (a .image .now) (a .pointers .now) in
-    c .holds .ensures ∙ flying-is (a .p) v (a .state) (a .place .0) (recOf (c .before .before .before .record-of .result)) (c .before .before .before .before .before .before .pre .1 .1 .1) (c .before .before .before .record-of .ensures)
+    c .holds .ensures ∙ flying-is (a .p) v (a .state) (a .place .0) (recOf (record-of .result)) (pre .1 .1 .1) (record-of .ensures)
 
 pub is-flying-spec : {M : Type 1} → statement M
 is-flying-spec = tie.close (tie.spec record-of-requires holds-requires returns)

@@ -12,7 +12,9 @@ place-block-requires : tie.Need-place-block-requires
 place-block-requires c κs = search needs
 
 returns : tie.Need-returns
-returns c = sym (odd-low (c .before .before .args .p) (c .before .before .args .place .0) (omega (arith, c .if1 .taken, c .before .place-block .ensures .0)))
+returns c =
+    let args = c .before .before .args in
+    sym (odd-low (args .p) (args .place .0) (omega (arith, c .if1 .taken, c .before .place-block .ensures .0)))
 
 returns-2 : tie.Need-returns-2
 returns-2 c =

@@ -14,9 +14,10 @@ any-sealed-requires c κs = search needs
 returns : tie.Need-returns
 returns c =
     let a = c .before .before .before .before .before .args in
+    let pre = c .before .before .before .before .before .pre in
     let p = a .p in
     let tb = a .addresses .now in
-    let w = c .before .before .before .before .before .pre .1 .0 in
+    let w = pre .1 .0 in
     let v = viewOf p (a .image .now) (a .pointers .now) in
     let no = sym (c .before .any-sealed .ensures (a .image .now) (w .image-long)) ∙ not-true (c .before .any-sealed .result) (c .if1 .taken) in
     looked-none p v tb (a .state) (p .Z) (unsealed p v tb no) (omega arith)
@@ -53,7 +54,9 @@ returns-5 : tie.Need-returns-5
 returns-5 c = search needs
 
 returns-6 : tie.Need-returns-6
-returns-6 c = c .before .before .before .look-by-records .ensures (not-false (c .before .before .before .look-by-records .result .sure) (c .before .if5 .left))
+returns-6 c =
+    let look-by-records = c .before .before .before .look-by-records in
+    look-by-records .ensures (not-false (look-by-records .result .sure) (c .before .if5 .left))
 
 pub look-spec : {M : Type 1} → statement M
 look-spec =

@@ -75,10 +75,11 @@ is-quick-requires c κs =
     let c4 = c .before .before .before .before in
     let c7 = c .before .before .before .before .before .before .before in
     let o = c .before .before .before .before .before .before .before .before .before .before .before .before in
+    let if1 = c .before .before .if1 in
     let a = o .args in
     let r = ranged (a .p) (o .pre .0) in
     let n : length {A = ℕ} (replicate 1024 0) ≡ 1024 = length-replicate {A = ℕ} 1024 0 in
-    let low = c7 .count-entries .ensures .low (c4 .fewest .result) (omega (arith, c .before .before .if1 .left)) in
+    let low = c7 .count-entries .ensures .low (c4 .fewest .result) (omega (arith, if1 .left)) in
     (o .pre .0, (subst (λ (x : ℕ). a .p .Z ≤ x) (sym (c7 .count-entries .kept .1 .1 .0 ∙ n)) (r .zones-high), omega (arith, low, addresses-all (a .p) r)))
 
 returns-3 : tie.Need-returns-3

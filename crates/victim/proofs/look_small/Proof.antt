@@ -11,8 +11,9 @@ slice-aggregate-look-with c = search needs
 
 look-with-requires : tie.Need-look-with-requires
 look-with-requires c κs =
+    let pre = c .before .before .before .before .pre in
     let n : length {A = ℕ} (replicate 8192 0) ≡ 8192 = length-replicate {A = ℕ} 8192 0 in
-    (c .before .before .before .before .pre .0, (c .before .before .before .before .pre .1 .0, (c .before .before .before .before .pre .1 .1, subst (λ (x : ℕ). 0 < x) (sym n) (omega arith), subst (λ (x : ℕ). x < 268435456) (sym n) (omega arith))))
+    (pre .0, (pre .1 .0, (pre .1 .1, subst (λ (x : ℕ). 0 < x) (sym n) (omega arith), subst (λ (x : ℕ). x < 268435456) (sym n) (omega arith))))
 
 returns : tie.Need-returns
 returns c = search needs

@@ -18,10 +18,11 @@ slice-aggregate-count-windows c = search needs
 count-windows-requires : tie.Need-count-windows-requires
 count-windows-requires c κs =
     let a = c .before .before .before .before .before .before .args in
-    let r = ranged (a .p) (c .before .before .before .before .before .before .pre .0) in
-    let h = c .before .before .before .before .before .before .pre .1 .1 in
+    let pre = c .before .before .before .before .before .before .pre in
+    let r = ranged (a .p) (pre .0) in
+    let h = pre .1 .1 in
     let n : length {A = ℕ} (replicate 1024 0) ≡ 1024 = length-replicate {A = ℕ} 1024 0 in (
-      c .before .before .before .before .before .before .pre .0,
+      pre .0,
       (
         (h .0, h .1, h .2, subst (λ (x : ℕ). a .p .Z ≤ x) (sym n) (r .zones-high)),
         counted-none (a .p) (a .addresses .now) (replicate 1024 0) (λ g l. getD-replicate 1024 g 0 0 (omega (arith, l, r .zones-high))),
@@ -34,9 +35,11 @@ slice-aggregate-fewest c = search needs
 fewest-requires : tie.Need-fewest-requires
 fewest-requires c κs =
     let a = c .before .before .before .before .before .before .before .before .before .before .before .args in
-    let r = ranged (a .p) (c .before .before .before .before .before .before .before .before .before .before .before .pre .0) in
+    let count-windows = c .before .before .before .before .count-windows in
+    let pre = c .before .before .before .before .before .before .before .before .before .before .before .pre in
+    let r = ranged (a .p) (pre .0) in
     let n : length {A = ℕ} (replicate 1024 0) ≡ 1024 = length-replicate {A = ℕ} 1024 0 in
-    (c .before .before .before .before .before .before .before .before .before .before .before .pre .0, (c .before .before .before .before .before .before .before .before .before .before .before .pre .1 .0 .pointers-long, subst (λ (x : ℕ). a .p .Z ≤ x) (sym (c .before .before .before .before .count-windows .kept .1 .1 .1 .0 ∙ n)) (r .zones-high)))
+    (pre .0, (pre .1 .0 .pointers-long, subst (λ (x : ℕ). a .p .Z ≤ x) (sym (count-windows .kept .1 .1 .1 .0 ∙ n)) (r .zones-high)))
 
 same-length : tie.Need-same-length
 same-length c = search needs
@@ -44,23 +47,36 @@ same-length c = search needs
 returns : tie.Need-returns
 returns c =
     let a = c .before .before .before .before .before .before .before .before .before .before .before .before .before .before .args in
+    let fewest′ = c .before .before .fewest in
+    let count-windows = c .before .before .before .before .before .before .before .count-windows in
+    let pre = c .before .before .before .before .before .before .before .before .before .before .before .before .before .before .pre in
     let p = a .p in
     let tb = a .addresses .now in
-    let w = c .before .before .before .before .before .before .before .before .before .before .before .before .before .before .pre .1 .0 in
-    looked-none p (viewOf p (a .image .now) (a .pointers .now)) tb (a .state) (c .before .before .fewest .result) (c .before .before .fewest .ensures .0 (a .image .now) tb (w .image-long) (c .before .before .before .before .before .before .before .count-windows .ensures .0)) (c .if1 .taken)
-    (record { segment = c .before .before .fewest .result; live = 0; first = record { 0 = 4294967295 }; odd = false }) refl refl refl refl
+    let w = pre .1 .0 in
+    looked-none p (viewOf p (a .image .now) (a .pointers .now)) tb (a .state) (fewest′ .result) (fewest′ .ensures .0 (a .image .now) tb (w .image-long) (count-windows .ensures .0)) (c .if1 .taken)
+    (record { segment = fewest′ .result; live = 0; first = record { 0 = 4294967295 }; odd = false }) refl refl refl refl
 
 mul-n : tie.Need-mul-n
-mul-n c = omega (arith, c .if1 .left, ranged (c .before .before .before .before .before .before .before .before .before .before .before .before .before .before .args .p) (c .before .before .before .before .before .before .before .before .before .before .before .before .before .before .pre .0) .zones-high)
+mul-n c =
+    let entry = c .before .before .before .before .before .before .before .before .before .before .before .before .before .before in
+    let args = entry .args in
+    let pre = entry .pre in
+    omega (arith, c .if1 .left, ranged (args .p) (pre .0) .zones-high)
 
 array-read-n : tie.Need-array-read-n
-array-read-n c = omega (arith, c .if1 .left, ranged (c .before .before .before .before .before .before .before .before .before .before .before .before .before .before .args .p) (c .before .before .before .before .before .before .before .before .before .before .before .before .before .before .pre .0) .zones-high)
+array-read-n c =
+    let entry = c .before .before .before .before .before .before .before .before .before .before .before .before .before .before in
+    let args = entry .args in
+    let pre = entry .pre in
+    omega (arith, c .if1 .left, ranged (args .p) (pre .0) .zones-high)
 
 idle-of-requires : tie.Need-idle-of-requires
 idle-of-requires c κs =
-    let h = c .before .before .before .before .before .before .before .before .before .before .before .before .before .before .before .pre .1 .1 in
-    let k = c .before .before .before .before .before .before .before .before .count-windows .kept .1 .1 .0 in
-    (c .before .before .before .before .before .before .before .before .before .before .before .before .before .before .before .pre .0, (c .before .before .before .before .before .before .before .before .before .before .before .before .before .before .before .pre .1 .0, ((h .0, omega (arith, h .1, k), omega (arith, h .2, k)), λ x. c .before .before .before .before .before .before .before .before .count-windows .ensures .1 (omega (arith, x, k)))))
+    let count-windows = c .before .before .before .before .before .before .before .before .count-windows in
+    let pre = c .before .before .before .before .before .before .before .before .before .before .before .before .before .before .before .pre in
+    let h = pre .1 .1 in
+    let k = count-windows .kept .1 .1 .0 in
+    (pre .0, (pre .1 .0, ((h .0, omega (arith, h .1, k), omega (arith, h .2, k)), λ x. count-windows .ensures .1 (omega (arith, x, k)))))
 
 same-length-2 : tie.Need-same-length-2
 same-length-2 c = search needs
@@ -68,17 +84,22 @@ same-length-2 c = search needs
 returns-2 : tie.Need-returns-2
 returns-2 c =
     let a = c .before .before .before .before .before .before .before .before .before .before .before .before .before .before .before .before .before .before .before .args in
+    let idle-of = c .before .before .before .idle-of in
+    let if1 = c .before .before .before .before .before .if1 in
+    let fewest′ = c .before .before .before .before .before .before .before .fewest in
+    let count-windows = c .before .before .before .before .before .before .before .before .before .before .before .before .count-windows in
+    let pre = c .before .before .before .before .before .before .before .before .before .before .before .before .before .before .before .before .before .before .before .pre in
     let p = a .p in
     let tb = a .addresses .now in
-    let w = c .before .before .before .before .before .before .before .before .before .before .before .before .before .before .before .before .before .before .before .pre .1 .0 in
-    let g = c .before .before .before .before .before .before .before .fewest .result in
-    let i = c .before .before .before .idle-of .result in
-    let so = c .before .before .before .before .before .before .before .before .before .before .before .before .count-windows .ensures .0 in
-    let rg = ranged p (c .before .before .before .before .before .before .before .before .before .before .before .before .before .before .before .before .before .before .before .pre .0) in
-    let h : g < p .Z = omega (arith, c .before .before .before .before .before .if1 .left) in
-    let n = getD (c .before .before .before .before .before .before .before .before .before .before .before .before .count-windows .last .1 .1 .1 .0) g 0 in
-    let taken = c .before .before .before .before .before .before .before .fewest .ensures .0 (a .image .now) tb (w .image-long) so in
-    looked-some p (viewOf p (a .image .now) (a .pointers .now)) tb (a .state) g taken rg h n (sym (so g h)) i (c .before .before .before .idle-of .ensures)
+    let w = pre .1 .0 in
+    let g = fewest′ .result in
+    let i = idle-of .result in
+    let so = count-windows .ensures .0 in
+    let rg = ranged p (pre .0) in
+    let h : g < p .Z = omega (arith, if1 .left) in
+    let n = getD (count-windows .last .1 .1 .1 .0) g 0 in
+    let taken = fewest′ .ensures .0 (a .image .now) tb (w .image-long) so in
+    looked-some p (viewOf p (a .image .now) (a .pointers .now)) tb (a .state) g taken rg h n (sym (so g h)) i (idle-of .ensures)
     (record { segment = g; live = n; first = i .first; odd = i .odd }) refl refl refl refl
 
 pub look-with-spec : {M : Type 1} → statement M

@@ -4,10 +4,14 @@ use Rattle.victim.proofs.or_else.Statement.{statement}
 use Rattle.victim.proofs.or_else.Tie as tie
 
 returns : tie.Need-returns
-returns c = sym (else-first (c .before .before .before .args .a .0) (c .before .before .before .args .b .0) (c .if1 .taken))
+returns c =
+    let args = c .before .before .before .args in
+    sym (else-first (args .a .0) (args .b .0) (c .if1 .taken))
 
 returns-2 : tie.Need-returns-2
-returns-2 c = sym (else-kept (c .before .before .before .args .a .0) (c .before .before .before .args .b .0) (c .if1 .left))
+returns-2 c =
+    let args = c .before .before .before .args in
+    sym (else-kept (args .a .0) (args .b .0) (c .if1 .left))
 
 pub or-else-spec : {M : Type 1} → statement M
 or-else-spec = tie.close (tie.spec returns returns-2)

@@ -22,18 +22,30 @@ place-block-requires c κs = search needs
 sub-offset : tie.Need-sub-offset
 sub-offset c =
     let a = c .before .before .before .before .before .args in
-    let b = between-low 1 (a .p .S) (placeBlock (a .p) (a .place .0)) (data-block (a .p) (a .place .0) (c .before .before .before .before .before .pre .1 .1 .1)) in
+    let pre = c .before .before .before .before .before .pre in
+    let b = between-low 1 (a .p .S) (placeBlock (a .p) (a .place .0)) (data-block (a .p) (a .place .0) (pre .1 .1 .1)) in
     omega (arith, c .place-block .ensures .0, b)
 
 record-at-requires : tie.Need-record-at-requires
 record-at-requires c κs =
     let a = c .before .before .before .before .before .args in
+    let place-drive′ = c .before .before .place-drive in
+    let pre = c .before .before .before .before .before .pre in
     let p = a .p in
     let q = a .place .0 in
-    let h = data-block p q (c .before .before .before .before .before .pre .1 .1 .1) in
+    let h = data-block p q (pre .1 .1 .1) in
     let lo = between-low 1 (p .S) (placeBlock p q) h in
-    let hi = between-high 1 (p .S) (placeBlock p q) h in
-    (c .before .before .before .before .before .pre .0, (c .before .before .before .before .before .pre .1 .0, (omega (arith, c .before .before .place-drive .ensures .0, drive-low p (ranged p (c .before .before .before .before .before .pre .0)) q (c .before .before .before .before .before .pre .1 .1 .0)), c .before .place-zone .ensures .1, omega (arith, c .place-block .ensures .0, lo, hi))))
+    let hi = between-high 1 (p .S) (placeBlock p q) h in (
+      pre .0,
+      (
+        pre .1 .0,
+        (
+          omega (arith, place-drive′ .ensures .0, drive-low p (ranged p (pre .0)) q (pre .1 .1 .0)),
+          c .before .place-zone .ensures .1,
+          omega (arith, c .place-block .ensures .0, lo, hi),
+        ),
+      ),
+    )
 
 returns : tie.Need-returns
 returns c =

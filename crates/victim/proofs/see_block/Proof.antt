@@ -68,6 +68,7 @@ returns-2 c =
     let c7 = c .before .before .before .before .before .before .before in
     let c8 = c .before .before .before .before .before .before .before .before in
     let o = c .before .before .before .before .before .before .before .before .before .before .before .before .before .before in
+    let idle-step = c .before .before .idle-step in
     let a = o .args in
     let p = a .p in
     let tb = a .addresses .now in
@@ -78,9 +79,9 @@ returns-2 c =
     let e = ap (λ (x : ℕ). x + a .o) (h .3) in
     let live = data-live p r (a .drive) (a .g) (a .o) q (h .1) (h .2) (h .4) e tb (c8 .clipped .result) (c8 .clipped .ensures) (sym (c7 .place-at .ensures) ∙ c4 .if1 .left) in
     let even = data-even p r (a .drive) (a .g) (a .o) q (h .1) (h .2) (h .4) e in
-    let s = c .before .before .idle-step .result in
+    let s = idle-step .result in
     let low : q < 4294967295 = omega (arith, in-image (o)) in
-    (omega arith, vouched-step p v (a .state) tb (a .g) q (a .seen) (record { live = a .seen .live + 1; first = s .first }) s live even low (c .before .before .idle-step .ensures) refl refl)
+    (omega arith, vouched-step p v (a .state) tb (a .g) q (a .seen) (record { live = a .seen .live + 1; first = s .first }) s live even low (idle-step .ensures) refl refl)
 
 pub see-block-spec : {M : Type 1} → statement M
 see-block-spec =

@@ -17,13 +17,17 @@ add-result : tie.Need-add-result
 add-result c = search needs
 
 mul-result : tie.Need-mul-result
-mul-result c = let a = c .before .args in record { fits = omega (arith, within (a .records) (a .n) (c .before .pre .0) (c .before .pre .1)) }
+mul-result c =
+    let a = c .before .args in
+    record { fits = omega (arith, within (a .records) (a .n) (c .before .pre .0) (c .before .pre .1)) }
 
 div-result : tie.Need-div-result
 div-result c = search needs
 
 returns-2 : tie.Need-returns-2
-returns-2 c = let a = c .before .args in omega (arith, within (a .records) (a .n) (c .before .pre .0) (c .before .pre .1), div-le-self (a .records * (a .n + 1)) (a .entries))
+returns-2 c =
+    let a = c .before .args in
+    omega (arith, within (a .records) (a .n) (c .before .pre .0) (c .before .pre .1), div-le-self (a .records * (a .n + 1)) (a .entries))
 
 pub asked-spec : {M : Type 1} → statement M
 asked-spec =

@@ -43,7 +43,9 @@ loop-again c =
     (omega (arith, c .before .before .if1 .taken), below-more (Enough (a .p) v (a .addresses .now) (a .best) (a .n)) (l .g) (l .inv .1) this)
 
 returns-2 : tie.Need-returns-2 Inv-loop μ-loop
-returns-2 c = let l = c .before .before .loop in λ _ k h. l .inv .1 k (omega (arith, c .if1 .left, h))
+returns-2 c =
+    let l = c .before .before .loop in
+    λ _ k h. l .inv .1 k (omega (arith, c .if1 .left, h))
 
 pub is-fewest-spec : {M : Type 1} → statement M
 is-fewest-spec =

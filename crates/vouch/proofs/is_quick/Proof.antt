@@ -59,7 +59,8 @@ loop-again c =
 mul-result : tie.Need-mul-result Inv-loop μ-loop
 mul-result c =
     let o = c .before .before .before .before .before .before in
-    omega (arith, c .before .before .loop .inv .0, c .before .before .loop .inv .1, ranged (o .args .p) (o .pre .0) .zones-high)
+    let loop = c .before .before .loop in
+    omega (arith, loop .inv .0, loop .inv .1, ranged (o .args .p) (o .pre .0) .zones-high)
 
 mul-result-2 : tie.Need-mul-result-2 Inv-loop μ-loop
 mul-result-2 c =

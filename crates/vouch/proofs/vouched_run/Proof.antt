@@ -51,11 +51,12 @@ one-more : (c : tie.After-same Inv-loop μ-loop)
 one-more c =
     let c5 = c .before .before .before .before .before in
     let o = c .before .before .before .before .before .before .before .before in
+    let clipped = c .before .before .clipped in
     let s = o .args in
     let l = c5 .loop in
     let tb = s .addresses .now in
     let e = c .same .ensures ∙ ap (λ (x : ℕ). boolByte (eqb x (s .q + l .i))) (c .before .place-at .ensures) in
-    let w = pointed-bit tb (s .l) (c .before .before .clipped .result) (s .q + l .i) (c .before .before .clipped .ensures) in
+    let w = pointed-bit tb (s .l) (clipped .result) (s .q + l .i) (clipped .ensures) in
     omega (arith, l .inv .1, e, w, run-snoc (isPointed tb (s .l)) (s .q) (l .i))
 
 -- which is no more than the places

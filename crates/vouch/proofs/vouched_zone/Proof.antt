@@ -75,10 +75,11 @@ returns : tie.Need-returns Inv-loop μ-loop
 returns c =
     let c6 = c .before .before .before .before .before .before in
     let o = c .before .before .before .before .before .before .before .before .before .before .before .before in
+    let loop = c .before .before .loop in
     let a = o .args in
-    let i = c .before .before .loop .inv in
+    let i = loop .inv in
     let first = c6 .place-of .result .0 in
-    let w = of-all (a .p) (a .addresses .now) first (placeOf (a .p) (a .drive) (a .g) 1) (c .before .before .loop .c) (c .before .before .loop .o) (c6 .place-of .ensures .0) (i .1) (i .2) in
+    let w = of-all (a .p) (a .addresses .now) first (placeOf (a .p) (a .drive) (a .g) 1) (loop .c) (loop .o) (c6 .place-of .ensures .0) (i .1) (i .2) in
     (w .0, omega (arith, w .1, ranged (a .p) (o .pre .0) .stripes-high))
 
 run-len-requires : tie.Need-run-len-requires Inv-loop μ-loop
@@ -99,13 +100,14 @@ vouched-run-requires c κs =
     let c9 = c .before .before .before .before .before .before .before .before .before in
     let c10 = c .before .before .before .before .before .before .before .before .before .before in
     let o = c .before .before .before .before .before .before .before .before .before .before .before .before .before in
+    let loop-test = c .before .before .loop-test in
     let a = o .args in
     let p = a .p in
     let r = ranged p (o .pre .0) in
     let h = o .pre .1 in
     let i = c3 .loop .inv in
     let per : perFooter p * 20 ≤ p .B = subst (λ (x : ℕ). perFooter p * x ≤ p .B) spare-len (per-footer-fits p r) in
-    let inside = block-within p (a .drive) (a .g) (1 + p .S + c3 .loop .f) (h .2) (h .3) (omega (arith, c .before .before .loop-test .taken, c9 .footers .ensures .0)) in
+    let inside = block-within p (a .drive) (a .g) (1 + p .S + c3 .loop .f) (h .2) (h .3) (omega (arith, loop-test .taken, c9 .footers .ensures .0)) in
     let last = place-lt p (a .drive) (a .g) (p .S) (h .2) (h .3) (data-below p r (p .S) (omega arith)) in
     let n = c .run-len .ensures in (
       omega (arith, r .addresses-low),

@@ -17,7 +17,9 @@ element-copy-out-t : tie.Need-element-copy-out-t
 element-copy-out-t c = search needs
 
 returns : tie.Need-returns
-returns c = sym (alone-entry (c .before .before .args .t1) (c .before .before .args .k))
+returns c =
+    let args = c .before .before .args in
+    sym (alone-entry (args .t1) (args .k))
 
 pub entry-spec : {M : Type 1} → statement M
 entry-spec = tie.close (tie.spec mul-a element-copy-out-a mul-t element-copy-out-t returns)

@@ -22,7 +22,10 @@ data-position-requires : tie.Need-data-position-requires
 data-position-requires c κs = search needs
 
 entry-requires : tie.Need-entry-requires
-entry-requires c κs = let q = c .before .before .before .before .pre in omega (arith, c .data-position .ensures .1, q .1, ranged (c .before .before .before .before .args .p) (q .0) .drives-high)
+entry-requires c κs =
+    let q = c .before .before .before .before .pre in
+    let args = c .before .before .before .before .args in
+    omega (arith, c .data-position .ensures .1, q .1, ranged (args .p) (q .0) .drives-high)
 
 -- the stripe's number, as the code has it
 stripe-is : (c : tie.After-whole) → c .whole .result ≡ stripeIn (alone (c .before .args .row)) 0
@@ -33,10 +36,14 @@ returns : tie.Need-returns
 unfolding flightRec
 returns c =
     let a = c .before .before .before .before .before .args in
+    let if1 = c .before .before .if1 in
+    let is-data = c .before .before .before .is-data in
+    let at = c .before .before .before .before in
+    let whole = c .before .before .before .before .whole in
     let m = alone (a .row) in
     let s = stripeIn m 0 in
-    let q : c .before .before .before .before .whole .result ≡ s = stripe-is (c .before .before .before .before) in
-    let f : true ≡ isData (a .p) s (a .d) = sym (c .before .before .if1 .taken) ∙ c .before .before .before .is-data .ensures ∙ ap (λ (x : ℕ). isData (a .p) x (a .d)) q in
+    let q : whole .result ≡ s = stripe-is (at) in
+    let f : true ≡ isData (a .p) s (a .d) = sym (if1 .taken) ∙ is-data .ensures ∙ ap (λ (x : ℕ). isData (a .p) x (a .d)) q in
     c .entry .ensures ∙ ap (entryIn m 0) (c .before .data-position .ensures .0 ∙ ap (λ (x : ℕ). dataPosition (a .p) x (a .d)) q)
     ∙ ap (λ (x : Bool). cond x (entryIn m 0 (dataPosition (a .p) s (a .d))) (parityRec s (entriesIn m 0))) f
 
@@ -47,10 +54,13 @@ returns-2 : tie.Need-returns-2
 unfolding flightRec
 returns-2 c =
     let a = c .before .before .before .before .args in
+    let is-data = c .before .before .is-data in
+    let at = c .before .before .before in
+    let whole = c .before .before .before .whole in
     let m = alone (a .row) in
     let s = stripeIn m 0 in
-    let q : c .before .before .before .whole .result ≡ s = stripe-is (c .before .before .before) in
-    let f : false ≡ isData (a .p) s (a .d) = sym (c .before .if1 .left) ∙ c .before .before .is-data .ensures ∙ ap (λ (x : ℕ). isData (a .p) x (a .d)) q in
+    let q : whole .result ≡ s = stripe-is (at) in
+    let f : false ≡ isData (a .p) s (a .d) = sym (c .before .if1 .left) ∙ is-data .ensures ∙ ap (λ (x : ℕ). isData (a .p) x (a .d)) q in
     c .parity-entry .ensures
     ∙ ap (λ (x : Bool). cond x (entryIn m 0 (dataPosition (a .p) s (a .d))) (parityRec s (entriesIn m 0))) f
 

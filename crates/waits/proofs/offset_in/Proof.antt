@@ -14,7 +14,9 @@ whole-requires : tie.Need-whole-requires
 whole-requires c κs = search needs
 
 returns : tie.Need-returns
-returns c = c .whole .ensures ∙ sym (alone-offset (c .before .before .args .t1) (c .before .before .args .drive))
+returns c =
+    let args = c .before .before .args in
+    c .whole .ensures ∙ sym (alone-offset (args .t1) (args .drive))
 
 pub offset-in-spec : {M : Type 1} → statement M
 offset-in-spec = tie.close (tie.spec mul-o element-copy-out-o whole-requires returns)

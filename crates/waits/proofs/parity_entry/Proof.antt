@@ -43,7 +43,9 @@ mul-t : tie.Need-mul-t Inv-loop μ-loop
 mul-t c = omega arith
 
 element-copy-out-t : tie.Need-element-copy-out-t Inv-loop μ-loop
-element-copy-out-t c = omega (arith, c .before .before .before .filled-in .ensures, c .before .before .before .before .pre)
+element-copy-out-t c =
+    let pre = c .before .before .before .before .pre in
+    omega (arith, c .before .before .before .filled-in .ensures, pre)
 
 add-k : tie.Need-add-k Inv-loop μ-loop
 add-k c = omega arith
@@ -53,7 +55,8 @@ loop-less c = omega arith
 
 loop-again : tie.Need-loop-again Inv-loop μ-loop
 loop-again c =
-    let r = c .before .before .before .before .before .args .t1 in
+    let args = c .before .before .before .before .before .args in
+    let r = args .t1 in
     let l = c .before .before .before .loop in
     let f : ℕ → ℕ = λ h. entryIn (alone r) 0 h .address in
     let g : ℕ → ℕ = λ h. entryIn (alone r) 0 h .stamp in

@@ -39,12 +39,17 @@ returns-2 : tie.Need-returns-2
 unfolding ready alone landedIn stripeIn filledIn isFull
 returns-2 c =
     let a = c .before .before .before .before .before .before .before .args in
+    let is-data = c .before .before .is-data in
+    let wide = c .before .before .before .wide in
+    let whole = c .before .before .before .before .whole in
+    let if1 = c .before .before .before .before .before .if1 in
+    let has-drive = c .before .before .before .before .before .before .has-drive in
     let r = a .row in
     let s = r .number in
-    let e : false ≡ isIn (r .landed) (a .d) = sym (c .before .before .before .before .before .if1 .left) ∙ c .before .before .before .before .before .before .has-drive .ensures in
-    let q : c .before .before .before .before .whole .result ≡ s = c .before .before .before .before .whole .ensures in
-    let f : true ≡ isData (a .p) s (a .d) = sym (c .before .if2 .taken) ∙ c .before .before .is-data .ensures ∙ ap (λ (x : ℕ). isData (a .p) x (a .d)) q in
-    ap₂ ltb (c .data-position .ensures .0 ∙ ap (λ (x : ℕ). dataPosition (a .p) x (a .d)) q) (c .before .before .before .wide .ensures)
+    let e : false ≡ isIn (r .landed) (a .d) = sym (if1 .left) ∙ has-drive .ensures in
+    let q : whole .result ≡ s = whole .ensures in
+    let f : true ≡ isData (a .p) s (a .d) = sym (c .before .if2 .taken) ∙ is-data .ensures ∙ ap (λ (x : ℕ). isData (a .p) x (a .d)) q in
+    ap₂ ltb (c .data-position .ensures .0 ∙ ap (λ (x : ℕ). dataPosition (a .p) x (a .d)) q) (wide .ensures)
     ∙ (λ j. not (e j) && cond (f j) (ltb (dataPosition (a .p) s (a .d)) (r .filled)) (leb (dataCount (a .p)) (r .filled)))
 
 data-count-requires : tie.Need-data-count-requires
@@ -54,12 +59,17 @@ returns-3 : tie.Need-returns-3
 unfolding ready alone landedIn stripeIn filledIn isFull
 returns-3 c =
     let a = c .before .before .before .before .before .before .before .args in
+    let is-data = c .before .before .is-data in
+    let wide = c .before .before .before .wide in
+    let whole = c .before .before .before .before .whole in
+    let if1 = c .before .before .before .before .before .if1 in
+    let has-drive = c .before .before .before .before .before .before .has-drive in
     let r = a .row in
     let s = r .number in
-    let e : false ≡ isIn (r .landed) (a .d) = sym (c .before .before .before .before .before .if1 .left) ∙ c .before .before .before .before .before .before .has-drive .ensures in
-    let q : c .before .before .before .before .whole .result ≡ s = c .before .before .before .before .whole .ensures in
-    let f : false ≡ isData (a .p) s (a .d) = sym (c .before .if2 .left) ∙ c .before .before .is-data .ensures ∙ ap (λ (x : ℕ). isData (a .p) x (a .d)) q in
-    ap₂ leb (c .data-count .ensures .0) (c .before .before .before .wide .ensures)
+    let e : false ≡ isIn (r .landed) (a .d) = sym (if1 .left) ∙ has-drive .ensures in
+    let q : whole .result ≡ s = whole .ensures in
+    let f : false ≡ isData (a .p) s (a .d) = sym (c .before .if2 .left) ∙ is-data .ensures ∙ ap (λ (x : ℕ). isData (a .p) x (a .d)) q in
+    ap₂ leb (c .data-count .ensures .0) (wide .ensures)
     ∙ (λ j. not (e j) && cond (f j) (ltb (dataPosition (a .p) s (a .d)) (r .filled)) (leb (dataCount (a .p)) (r .filled)))
 
 pub ready-spec : {M : Type 1} → statement M

@@ -11,7 +11,9 @@ use Rattle.waits.proofs.waiting.Statement.{statement}
 use Rattle.waits.proofs.waiting.Tie as tie
 
 returns : tie.Need-returns
-returns c = let a = c .before .before .args in ap (λ (x : Bool). x && ltb (a .slot) slotCount && ready (a .p) (alone (a .row)) 0 (a .d)) (sym (le-ltb (a .d) (a .p .N) (c .if1 .taken)))
+returns c =
+    let a = c .before .before .args in
+    ap (λ (x : Bool). x && ltb (a .slot) slotCount && ready (a .p) (alone (a .row)) 0 (a .d)) (sym (le-ltb (a .d) (a .p .N) (c .if1 .taken)))
 
 returns-2 : tie.Need-returns-2
 unfolding slotCount

@@ -44,9 +44,11 @@ loop-less c = omega arith
 loop-again : tie.Need-loop-again Inv-loop μ-loop
 unfolding isWrite alone
 loop-again c =
-    let r = c .before .before .before .before .before .args .row in
+    let filled-in = c .before .before .before .before .filled-in in
+    let args = c .before .before .before .before .before .args in
+    let r = args .row in
     let l = c .before .before .before .loop in
-    let m = c .before .before .before .before .filled-in .result in
+    let m = filled-in .result in
     let f : ℕ → Bool = isWrite (alone r) 0 in
     let t : List ℕ = upFrom (l .k + 1) (m - (l .k + 1)) in
     let b : c .if1 .n + length (keep f t) ≡ l .n + length (keep f (upFrom (l .k) (m - l .k))) =

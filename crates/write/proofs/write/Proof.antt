@@ -46,8 +46,13 @@ abbrev memory : (c : tie.Start) → Memory
 memory c = mkMemory (c .args .state) (c .args .addresses .now) (c .args .compact .now) (c .args .inflight .now)
 
 -- the aim is the state's
-aimed : (c : tie.After-aim-of) → c .aim-of .result ≡ aimOf (c .before .before .before .before .before .before .before .before .args .p) (c .before .before .before .before .before .before .before .before .args .state)
-aimed c = c .aim-of .ensures ∙ front-aim (c .before .before .before .before .before .before .before .before .args .p) (c .before .before .before .before .before .before .before .before .args .state) (c .before .front-of .result) (c .before .front-of .ensures)
+aimed :
+    (c : tie.After-aim-of)
+    → c .aim-of .result ≡ aimOf (c .before .before .before .before .before .before .before .before .args .p)
+    (c .before .before .before .before .before .before .before .before .args .state)
+aimed c =
+    let args = c .before .before .before .before .before .before .before .before .args in
+    c .aim-of .ensures ∙ front-aim (args .p) (args .state) (c .before .front-of .result) (c .before .front-of .ensures)
 
 front-of-requires : tie.Need-front-of-requires
 front-of-requires c κs = search needs
@@ -56,7 +61,10 @@ aim-of-requires : tie.Need-aim-of-requires
 aim-of-requires c κs = search needs
 
 checks-requires : tie.Need-checks-requires
-checks-requires c κs = (c .before .before .before .before .before .before .front-of .ensures, aimed (c .before .before .before .before .before))
+checks-requires c κs =
+    let at = c .before .before .before .before .before in
+    let front-of = c .before .before .before .before .before .before .front-of in
+    (front-of .ensures, aimed (at))
 
 enum-known-c : tie.Need-enum-known-c
 enum-known-c c = search needs
@@ -82,10 +90,11 @@ same-length-5 c = search needs
 returns : tie.Need-returns
 returns c =
     let s = c .before .before .before .before .before .before .before .before .before .before .before .before .before .before .before .before .before .before in
+    let checks = c .before .before .before .before .checks in
     let a = s .args in
     let q = c .before .before .c .given in
     write-refused (a .p) (disk s) (memory s) (a .address .0) (a .block .now) (a .count) (c .kept .result)
-    (sym (c .before .before .before .before .checks .ensures) ∙ ap checked (q .1) ∙ ap (λ (x : Change). some (x .answer)) (sym (c .kept .ensures)))
+    (sym (checks .ensures) ∙ ap checked (q .1) ∙ ap (λ (x : Change). some (x .answer)) (sym (c .kept .ensures)))
 
 enum-told : tie.Need-enum-told
 enum-told c = search needs
@@ -93,10 +102,15 @@ enum-told c = search needs
 open-requires : tie.Need-open-requires
 open-requires c κs =
     let s = c .before .before .before .before .before .before .before .before .before .before .before .before .before .before .before .before .before .before in
+    let enum-told = c .before .before .enum-told in
+    let checks = c .before .before .before .before .checks in
+    let at = c .before .before .before .before .before .before .before .before .before .before in
+    let aim-of = c .before .before .before .before .before .before .before .before .before .before .aim-of in
+    let front-of = c .before .before .before .before .before .before .before .before .before .before .before .front-of in
     let a = s .args in
-    let f = c .before .before .before .before .before .before .before .before .before .before .before .front-of in
-    let g = c .before .before .before .before .before .before .before .before .before .before .aim-of in
-    let none! : refusal (a .p) (disk s) (memory s) (a .address .0) (a .block .now) ≡ none = sym (c .before .before .before .before .checks .ensures) ∙ ap checked (c .before .before .enum-told .given .1) in
+    let f = front-of in
+    let g = aim-of in
+    let none! : refusal (a .p) (disk s) (memory s) (a .address .0) (a .block .now) ≡ none = sym (checks .ensures) ∙ ap checked (enum-told .given .1) in
     let r = ready (a .p) (disk s) (memory s) (a .address .0) (a .block .now) none! in (
       r .ranged,
       (
@@ -106,7 +120,7 @@ open-requires c κs =
           (
             λ e.
                 subst (λ (x : Front). x .serial .0 < lastCount) (sym (f .ensures))
-                (lt-of-le-ne (serial-fits s) (r .serial-left (ap (λ (x : Aim). x .opens) (sym (aimed (c .before .before .before .before .before .before .before .before .before .before))) ∙ e))),
+                (lt-of-le-ne (serial-fits s) (r .serial-left (ap (λ (x : Aim). x .opens) (sym (aimed (at))) ∙ e))),
             λ e. r .empties,
           ),
         ),
@@ -133,36 +147,80 @@ same-length-10 c = search needs
 
 returns-2 : tie.Need-returns-2
 returns-2 c =
-    let s = c .before .before .before .before .before .before .before .before .before .before .before .before .before .before .before .before .before .before .before .before .before .before .before .before .before .before .before .before .before .before .before in
+    let cut′ = c .before .before .before .before .cut in
+    let if1′ = c .before .before .before .before .before .before .before .if1 in
+    let at-12 = c .before .before .before .before .before .before .before .before .before .before .before .before in
+    let enum-told′ = c .before .before .before .before .before .before .before .before .before .before .before .before .before .before .before .enum-told in
+    let at-17 = c .before .before .before .before .before .before .before .before .before .before .before .before .before .before .before .before .before in
+    let checks′ = c .before .before .before .before .before .before .before .before .before .before .before .before .before .before .before .before .before .checks in
+    let s =
+    at-17
+    .before .before .before .before .before .before .before .before .before .before .before .before .before .before in
+    let cut = cut′ in
+    let if1 = if1′ in
+    let at = at-12 in
+    let enum-told = enum-told′ in
+    let checks = checks′ in
+    let front-of =
+    at-17
+    .before .before .before .before .before .before .before .front-of in
     let a = s .args in
-    let none! : refusal (a .p) (disk s) (memory s) (a .address .0) (a .block .now) ≡ none = sym (c .before .before .before .before .before .before .before .before .before .before .before .before .before .before .before .before .before .checks .ensures) ∙ ap checked (c .before .before .before .before .before .before .before .before .before .before .before .before .before .before .before .enum-told .given .1) in
-    let o = c .before .before .before .before .before .before .before .before .before .before .before .before .«open» in
+    let none! : refusal (a .p) (disk s) (memory s) (a .address .0) (a .block .now) ≡ none = sym (checks .ensures) ∙ ap checked (enum-told .given .1) in
+    let o = at .«open» in
     let k′ : Disk = mkDisk (o .last .1 .0) (o .last .1 .1 .0) in
-    let h : Opening (a .p) (a .state) (a .count) (disk s) (o .result) k′ = opening-front (a .p) (a .state) (a .count) (disk s) (o .result) k′ (subst (λ (x : Front). Opening (a .p) (behind x) (a .count) (disk s) (o .result) k′) (c .before .before .before .before .before .before .before .before .before .before .before .before .before .before .before .before .before .before .before .before .before .before .before .before .front-of .ensures) (o .ensures)) in
-    let q = c .before .before .before .before .cut in
-    ends-cut (a .p) (disk s) (memory s) (a .address .0) (a .block .now) (a .count) none! (o .result) k′ h (c .before .before .before .before .before .before .before .if1 .taken) (q .result) (q .last .0) (q .last .1 .0)
+    let h : Opening (a .p) (a .state) (a .count) (disk s) (o .result) k′ =
+    opening-front (a .p) (a .state) (a .count) (disk s) (o .result) k′
+    (subst (λ (x : Front). Opening (a .p) (behind x) (a .count) (disk s) (o .result) k′) (front-of .ensures) (o .ensures)) in
+    let q = cut in
+    ends-cut (a .p) (disk s) (memory s) (a .address .0) (a .block .now) (a .count) none! (o .result) k′ h (if1 .taken) (q .result) (q .last .0) (q .last .1 .0)
     (ap (λ (x : Change). x .answer) (q .ensures .0)) (q .ensures .1 .0) (q .ensures .1 .1)
 
 row-of-requires : tie.Need-row-of-requires
 row-of-requires c κs =
-    let s = c .before .before .before .before .before .before .before .before .before .before .before .before .before .before .before .before .before .before .before .before .before .before .before .before in
+    let enum-told′ = c .before .before .before .before .before .before .before .before .enum-told in
+    let checks′ = c .before .before .before .before .before .before .before .before .before .before .checks in
+    let at-16 = c .before .before .before .before .before .before .before .before .before .before .before .before .before .before .before .before in
+    let at-17 = c .before .before .before .before .before .before .before .before .before .before .before .before .before .before .before .before .before in
+    let s =
+    at-17
+    .before .before .before .before .before .before .before in
+    let enum-told = enum-told′ in
+    let checks = checks′ in
+    let at = at-16 in
     let a = s .args in
-    let none! : refusal (a .p) (disk s) (memory s) (a .address .0) (a .block .now) ≡ none = sym (c .before .before .before .before .before .before .before .before .before .before .checks .ensures) ∙ ap checked (c .before .before .before .before .before .before .before .before .enum-told .given .1) in
-    subst (λ (x : Aim). x .slot < 8) (sym (aimed (c .before .before .before .before .before .before .before .before .before .before .before .before .before .before .before .before))) (slot-lt (a .p) (a .state) (ready (a .p) (disk s) (memory s) (a .address .0) (a .block .now) none! .waits))
+    let none! : refusal (a .p) (disk s) (memory s) (a .address .0) (a .block .now) ≡ none = sym (checks .ensures) ∙ ap checked (enum-told .given .1) in
+    subst (λ (x : Aim). x .slot < 8) (sym (aimed (at))) (slot-lt (a .p) (a .state) (ready (a .p) (disk s) (memory s) (a .address .0) (a .block .now) none! .waits))
 
 plan-requires : tie.Need-plan-requires
 plan-requires c κs =
-    let s = c .before .before .before .before .before .before .before .before .before .before .before .before .before .before .before .before .before .before .before .before .before .before .before .before .before .before in
+    let at-7′ = c .before .before .before .before .before .before .before in
+    let enum-told′ = c .before .before .before .before .before .before .before .before .before .before .enum-told in
+    let checks′ = c .before .before .before .before .before .before .before .before .before .before .before .before .checks in
+    let at-17 = c .before .before .before .before .before .before .before .before .before .before .before .before .before .before .before .before .before in
+    let at-18′ = c .before .before .before .before .before .before .before .before .before .before .before .before .before .before .before .before .before .before in
+    let aim-of′ = c .before .before .before .before .before .before .before .before .before .before .before .before .before .before .before .before .before .before .aim-of in
+    let front-of′ = c .before .before .before .before .before .before .before .before .before .before .before .before .before .before .before .before .before .before .before .front-of in
+    let s =
+    at-17
+    .before .before .before .before .before .before .before .before .before in
+    let at-7 = at-7′ in
+    let enum-told = enum-told′ in
+    let checks = checks′ in
+    let at-18 = at-18′ in
+    let aim-of = aim-of′ in
+    let front-of = front-of′ in
     let a = s .args in
-    let none! : refusal (a .p) (disk s) (memory s) (a .address .0) (a .block .now) ≡ none = sym (c .before .before .before .before .before .before .before .before .before .before .before .before .checks .ensures) ∙ ap checked (c .before .before .before .before .before .before .before .before .before .before .enum-told .given .1) in
+    let none! : refusal (a .p) (disk s) (memory s) (a .address .0) (a .block .now) ≡ none = sym (checks .ensures) ∙ ap checked (enum-told .given .1) in
     let r = ready (a .p) (disk s) (memory s) (a .address .0) (a .block .now) none! in
-    let o = c .before .before .before .before .before .before .before .«open» in
-    let f = c .before .before .before .before .before .before .before .before .before .before .before .before .before .before .before .before .before .before .before .front-of in
+    let o = at-7 .«open» in
+    let f = front-of in
     let k′ : Disk = mkDisk (o .last .1 .0) (o .last .1 .1 .0) in
-    let h : Opening (a .p) (a .state) (a .count) (disk s) (o .result) k′ = opening-front (a .p) (a .state) (a .count) (disk s) (o .result) k′ (subst (λ (x : Front). Opening (a .p) (behind x) (a .count) (disk s) (o .result) k′) (f .ensures) (o .ensures)) in (
+    let h : Opening (a .p) (a .state) (a .count) (disk s) (o .result) k′ =
+    opening-front (a .p) (a .state) (a .count) (disk s) (o .result) k′
+    (subst (λ (x : Front). Opening (a .p) (behind x) (a .count) (disk s) (o .result) k′) (f .ensures) (o .ensures)) in (
       r .ranged,
       (
-        plan-asks (a .p) (disk s) (memory s) (a .address .0) (a .block .now) (a .count) none! (o .result) k′ h (f .result) (f .ensures) (c .before .before .before .before .before .before .before .before .before .before .before .before .before .before .before .before .before .before .aim-of .result) (aimed (c .before .before .before .before .before .before .before .before .before .before .before .before .before .before .before .before .before .before))
+        plan-asks (a .p) (disk s) (memory s) (a .address .0) (a .block .now) (a .count) none! (o .result) k′ h (f .result) (f .ensures) (aim-of .result) (aimed (at-18))
             (c .before .row-of .result) (c .before .row-of .ensures) (stamp-fits s),
         (r .inflight-long, r .block-long),
       ),
@@ -185,16 +243,43 @@ same-length-15 c = search needs
 
 returns-3 : tie.Need-returns-3
 returns-3 c =
-    let s = c .before .before .before .before .before .before .before .before .before .before .before .before .before .before .before .before .before .before .before .before .before .before .before .before .before .before .before .before .before in
+    let plan′ = c .before .before .plan in
+    let row-of′ = c .before .before .before .before .row-of in
+    let if1′ = c .before .before .before .before .before .if1 in
+    let at-10′ = c .before .before .before .before .before .before .before .before .before .before in
+    let enum-told′ = c .before .before .before .before .before .before .before .before .before .before .before .before .before .enum-told in
+    let checks′ = c .before .before .before .before .before .before .before .before .before .before .before .before .before .before .before .checks in
+    let at-17 = c .before .before .before .before .before .before .before .before .before .before .before .before .before .before .before .before .before in
+    let at-21′ = c .before .before .before .before .before .before .before .before .before .before .before .before .before .before .before .before .before .before .before .before .before in
+    let aim-of′ = c .before .before .before .before .before .before .before .before .before .before .before .before .before .before .before .before .before .before .before .before .before .aim-of in
+    let front-of′′ =
+    c .before .before .before .before .before .before .before .before .before .before .before .before .before .before .before .before .before .before .before .before .before .before .front-of in
+    let front-of′ =
+    front-of′′ in
+    let s =
+    at-17
+    .before .before .before .before .before .before .before .before .before .before .before .before in
+    let plan = plan′ in
+    let row-of = row-of′ in
+    let if1 = if1′ in
+    let at-10 = at-10′ in
+    let enum-told = enum-told′ in
+    let checks = checks′ in
+    let at-21 = at-21′ in
+    let aim-of = aim-of′ in
+    let front-of =
+    front-of′ in
     let a = s .args in
-    let none! : refusal (a .p) (disk s) (memory s) (a .address .0) (a .block .now) ≡ none = sym (c .before .before .before .before .before .before .before .before .before .before .before .before .before .before .before .checks .ensures) ∙ ap checked (c .before .before .before .before .before .before .before .before .before .before .before .before .before .enum-told .given .1) in
-    let o = c .before .before .before .before .before .before .before .before .before .before .«open» in
-    let f = c .before .before .before .before .before .before .before .before .before .before .before .before .before .before .before .before .before .before .before .before .before .before .front-of in
+    let none! : refusal (a .p) (disk s) (memory s) (a .address .0) (a .block .now) ≡ none = sym (checks .ensures) ∙ ap checked (enum-told .given .1) in
+    let o = at-10 .«open» in
+    let f = front-of in
     let k′ : Disk = mkDisk (o .last .1 .0) (o .last .1 .1 .0) in
-    let h : Opening (a .p) (a .state) (a .count) (disk s) (o .result) k′ = opening-front (a .p) (a .state) (a .count) (disk s) (o .result) k′ (subst (λ (x : Front). Opening (a .p) (behind x) (a .count) (disk s) (o .result) k′) (f .ensures) (o .ensures)) in
-    let q = c .before .before .plan in
-    ends-plan (a .p) (disk s) (memory s) (a .address .0) (a .block .now) (a .count) none! (o .result) k′ h (f .result) (f .ensures) (c .before .before .before .before .before .before .before .before .before .before .before .before .before .before .before .before .before .before .before .before .before .aim-of .result) (aimed (c .before .before .before .before .before .before .before .before .before .before .before .before .before .before .before .before .before .before .before .before .before))
-    (c .before .before .before .before .row-of .result) (c .before .before .before .before .row-of .ensures) (sized s) (c .before .before .before .before .before .if1 .left) (q .result) (q .last .1 .0) (q .ensures .0) (q .ensures .1)
+    let h : Opening (a .p) (a .state) (a .count) (disk s) (o .result) k′ =
+    opening-front (a .p) (a .state) (a .count) (disk s) (o .result) k′
+    (subst (λ (x : Front). Opening (a .p) (behind x) (a .count) (disk s) (o .result) k′) (f .ensures) (o .ensures)) in
+    let q = plan in
+    ends-plan (a .p) (disk s) (memory s) (a .address .0) (a .block .now) (a .count) none! (o .result) k′ h (f .result) (f .ensures) (aim-of .result) (aimed (at-21))
+    (row-of .result) (row-of .ensures) (sized s) (if1 .left) (q .result) (q .last .1 .0) (q .ensures .0) (q .ensures .1)
 
 pub write-spec : {M : Type 1} → statement M
 write-spec =

@@ -26,16 +26,19 @@ unfolding tally
 returns c =
     let a = c .before .before .before .before .args in
     let l = c .before .before .loop in
+    let pre = c .before .before .before .before .pre in
     let f = emptyBy (a .p) (a .pointers .now) in
     let e : l .n ≡ min (a .most) (l .n + tally f (below (l .z))) = omega (arith, c .if1 .taken) in
-    let long = c .before .before .before .before .pre .1 in
+    let long = pre .1 in
     λ im h. e ∙ l .inv .3 ∙ ap (λ (x : List ℕ). min (a .most) (length x)) (sym (empty-list (a .p) im (a .pointers .now) h long))
 
 sub-z : tie.Need-sub-z Inv-loop μ-loop
 sub-z c = omega arith
 
 is-empty-requires : tie.Need-is-empty-requires Inv-loop μ-loop
-is-empty-requires c κs = (c .before .before .before .before .pre .0, (c .before .before .before .before .pre .1, omega arith))
+is-empty-requires c κs =
+    let pre = c .before .before .before .before .pre in
+    (pre .0, (pre .1, omega arith))
 
 add-n : tie.Need-add-n Inv-loop μ-loop
 add-n c = omega arith

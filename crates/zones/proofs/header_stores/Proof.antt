@@ -14,15 +14,24 @@ use Rattle.zones.proofs.header_stores.Statement.{statement}
 use Rattle.zones.proofs.header_stores.Tie as tie
 
 abbrev Inv-loop : tie.InvT-loop
-Inv-loop p image₀ pointers₀ segment serial copied count left₀ d₀ image pointers left d = (length image ≡ length image₀) × (length pointers ≡ length pointers₀) × ((e : ℕ) → d ≤ e → e < p .N → pointerOf p pointers e (zoneOn segment e) < capacity p) × Rest p (headerStore p segment (serial .0) (copied .0)) (p .N) count (mkDisk image₀ pointers₀) d left (mkDisk image pointers)
+Inv-loop p image₀ pointers₀ segment serial copied count left₀ d₀ image pointers left d =
+    (length image ≡ length image₀)
+    × (length pointers ≡ length pointers₀)
+    × ((e : ℕ) → d ≤ e → e < p .N → pointerOf p pointers e (zoneOn segment e) < capacity p)
+    × Rest p (headerStore p segment (serial .0) (copied .0)) (p .N) count (mkDisk image₀ pointers₀) d left (mkDisk image pointers)
 
 abbrev μ-loop : tie.MeasureT-loop
 μ-loop p image₀ pointers₀ segment serial copied count left₀ d₀ image pointers left d = p .N - d
 
 loop-holds : tie.Need-loop-holds Inv-loop μ-loop
 loop-holds c =
-    let a = c .before .before .args in
-    (refl, refl, (λ e _ h. c .before .before .pre .1 .1 .1 e h), rest-start (a .p) (headerStore (a .p) (a .segment) (a .serial .0) (a .copied .0)) (a .p .N) (a .count) (mkDisk (a .image .now) (a .pointers .now)))
+    let a = c .before .before .args in (
+      refl,
+      refl,
+      (λ e _ h. c .before .before .pre .1 .1 .1 e h),
+      rest-start (a .p) (headerStore (a .p) (a .segment) (a .serial .0) (a .copied .0)) (a .p .N) (a .count)
+          (mkDisk (a .image .now) (a .pointers .now)),
+    )
 
 same-length : tie.Need-same-length Inv-loop μ-loop
 same-length c = c .before .before .before .loop .inv .0
@@ -34,10 +43,12 @@ returns : tie.Need-returns Inv-loop μ-loop
 unfolding headerStores drivesOf headerStore
 returns c =
     let a = c .before .before .before .before .before .before .args in
+    let loop = c .before .before .before .loop in
+    let pre = c .before .before .before .before .before .before .pre in
     let p = a .p in
-    let l = c .before .before .before .loop in
-    let w = c .before .before .before .before .before .before .pre .1 .0 in
-    let g = c .before .before .before .before .before .before .pre .1 .1 in
+    let l = loop in
+    let w = pre .1 .0 in
+    let g = pre .1 .1 in
     let k₀ = mkDisk (a .image .now) (a .pointers .now) in
     let k = mkDisk (l .image) (l .pointers) in
     let f = headerStore p (a .segment) (a .serial .0) (a .copied .0) in
@@ -49,15 +60,24 @@ zone-on-requires c κs = tt
 put-header-requires : tie.Need-put-header-requires Inv-loop μ-loop
 put-header-requires c κs =
     let a = c .before .before .before .before .before .before .before .before .before .args in
+    let zone-on = c .before .before .zone-on in
+    let if1 = c .before .before .before .before .if1 in
+    let loop = c .before .before .before .before .before .before .loop in
+    let pre = c .before .before .before .before .before .before .before .before .before .pre in
     let p = a .p in
-    let l = c .before .before .before .before .before .before .loop in
-    let w = c .before .before .before .before .before .before .before .before .before .pre .1 .0 in
-    let g = c .before .before .before .before .before .before .before .before .before .pre .1 .1 in
+    let l = loop in
+    let w = pre .1 .0 in
+    let g = pre .1 .1 in
     let k₀ = mkDisk (a .image .now) (a .pointers .now) in
     let k = mkDisk (l .image) (l .pointers) in
     let f = headerStore p (a .segment) (a .serial .0) (a .copied .0) in
-    let z = c .before .before .zone-on .ensures in
-    (c .before .before .before .before .before .before .before .before .before .pre .0, (record { image-long = l .inv .0 ∙ w .image-long; pointers-long = l .inv .1 ∙ w .pointers-long }, (c .before .before .before .before .if1 .taken, rw z (zone-on-lt p (a .segment) (l .d) (g .0)), rw z (l .inv .2 (l .d) (omega arith) (c .before .before .before .before .if1 .taken)))))
+    let z = zone-on .ensures in (
+      pre .0,
+      (
+        record { image-long = l .inv .0 ∙ w .image-long; pointers-long = l .inv .1 ∙ w .pointers-long },
+        (if1 .taken, rw z (zone-on-lt p (a .segment) (l .d) (g .0)), rw z (l .inv .2 (l .d) (omega arith) (if1 .taken))),
+      ),
+    )
 
 sub-left : tie.Need-sub-left Inv-loop μ-loop
 sub-left c = omega arith
@@ -72,27 +92,36 @@ loop-again : tie.Need-loop-again Inv-loop μ-loop
 unfolding headerStore
 loop-again c =
     let a = c .before .before .before .before .before .before .before .before .before .before .before .before .before .before .args in
+    let put-header = c .before .before .before .before .put-header in
+    let zone-on = c .before .before .before .before .before .before .before .zone-on in
+    let if2 = c .before .before .before .before .before .before .before .before .if2 in
+    let if1 = c .before .before .before .before .before .before .before .before .before .if1 in
+    let loop = c .before .before .before .before .before .before .before .before .before .before .before .loop in
+    let pre = c .before .before .before .before .before .before .before .before .before .before .before .before .before .before .pre in
     let p = a .p in
-    let l = c .before .before .before .before .before .before .before .before .before .before .before .loop in
-    let w = c .before .before .before .before .before .before .before .before .before .before .before .before .before .before .pre .1 .0 in
-    let g = c .before .before .before .before .before .before .before .before .before .before .before .before .before .before .pre .1 .1 in
+    let l = loop in
+    let w = pre .1 .0 in
+    let g = pre .1 .1 in
     let k₀ = mkDisk (a .image .now) (a .pointers .now) in
     let k = mkDisk (l .image) (l .pointers) in
     let f = headerStore p (a .segment) (a .serial .0) (a .copied .0) in
-    let z = c .before .before .before .before .before .before .before .zone-on .ensures in
+    let z = zone-on .ensures in
     let q = l .d in
-    let b = headerBlock p q (c .before .before .before .before .before .before .before .zone-on .result) (a .serial .0) (a .copied .0) in
-    let k′ = mkDisk (c .before .before .before .before .put-header .last .1 .0) (c .before .before .before .before .put-header .last .1 .1 .0) in
-    let s : k′ ≡ storeDisk p (f q) k = c .before .before .before .before .put-header .ensures ∙ ap (λ (x : ℕ). storeDisk p (put q x (headerBlock p q x (a .serial .0) (a .copied .0)) zeroSpare) k) z in
-    let ps : c .before .before .before .before .put-header .last .1 .1 .0 ≡ setPointer p (l .pointers) q (c .before .before .before .before .before .before .before .zone-on .result) (suc (pointerOf p (l .pointers) q (c .before .before .before .before .before .before .before .zone-on .result))) = ap (λ (x : Disk). x .pointers) (c .before .before .before .before .put-header .ensures) ∙ put-pointers p q (c .before .before .before .before .before .before .before .zone-on .result) b zeroSpare k in
+    let b = headerBlock p q (zone-on .result) (a .serial .0) (a .copied .0) in
+    let k′ = mkDisk (put-header .last .1 .0) (put-header .last .1 .1 .0) in
+    let s : k′ ≡ storeDisk p (f q) k = put-header .ensures ∙ ap (λ (x : ℕ). storeDisk p (put q x (headerBlock p q x (a .serial .0) (a .copied .0)) zeroSpare) k) z in
+    let ps : put-header .last .1 .1 .0 ≡ setPointer p (l .pointers) q (zone-on .result) (suc (pointerOf p (l .pointers) q (zone-on .result))) =
+    ap (λ (x : Disk). x .pointers) (put-header .ensures) ∙ put-pointers p q (zone-on .result) b zeroSpare k in
     let long : length (l .pointers) ≡ pointersLen p = l .inv .1 ∙ w .pointers-long in
-    let zl : c .before .before .before .before .before .before .before .zone-on .result < p .Z = rw z (zone-on-lt p (a .segment) q (g .0)) in (
-      c .before .before .before .before .put-header .kept .1 .0 ∙ l .inv .0,
-      c .before .before .before .before .put-header .kept .1 .1 .0 ∙ l .inv .1,
+    let zl : zone-on .result < p .Z = rw z (zone-on-lt p (a .segment) q (g .0)) in (
+      put-header .kept .1 .0 ∙ l .inv .0,
+      put-header .kept .1 .1 .0 ∙ l .inv .1,
       (λ e h j.
-          let o = pointer-other-drive p (l .pointers) q (c .before .before .before .before .before .before .before .zone-on .result) (suc (pointerOf p (l .pointers) q (c .before .before .before .before .before .before .before .zone-on .result))) (c .before .before .before .before .before .before .before .before .before .if1 .taken) zl long e (zoneOn (a .segment) e) j (zone-on-lt p (a .segment) e (g .0)) (λ r. let x : ⊥ = omega arith in x) in
+          let o =
+          pointer-other-drive p (l .pointers) q (zone-on .result) (suc (pointerOf p (l .pointers) q (zone-on .result))) (if1 .taken) zl long e
+          (zoneOn (a .segment) e) j (zone-on-lt p (a .segment) e (g .0)) (λ r. let x : ⊥ = omega arith in x) in
           rw (ps, o) (l .inv .2 e (omega arith) j)),
-      rest-turn p f (p .N) (a .count) k₀ q (l .left) k k′ (l .inv .3) (c .before .before .before .before .before .before .before .before .before .if1 .taken) (omega (arith, c .before .before .before .before .before .before .before .before .if2 .left)) s,
+      rest-turn p f (p .N) (a .count) k₀ q (l .left) k k′ (l .inv .3) (if1 .taken) (omega (arith, if2 .left)) s,
     )
 
 same-length-3 : tie.Need-same-length-3 Inv-loop μ-loop
@@ -105,10 +134,12 @@ returns-2 : tie.Need-returns-2 Inv-loop μ-loop
 unfolding headerStores drivesOf headerStore
 returns-2 c =
     let a = c .before .before .before .before .before .args in
+    let loop = c .before .before .loop in
+    let pre = c .before .before .before .before .before .pre in
     let p = a .p in
-    let l = c .before .before .loop in
-    let w = c .before .before .before .before .before .pre .1 .0 in
-    let g = c .before .before .before .before .before .pre .1 .1 in
+    let l = loop in
+    let w = pre .1 .0 in
+    let g = pre .1 .1 in
     let k₀ = mkDisk (a .image .now) (a .pointers .now) in
     let k = mkDisk (l .image) (l .pointers) in
     let f = headerStore p (a .segment) (a .serial .0) (a .copied .0) in

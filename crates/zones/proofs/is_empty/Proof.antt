@@ -32,17 +32,22 @@ zone-on-requires c κs = tt
 pointer-requires : tie.Need-pointer-requires Inv-loop μ-loop
 pointer-requires c κs =
     let a = c .before .before .before .before .before .args in
-    (c .before .before .before .before .before .pre .0, (c .before .before .before .before .before .pre .1 .0, c .before .if1 .taken, rw (c .zone-on .ensures) (zone-on-lt (a .p) (a .segment) (c .before .before .before .loop .d) (c .before .before .before .before .before .pre .1 .1))))
+    let loop = c .before .before .before .loop in
+    let pre = c .before .before .before .before .before .pre in
+    (pre .0, (pre .1 .0, c .before .if1 .taken, rw (c .zone-on .ensures) (zone-on-lt (a .p) (a .segment) (loop .d) (pre .1 .1))))
 
 returns : tie.Need-returns Inv-loop μ-loop
 returns c =
     let a = c .before .before .before .before .before .before .before .args in
+    let zone-on = c .before .before .zone-on in
+    let if1 = c .before .before .before .if1 in
+    let loop = c .before .before .before .before .before .loop in
     let p = a .p in
     let ps = a .pointers .now in
-    let l = c .before .before .before .before .before .loop in
+    let l = loop in
     let f : ℕ → Bool = λ e. eqb (pointerOf p ps e (zoneOn (a .segment) e)) 0 in
-    let e : c .before .pointer .result ≡ pointerOf p ps (l .d) (zoneOn (a .segment) (l .d)) = c .before .pointer .ensures ∙ ap (pointerOf p ps (l .d)) (c .before .before .zone-on .ensures) in
-    sym (all-broken f (l .d) (p .N) (c .before .before .before .if1 .taken) (ne-eqb (pointerOf p ps (l .d) (zoneOn (a .segment) (l .d))) 0 (λ q. c .if2 .taken (e ∙ q)))) ∙ l .inv .1
+    let e : c .before .pointer .result ≡ pointerOf p ps (l .d) (zoneOn (a .segment) (l .d)) = c .before .pointer .ensures ∙ ap (pointerOf p ps (l .d)) (zone-on .ensures) in
+    sym (all-broken f (l .d) (p .N) (if1 .taken) (ne-eqb (pointerOf p ps (l .d) (zoneOn (a .segment) (l .d))) 0 (λ q. c .if2 .taken (e ∙ q)))) ∙ l .inv .1
 
 add-d : tie.Need-add-d Inv-loop μ-loop
 add-d c = omega arith
@@ -53,12 +58,15 @@ loop-less c = omega arith
 loop-again : tie.Need-loop-again Inv-loop μ-loop
 loop-again c =
     let a = c .before .before .before .before .before .before .before .args in
+    let zone-on = c .before .before .zone-on in
+    let if1 = c .before .before .before .if1 in
+    let loop = c .before .before .before .before .before .loop in
     let p = a .p in
     let ps = a .pointers .now in
-    let l = c .before .before .before .before .before .loop in
+    let l = loop in
     let f : ℕ → Bool = λ e. eqb (pointerOf p ps e (zoneOn (a .segment) e)) 0 in
-    let e : c .before .pointer .result ≡ pointerOf p ps (l .d) (zoneOn (a .segment) (l .d)) = c .before .pointer .ensures ∙ ap (pointerOf p ps (l .d)) (c .before .before .zone-on .ensures) in
-    (omega (arith, c .before .before .before .if1 .taken), sym (all-passed f (l .d) (p .N) (c .before .before .before .if1 .taken) (eq-eqb (pointerOf p ps (l .d) (zoneOn (a .segment) (l .d))) 0 (sym e ∙ c .if2 .left))) ∙ l .inv .1)
+    let e : c .before .pointer .result ≡ pointerOf p ps (l .d) (zoneOn (a .segment) (l .d)) = c .before .pointer .ensures ∙ ap (pointerOf p ps (l .d)) (zone-on .ensures) in
+    (omega (arith, if1 .taken), sym (all-passed f (l .d) (p .N) (if1 .taken) (eq-eqb (pointerOf p ps (l .d) (zoneOn (a .segment) (l .d))) 0 (sym e ∙ c .if2 .left))) ∙ l .inv .1)
 
 returns-2 : tie.Need-returns-2 Inv-loop μ-loop
 returns-2 c =

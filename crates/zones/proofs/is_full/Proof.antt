@@ -23,7 +23,8 @@ zone-on-requires c κs = search needs
 pointer-requires : tie.Need-pointer-requires
 pointer-requires c κs =
     let a = c .before .before .before .before .args in
-    (c .before .before .before .before .pre .0, (c .before .before .before .before .pre .1 .0, c .before .before .before .before .pre .1 .1, rw (c .zone-on .ensures) (zone-on-lt (a .p) (a .segment) (a .drive) (c .before .before .before .before .pre .1 .2))))
+    let pre = c .before .before .before .before .pre in
+    (pre .0, (pre .1 .0, pre .1 .1, rw (c .zone-on .ensures) (zone-on-lt (a .p) (a .segment) (a .drive) (pre .1 .2))))
 
 cast-result : tie.Need-cast-result
 cast-result c = search needs
@@ -34,9 +35,12 @@ capacity-requires c κs = search needs
 returns-2 : tie.Need-returns-2
 returns-2 c =
     let a = c .before .before .before .before .before .before .args in
+    let zone-on = c .before .before .zone-on in
+    let if1 = c .before .before .before .if1 in
+    let has-drive = c .before .before .before .before .has-drive in
     let q = pointerOf (a .p) (a .pointers .now) (a .drive) in
-    ap₂ eqb (c .before .pointer .ensures ∙ ap q (c .before .before .zone-on .ensures)) (c .capacity .ensures .0)
-    ∙ sym (ap (λ (b : Bool). b || eqb (q (zoneOn (a .segment) (a .drive))) (capacity (a .p))) (sym (c .before .before .before .before .has-drive .ensures) ∙ c .before .before .before .if1 .left))
+    ap₂ eqb (c .before .pointer .ensures ∙ ap q (zone-on .ensures)) (c .capacity .ensures .0)
+    ∙ sym (ap (λ (b : Bool). b || eqb (q (zoneOn (a .segment) (a .drive))) (capacity (a .p))) (sym (has-drive .ensures) ∙ if1 .left))
 
 pub is-full-spec : {M : Type 1} → statement M
 is-full-spec =

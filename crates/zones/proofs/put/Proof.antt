@@ -31,32 +31,39 @@ copy-part-requires : tie.Need-copy-part-requires
 unfolding unitLen spareLen total recordWidths
 copy-part-requires c κs =
     let a = c .before .before .before .before .before .before .before .before .before .args in
+    let block-byte = c .before .before .block-byte in
+    let pre = c .before .before .before .before .before .before .before .before .before .pre in
     let p = a .p in
-    let r = ranged p (c .before .before .before .before .before .before .before .before .before .pre .0) in
-    let w = c .before .before .before .before .before .before .before .before .before .pre .1 .0 in
-    let h = c .before .before .before .before .before .before .before .before .before .pre .1 .1 .0 in
-    let g = c .before .before .before .before .before .before .before .before .before .pre .1 .1 .1 in
-    omega (arith, c .before .before .block-byte .ensures .1, w .image-long, g .0)
+    let r = ranged p (pre .0) in
+    let w = pre .1 .0 in
+    let h = pre .1 .1 .0 in
+    let g = pre .1 .1 .1 in
+    omega (arith, block-byte .ensures .1, w .image-long, g .0)
 
 copy-part-requires-2 : tie.Need-copy-part-requires-2
 unfolding unitLen spareLen total recordWidths
 copy-part-requires-2 c κs =
     let a = c .before .before .before .before .before .before .before .before .before .before .before .before .before .args in
+    let copy-part = c .before .before .before .copy-part in
+    let block-byte = c .before .before .before .before .before .before .block-byte in
+    let pre = c .before .before .before .before .before .before .before .before .before .before .before .before .before .pre in
     let p = a .p in
-    let r = ranged p (c .before .before .before .before .before .before .before .before .before .before .before .before .before .pre .0) in
-    let w = c .before .before .before .before .before .before .before .before .before .before .before .before .before .pre .1 .0 in
-    let h = c .before .before .before .before .before .before .before .before .before .before .before .before .before .pre .1 .1 .0 in
-    let g = c .before .before .before .before .before .before .before .before .before .before .before .before .before .pre .1 .1 .1 in
-    omega (arith, c .before .before .before .before .before .before .block-byte .ensures .1, w .image-long, g .1, c .before .before .before .copy-part .kept .0)
+    let r = ranged p (pre .0) in
+    let w = pre .1 .0 in
+    let h = pre .1 .1 .0 in
+    let g = pre .1 .1 .1 in
+    omega (arith, block-byte .ensures .1, w .image-long, g .1, copy-part .kept .0)
 
 add-set-pointer : tie.Need-add-set-pointer
 add-set-pointer c =
     let a = c .before .before .before .before .before .before .before .before .before .before .before .before .before .before .before .before .before .args in
+    let pointer = c .before .before .before .before .before .before .before .before .before .before .before .pointer in
+    let pre = c .before .before .before .before .before .before .before .before .before .before .before .before .before .before .before .before .before .pre in
     let p = a .p in
-    let r = ranged p (c .before .before .before .before .before .before .before .before .before .before .before .before .before .before .before .before .before .pre .0) in
-    let w = c .before .before .before .before .before .before .before .before .before .before .before .before .before .before .before .before .before .pre .1 .0 in
-    let h = c .before .before .before .before .before .before .before .before .before .before .before .before .before .before .before .before .before .pre .1 .1 .0 in
-    omega (arith, c .before .before .before .before .before .before .before .before .before .before .before .pointer .ensures, h .2, capacity-high p r)
+    let r = ranged p (pre .0) in
+    let w = pre .1 .0 in
+    let h = pre .1 .1 .0 in
+    omega (arith, pointer .ensures, h .2, capacity-high p r)
 
 set-pointer-requires : tie.Need-set-pointer-requires
 set-pointer-requires c κs = search needs
@@ -71,21 +78,28 @@ returns : tie.Need-returns
 unfolding unitLen spareLen total recordWidths
 returns c =
     let a = c .before .before .before .before .before .before .before .before .before .before .before .before .before .before .before .before .before .before .before .before .args in
+    let set-pointer = c .before .before .set-pointer in
+    let copy-part2 = c .before .before .before .before .before .before .copy-part2 in
+    let copy-part = c .before .before .before .before .before .before .before .before .before .before .copy-part in
+    let block-byte = c .before .before .before .before .before .before .before .before .before .before .before .before .before .block-byte in
+    let pointer′ = c .before .before .before .before .before .before .before .before .before .before .before .before .before .before .pointer in
+    let pre = c .before .before .before .before .before .before .before .before .before .before .before .before .before .before .before .before .before .before .before .before .pre in
     let p = a .p in
-    let r = ranged p (c .before .before .before .before .before .before .before .before .before .before .before .before .before .before .before .before .before .before .before .before .pre .0) in
-    let w = c .before .before .before .before .before .before .before .before .before .before .before .before .before .before .before .before .before .before .before .before .pre .1 .0 in
-    let h = c .before .before .before .before .before .before .before .before .before .before .before .before .before .before .before .before .before .before .before .before .pre .1 .1 .0 in
-    let g = c .before .before .before .before .before .before .before .before .before .before .before .before .before .before .before .before .before .before .before .before .pre .1 .1 .1 in
-    let n : c .before .before .before .before .before .before .before .before .before .before .before .before .before .before .pointer .result + 1 ≡ suc (pointerOf p (a .pointers .now) (a .drive) (a .zone)) = omega (arith, c .before .before .before .before .before .before .before .before .before .before .before .before .before .before .pointer .ensures) in
-    let at : c .before .before .before .before .before .before .before .before .before .before .before .before .before .block-byte .result ≡ placeByte p (placeOf p (a .drive) (a .zone) (pointerOf p (a .pointers .now) (a .drive) (a .zone))) = c .before .before .before .before .before .before .before .before .before .before .before .before .before .block-byte .ensures .0 ∙ ap (λ (x : ℕ). placeByte p (placeOf p (a .drive) (a .zone) x)) (c .before .before .before .before .before .before .before .before .before .before .before .before .before .before .pointer .ensures) in
+    let r = ranged p (pre .0) in
+    let w = pre .1 .0 in
+    let h = pre .1 .1 .0 in
+    let g = pre .1 .1 .1 in
+    let n : pointer′ .result + 1 ≡ suc (pointerOf p (a .pointers .now) (a .drive) (a .zone)) = omega (arith, pointer′ .ensures) in
+    let at : block-byte .result ≡ placeByte p (placeOf p (a .drive) (a .zone) (pointerOf p (a .pointers .now) (a .drive) (a .zone))) =
+    block-byte .ensures .0 ∙ ap (λ (x : ℕ). placeByte p (placeOf p (a .drive) (a .zone) x)) (pointer′ .ensures) in
     let b = a .block .now in
     let s = a .spare .now in
     let im = a .image .now in
-    let m : c .before .before .before .before .before .before .before .before .before .before .before .before .before .block-byte .result + p .B ≡ c .before .before .before .before .before .before .before .before .before .before .before .before .before .block-byte .result + length b = ap (λ (x : ℕ). c .before .before .before .before .before .before .before .before .before .before .before .before .before .block-byte .result + x) (sym (g .0)) in
-    let fits : c .before .before .before .before .before .before .before .before .before .before .before .before .before .block-byte .result + length b + length s ≤ length im = omega (arith, c .before .before .before .before .before .before .before .before .before .before .before .before .before .block-byte .ensures .1, w .image-long, g .0, g .1) in
-    put-disk p (a .drive) (a .zone) b s im (a .pointers .now) (c .before .before .before .before .before .before .copy-part2 .last .0) (c .before .before .set-pointer .last .1 .0)
-    (c .before .before .before .before .before .before .copy-part2 .ensures ∙ ap₂ (λ (x : List ℕ) (y : ℕ). splice x y s) (c .before .before .before .before .before .before .before .before .before .before .copy-part .ensures) m ∙ splice-next im (c .before .before .before .before .before .before .before .before .before .before .before .before .before .block-byte .result) b s fits ∙ ap (λ (x : ℕ). splice im x (b ++ s)) at)
-    (c .before .before .set-pointer .ensures ∙ ap (setPointer p (a .pointers .now) (a .drive) (a .zone)) n)
+    let m : block-byte .result + p .B ≡ block-byte .result + length b = ap (λ (x : ℕ). block-byte .result + x) (sym (g .0)) in
+    let fits : block-byte .result + length b + length s ≤ length im = omega (arith, block-byte .ensures .1, w .image-long, g .0, g .1) in
+    put-disk p (a .drive) (a .zone) b s im (a .pointers .now) (copy-part2 .last .0) (set-pointer .last .1 .0)
+    (copy-part2 .ensures ∙ ap₂ (λ (x : List ℕ) (y : ℕ). splice x y s) (copy-part .ensures) m ∙ splice-next im (block-byte .result) b s fits ∙ ap (λ (x : ℕ). splice im x (b ++ s)) at)
+    (set-pointer .ensures ∙ ap (setPointer p (a .pointers .now) (a .drive) (a .zone)) n)
 
 pub put-spec : {M : Type 1} → statement M
 put-spec =

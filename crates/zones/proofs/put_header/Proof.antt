@@ -45,11 +45,13 @@ write-header-requires c κs = search needs
 add-set-pointer : tie.Need-add-set-pointer
 add-set-pointer c =
     let a = c .before .before .before .before .before .before .before .before .before .before .before .args in
+    let pointer = c .before .before .before .before .before .before .before .pointer in
+    let pre = c .before .before .before .before .before .before .before .before .before .before .before .pre in
     let p = a .p in
-    let r = ranged p (c .before .before .before .before .before .before .before .before .before .before .before .pre .0) in
-    let w = c .before .before .before .before .before .before .before .before .before .before .before .pre .1 .0 in
-    let h = c .before .before .before .before .before .before .before .before .before .before .before .pre .1 .1 in
-    omega (arith, c .before .before .before .before .before .before .before .pointer .ensures, h .2, capacity-high p r)
+    let r = ranged p (pre .0) in
+    let w = pre .1 .0 in
+    let h = pre .1 .1 in
+    omega (arith, pointer .ensures, h .2, capacity-high p r)
 
 set-pointer-requires : tie.Need-set-pointer-requires
 set-pointer-requires c κs = search needs
@@ -63,20 +65,30 @@ same-length-2 c = search needs
 returns : tie.Need-returns
 returns c =
     let a = c .before .before .before .before .before .before .before .before .before .before .before .before .before .before .args in
+    let set-pointer = c .before .before .set-pointer in
+    let write-header = c .before .before .before .before .before .before .write-header in
+    let unit-len = c .before .before .before .before .before .before .before .before .unit-len in
+    let block-byte = c .before .before .before .before .before .before .before .before .before .block-byte in
+    let pointer′ = c .before .before .before .before .before .before .before .before .before .before .pointer in
+    let pre = c .before .before .before .before .before .before .before .before .before .before .before .before .before .before .pre in
     let p = a .p in
-    let r = ranged p (c .before .before .before .before .before .before .before .before .before .before .before .before .before .before .pre .0) in
-    let w = c .before .before .before .before .before .before .before .before .before .before .before .before .before .before .pre .1 .0 in
-    let h = c .before .before .before .before .before .before .before .before .before .before .before .before .before .before .pre .1 .1 in
-    let n : c .before .before .before .before .before .before .before .before .before .before .pointer .result + 1 ≡ suc (pointerOf p (a .pointers .now) (a .drive) (a .zone)) = omega (arith, c .before .before .before .before .before .before .before .before .before .before .pointer .ensures) in
-    let at : c .before .before .before .before .before .before .before .before .before .block-byte .result ≡ placeByte p (placeOf p (a .drive) (a .zone) (pointerOf p (a .pointers .now) (a .drive) (a .zone))) = c .before .before .before .before .before .before .before .before .before .block-byte .ensures .0 ∙ ap (λ (x : ℕ). placeByte p (placeOf p (a .drive) (a .zone) x)) (c .before .before .before .before .before .before .before .before .before .before .pointer .ensures) in
+    let r = ranged p (pre .0) in
+    let w = pre .1 .0 in
+    let h = pre .1 .1 in
+    let n : pointer′ .result + 1 ≡ suc (pointerOf p (a .pointers .now) (a .drive) (a .zone)) = omega (arith, pointer′ .ensures) in
+    let at : block-byte .result ≡ placeByte p (placeOf p (a .drive) (a .zone) (pointerOf p (a .pointers .now) (a .drive) (a .zone))) =
+    block-byte .ensures .0 ∙ ap (λ (x : ℕ). placeByte p (placeOf p (a .drive) (a .zone) x)) (pointer′ .ensures) in
     let im = a .image .now in
     let b = headerBlock p (a .drive) (a .zone) (a .serial .0) (a .copied .0) in
-    let t = c .before .before .before .before .before .before .before .before .before .block-byte .result in
-    let u = c .before .before .before .before .before .before .before .before .unit-len .result in
-    let l : length (c .before .before .before .before .before .before .write-header .last .0) ≡ u = ap length (c .before .before .before .before .before .before .write-header .ensures) ∙ header-unit p (a .drive) (a .zone) (a .serial .0) (a .copied .0) (omega (arith, r .block-low)) ∙ sym (c .before .before .before .before .before .before .before .before .unit-len .ensures .0) in
-    put-disk p (a .drive) (a .zone) b zeroSpare im (a .pointers .now) (take t im ++ (c .before .before .before .before .before .before .write-header .last .0 ++ drop (t + u - t) (drop t im))) (c .before .before .set-pointer .last .1 .0)
-    (splice-lent t u im (c .before .before .before .before .before .before .write-header .last .0) l ∙ ap₂ (splice im) at (c .before .before .before .before .before .before .write-header .ensures))
-    (c .before .before .set-pointer .ensures ∙ ap (setPointer p (a .pointers .now) (a .drive) (a .zone)) n)
+    let t = block-byte .result in
+    let u = unit-len .result in
+    let l : length (write-header .last .0) ≡ u =
+    ap length (write-header .ensures)
+    ∙ header-unit p (a .drive) (a .zone) (a .serial .0) (a .copied .0) (omega (arith, r .block-low))
+    ∙ sym (unit-len .ensures .0) in
+    put-disk p (a .drive) (a .zone) b zeroSpare im (a .pointers .now) (take t im ++ (write-header .last .0 ++ drop (t + u - t) (drop t im))) (set-pointer .last .1 .0)
+    (splice-lent t u im (write-header .last .0) l ∙ ap₂ (splice im) at (write-header .ensures))
+    (set-pointer .ensures ∙ ap (setPointer p (a .pointers .now) (a .drive) (a .zone)) n)
 
 pub put-header-spec : {M : Type 1} → statement M
 put-header-spec =

@@ -29,9 +29,11 @@ same-length-2 c = search needs
 returns-2 : tie.Need-returns-2
 returns-2 c =
     let a = c .before .before .before .before .before .before .before .before .before .before .before .before .args in
+    let put′ = c .before .before .before .before .put in
+    let if1 = c .before .before .before .before .before .before .before .if1 in
     let k = mkDisk (a .image .now) (a .pointers .now) in
     let s = put (a .drive) (a .zone) (a .block .now) (a .spare .now) in
-    storing-one (a .p) (a .count) s k (mkDisk (c .before .before .before .before .put .last .1 .0) (c .before .before .before .before .put .last .1 .1 .0)) (omega (arith, c .before .before .before .before .before .before .before .if1 .left)) (c .before .before .before .before .put .ensures)
+    storing-one (a .p) (a .count) s k (mkDisk (put′ .last .1 .0) (put′ .last .1 .1 .0)) (omega (arith, if1 .left)) (put′ .ensures)
 
 pub put-limited-spec : {M : Type 1} → statement M
 put-limited-spec =

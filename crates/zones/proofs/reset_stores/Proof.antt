@@ -13,7 +13,8 @@ use Rattle.zones.proofs.reset_stores.Statement.{statement}
 use Rattle.zones.proofs.reset_stores.Tie as tie
 
 abbrev Inv-loop : tie.InvT-loop
-Inv-loop p pointers₀ segment count left₀ d₀ pointers left d = (length pointers ≡ length pointers₀) × ((im : List ℕ) → Rest p (resetStore segment) (p .N) count (mkDisk im pointers₀) d left (mkDisk im pointers))
+Inv-loop p pointers₀ segment count left₀ d₀ pointers left d =
+    (length pointers ≡ length pointers₀) × ((im : List ℕ) → Rest p (resetStore segment) (p .N) count (mkDisk im pointers₀) d left (mkDisk im pointers))
 
 abbrev μ-loop : tie.MeasureT-loop
 μ-loop p pointers₀ segment count left₀ d₀ pointers left d = p .N - d
@@ -30,9 +31,10 @@ returns : tie.Need-returns Inv-loop μ-loop
 unfolding resetStores drivesOf resetStore
 returns c =
     let a = c .before .before .before .before .before .args in
+    let pre = c .before .before .before .before .before .pre in
     let p = a .p in
     let l = c .before .before .before .loop in
-    let g = c .before .before .before .before .before .pre .1 in
+    let g = pre .1 in
     let f = resetStore (a .segment) in
     λ im. rest-cut p f (p .N) (a .count) (mkDisk im (a .pointers .now)) (l .d) (l .left) (mkDisk im (l .pointers)) (l .inv .1 im) (omega (arith, c .before .if1 .taken)) (c .if2 .taken)
 
@@ -42,11 +44,14 @@ zone-on-requires c κs = tt
 reset-requires : tie.Need-reset-requires Inv-loop μ-loop
 reset-requires c κs =
     let a = c .before .before .before .before .before .before .before .args in
+    let if1 = c .before .before .before .if1 in
+    let loop = c .before .before .before .before .before .loop in
+    let pre = c .before .before .before .before .before .before .before .pre in
     let p = a .p in
-    let l = c .before .before .before .before .before .loop in
-    let g = c .before .before .before .before .before .before .before .pre .1 in
+    let l = loop in
+    let g = pre .1 in
     let f = resetStore (a .segment) in
-    (c .before .before .before .before .before .before .before .pre .0, (l .inv .0 ∙ g .0, c .before .before .before .if1 .taken, rw (c .before .zone-on .ensures) (zone-on-lt p (a .segment) (l .d) (g .1))))
+    (pre .0, (l .inv .0 ∙ g .0, if1 .taken, rw (c .before .zone-on .ensures) (zone-on-lt p (a .segment) (l .d) (g .1))))
 
 sub-left : tie.Need-sub-left Inv-loop μ-loop
 sub-left c = omega arith
@@ -61,15 +66,21 @@ loop-again : tie.Need-loop-again Inv-loop μ-loop
 unfolding resetStore
 loop-again c =
     let a = c .before .before .before .before .before .before .before .before .before .before .args in
+    let reset′ = c .before .before .reset in
+    let zone-on = c .before .before .before .before .zone-on in
+    let if2 = c .before .before .before .before .before .if2 in
+    let if1 = c .before .before .before .before .before .before .if1 in
+    let loop = c .before .before .before .before .before .before .before .before .loop in
+    let pre = c .before .before .before .before .before .before .before .before .before .before .pre in
     let p = a .p in
-    let l = c .before .before .before .before .before .before .before .before .loop in
-    let g = c .before .before .before .before .before .before .before .before .before .before .pre .1 in
+    let l = loop in
+    let g = pre .1 in
     let f = resetStore (a .segment) in
     let q = l .d in (
-      c .before .before .reset .kept .1 .0 ∙ l .inv .0,
+      reset′ .kept .1 .0 ∙ l .inv .0,
       (λ im.
-          rest-turn p f (p .N) (a .count) (mkDisk im (a .pointers .now)) q (l .left) (mkDisk im (l .pointers)) (mkDisk im (c .before .before .reset .last .1 .0)) (l .inv .1 im) (c .before .before .before .before .before .before .if1 .taken) (omega (arith, c .before .before .before .before .before .if2 .left))
-          (reset-disk p q (c .before .before .before .before .zone-on .result) im (l .pointers) (c .before .before .reset .last .1 .0) (c .before .before .reset .ensures) ∙ ap (λ (x : ℕ). storeDisk p (reset q x) (mkDisk im (l .pointers))) (c .before .before .before .before .zone-on .ensures))),
+          rest-turn p f (p .N) (a .count) (mkDisk im (a .pointers .now)) q (l .left) (mkDisk im (l .pointers)) (mkDisk im (reset′ .last .1 .0)) (l .inv .1 im) (if1 .taken) (omega (arith, if2 .left))
+          (reset-disk p q (zone-on .result) im (l .pointers) (reset′ .last .1 .0) (reset′ .ensures) ∙ ap (λ (x : ℕ). storeDisk p (reset q x) (mkDisk im (l .pointers))) (zone-on .ensures))),
     )
 
 same-length-2 : tie.Need-same-length-2 Inv-loop μ-loop
@@ -79,9 +90,10 @@ returns-2 : tie.Need-returns-2 Inv-loop μ-loop
 unfolding resetStores drivesOf resetStore
 returns-2 c =
     let a = c .before .before .before .before .args in
+    let pre = c .before .before .before .before .pre in
     let p = a .p in
     let l = c .before .before .loop in
-    let g = c .before .before .before .before .pre .1 in
+    let g = pre .1 in
     let f = resetStore (a .segment) in
     λ im. rest-done p f (p .N) (a .count) (mkDisk im (a .pointers .now)) (l .d) (l .left) (mkDisk im (l .pointers)) (l .inv .1 im) (omega (arith, c .if1 .left))
 

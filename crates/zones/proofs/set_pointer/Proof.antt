@@ -18,7 +18,11 @@ same-length c = search needs
 
 returns : tie.Need-returns
 unfolding setPointer
-returns c = c .before .before .write-be32 .ensures ∙ ap (λ (x : ℕ). splice (c .before .before .before .before .before .before .args .pointers .now) x (toBe 4 (c .before .before .before .before .before .before .args .n))) (c .before .before .before .before .pointer-byte .ensures .0)
+returns c =
+    let write-be32 = c .before .before .write-be32 in
+    let pointer-byte = c .before .before .before .before .pointer-byte in
+    let args = c .before .before .before .before .before .before .args in
+    write-be32 .ensures ∙ ap (λ (x : ℕ). splice (args .pointers .now) x (toBe 4 (args .n))) (pointer-byte .ensures .0)
 
 pub set-pointer-spec : {M : Type 1} → statement M
 set-pointer-spec =
