@@ -16,9 +16,9 @@ all: $(OUT)/libsorgizhed.a $(OUT)/box
 $(OUT)/libsorgizhed.a: crates.txt $(shell find crates -type f -not -path '*/wrong/*' -not -path '*/must-fail/*')
 	@mkdir -p $(OUT)
 	@echo "proving and compiling the engine: about ten minutes from nothing on two cores"
-	@{ rt staticlib cabi 2>&1; echo $$? >$(OUT)/status; } | tee $(OUT)/staticlib.log | grep --line-buffered '^rt:' | grep --line-buffered -v unchanged; \
+	@{ rt staticlib api_c 2>&1; echo $$? >$(OUT)/status; } | tee $(OUT)/staticlib.log | grep --line-buffered '^rt:' | grep --line-buffered -v unchanged; \
 	test "$$(cat $(OUT)/status)" = 0 || { tail -40 $(OUT)/staticlib.log; exit 1; }
-	@cp target/staticlib/libcabi.a $@
+	@cp target/staticlib/libapi_c.a $@
 
 # the example host
 $(OUT)/box: host/main.c host/run.c host/run.h host/array.c host/array.h include/sorgizhed.h $(OUT)/libsorgizhed.a

@@ -9,7 +9,7 @@
 
 #include "plain.h"
 
-/* decodes a state and encodes it again (crates/leafbench) */
+/* decodes a state and encodes it again (crates/bench_leaves) */
 void leaf_state(uint8_t *to, size_t to_length, const uint8_t *from, size_t from_length, size_t k, uint32_t v);
 
 static const size_t small[6] = {3, 64, 4, 4, 2, 8};

@@ -8,7 +8,7 @@
 #include <string.h>
 #include <time.h>
 
-// The exports of the crate leafbench. They test the lengths, and so do the functions in C.
+// The exports of the crate bench_leaves. They test the lengths, and so do the functions in C.
 extern void leaf_xor(uint8_t *dst, size_t dst_len, const uint8_t *src, size_t src_len);
 extern void leaf_xor_part(uint8_t *dst, size_t dst_len, size_t at, const uint8_t *src, size_t src_len);
 extern void leaf_xor_within(uint8_t *buf, size_t buf_len, size_t a, size_t b, size_t n);

@@ -1,15 +1,15 @@
 #!/usr/bin/env python3
-"""Write crates/witness/proofs/Evaluation.antt: every unfoldable name of the definitions and of the crate on one `unfolding` line."""
+"""Write crates/proof_crash_witness/proofs/Evaluation.antt: every unfoldable name of the definitions and of the crate on one `unfolding` line."""
 import re
 from pathlib import Path
-WITNESS = Path("crates/witness")
+WITNESS = Path("crates/proof_crash_witness")
 OUT = WITNESS / "proofs" / "Evaluation.antt"
 lines = ["-- Where a declaration says `unfolding evaluated`, every definition that a history needs computes. Assumes nothing.",
          "-- Written by tools/witness.py.", "use Prim.Native.Nat.{ℕ}", "use lib.Count.{ones, onesIn}"]
 names = ["ones", "onesIn"]
-homes = [(f, "Rattle.defs.specs") for f in sorted(Path("crates/defs/specs").glob("*.antt"))]
-homes += [(f, "Rattle.witness.specs") for f in sorted((WITNESS / "specs").glob("*.antt"))]
-homes += [(f, "Rattle.witness.proofs") for f in sorted((WITNESS / "proofs").glob("*.antt")) if f != OUT]
+homes = [(f, "Rattle.spec.specs") for f in sorted(Path("crates/spec/specs").glob("*.antt"))]
+homes += [(f, "Rattle.proof_crash_witness.specs") for f in sorted((WITNESS / "specs").glob("*.antt"))]
+homes += [(f, "Rattle.proof_crash_witness.proofs") for f in sorted((WITNESS / "proofs").glob("*.antt")) if f != OUT]
 for f, home in homes:
     # of the worked examples only the blocks
     found = ["blockOf"] if f.stem == "Examples" else re.findall(r"^unfoldable pub (\S+)", f.read_text(), re.M)

@@ -10,22 +10,22 @@ use native.Mathlib.Nat.{le-refl}
 use native.Mathlib.Omega.{arith}
 use lib.Dec.{eqb}
 use lib.ListN.{length, take, replicate}
-use Rattle.defs.specs.declared.Params.{Params}
-use Rattle.defs.specs.declared.Answer.{Answer}
-use Rattle.defs.specs.declared.Answer.the-variants.{Cut}
-use Rattle.defs.specs.Answers.{kind, isRefused, isCut}
-use Rattle.defs.specs.Bytes.{toLe}
-use Rattle.defs.specs.Calls.{Plan, Verdict, After, mkAfter, cutMemory, outcome}
-use Rattle.defs.specs.Calls.Verdict.{refused, due}
-use Rattle.defs.specs.Drives.{Store, Disk, storeDisk, storeAll}
-use Rattle.defs.specs.Engine.{Call, storeCount, lentBlock, verdict, lentOk, Lent, Left, lentDisk, lentMemory, lentAll, leftBy, callBytes}
-use Rattle.defs.specs.Lists.{flat, total, isMember, zipped}
-use Rattle.defs.specs.Memory.{Memory, idleState, zeroState, stateSections, sectionLen, stateLen, stateNumbers, sectionBytes, stateBytes}
-use Rattle.laws.specs.Stores.{refused-same, done-all, cut-prefix}
+use Rattle.spec.specs.declared.Params.{Params}
+use Rattle.spec.specs.declared.Answer.{Answer}
+use Rattle.spec.specs.declared.Answer.the-variants.{Cut}
+use Rattle.spec.specs.Answers.{kind, isRefused, isCut}
+use Rattle.spec.specs.Bytes.{toLe}
+use Rattle.spec.specs.Calls.{Plan, Verdict, After, mkAfter, cutMemory, outcome}
+use Rattle.spec.specs.Calls.Verdict.{refused, due}
+use Rattle.spec.specs.Drives.{Store, Disk, storeDisk, storeAll}
+use Rattle.spec.specs.Engine.{Call, storeCount, lentBlock, verdict, lentOk, Lent, Left, lentDisk, lentMemory, lentAll, leftBy, callBytes}
+use Rattle.spec.specs.Lists.{flat, total, isMember, zipped}
+use Rattle.spec.specs.Memory.{Memory, idleState, zeroState, stateSections, sectionLen, stateLen, stateNumbers, sectionBytes, stateBytes}
+use Rattle.law_basic.specs.Stores.{refused-same, done-all, cut-prefix}
 use Rattle.spec_demands.specs.Answering.{resultsOf, canStore, refusalsOf, refusalNumber, Answers, withCount, cutLeft, Due, Answered, Demand1}
 use Rattle.spec_demands.specs.Answering.Answers.{result, cut, refusal}
-use Rattle.tablesay.specs.Tests.{clash}
-use Rattle.views.specs.Views.{seen}
+use Rattle.proof_tables.specs.Tests.{clash}
+use Rattle.law_views.specs.Views.{seen}
 use Rattle.proof_answers.specs.Verdicts.{Says, says, counted-on, own-count, result-high}
 use Rattle.proof_answers.specs.Verdicts.Says.{says-no, says-yes}
 

@@ -7,29 +7,29 @@ use native.Mathlib.Decide.{ℕ-discrete}
 use native.Mathlib.Omega.{arith}
 use lib.ListN.{length, getD, take, drop, set, length-set, length-map}
 use lib.Seq.{getD-set-same, getD-set-other}
-use Rattle.defs.specs.declared.Params.{Params}
-use Rattle.defs.specs.Drives.{Chunk, mkChunk, noChunk, Zone, View, zoneAt, chunkAt, Store, putZone, Disk, zoneOn, zeroSpare, sparesOf, footerStores, headerStores, resetStores}
-use Rattle.defs.specs.Drives.Store.{put, reset}
-use Rattle.defs.specs.Layout.{dataDrive, dataDrives, dataPosition, isData, headerBlock, mkRec, footerBlock}
-use Rattle.defs.specs.Lists.{upFrom, below, isIn}
-use Rattle.defs.specs.Params.{dataCount, spareLen, capacity, unitLen, placeOf, placeByte, drivesOf, present}
-use Rattle.defs.specs.Parity.{Piece, mkPiece, parityPiece}
-use Rattle.defs.specs.Restart.{renumbered, movedPieces, movedOn}
-use Rattle.defs.specs.Segments.{Segment, segmentOf, offsetOn, hasChunk, counts, storedPiece, pieceOf, putPiece}
-use Rattle.laws.specs.Geometry.{Ranged, block-within, data-drive-lt, position-lt}
-use Rattle.laws.specs.Mask.{isIn-empty}
-use Rattle.laws.specs.Ranges.{Test, test, length-upFrom, length-below}
-use Rattle.laws.specs.Ranges.Test.{yes!, no! }
-use Rattle.laws.specs.Splice.{length-part}
-use Rattle.tablesay.specs.Laid.{length-header, length-zeroSpare, length-record, Long, in-take, in-drop, length-footer}
-use Rattle.tablesay.specs.Members.{In, map-in, below-in, in-getD, getD-in}
-use Rattle.tablesay.specs.Puts.{putAt}
-use Rattle.tablesay.specs.Range.{capacity-over}
-use Rattle.tablesay.specs.Reads.{counts-in}
-use Rattle.tablesay.specs.Rebuilding.{parity-length}
-use Rattle.tablesay.specs.Sealing.{sparesIn, footerChunks, footer-puts}
-use Rattle.tablesay.specs.Segs.{present-in, data-low, zone-by, chunk-at}
-use Rattle.views.specs.Views.{Whole, blocks-long, block-view, spare-view, seen}
+use Rattle.spec.specs.declared.Params.{Params}
+use Rattle.spec.specs.Drives.{Chunk, mkChunk, noChunk, Zone, View, zoneAt, chunkAt, Store, putZone, Disk, zoneOn, zeroSpare, sparesOf, footerStores, headerStores, resetStores}
+use Rattle.spec.specs.Drives.Store.{put, reset}
+use Rattle.spec.specs.Layout.{dataDrive, dataDrives, dataPosition, isData, headerBlock, mkRec, footerBlock}
+use Rattle.spec.specs.Lists.{upFrom, below, isIn}
+use Rattle.spec.specs.Params.{dataCount, spareLen, capacity, unitLen, placeOf, placeByte, drivesOf, present}
+use Rattle.spec.specs.Parity.{Piece, mkPiece, parityPiece}
+use Rattle.spec.specs.Restart.{renumbered, movedPieces, movedOn}
+use Rattle.spec.specs.Segments.{Segment, segmentOf, offsetOn, hasChunk, counts, storedPiece, pieceOf, putPiece}
+use Rattle.law_basic.specs.Geometry.{Ranged, block-within, data-drive-lt, position-lt}
+use Rattle.law_basic.specs.Mask.{isIn-empty}
+use Rattle.law_basic.specs.Ranges.{Test, test, length-upFrom, length-below}
+use Rattle.law_basic.specs.Ranges.Test.{yes!, no! }
+use Rattle.law_basic.specs.Splice.{length-part}
+use Rattle.proof_tables.specs.Laid.{length-header, length-zeroSpare, length-record, Long, in-take, in-drop, length-footer}
+use Rattle.proof_tables.specs.Members.{In, map-in, below-in, in-getD, getD-in}
+use Rattle.proof_tables.specs.Puts.{putAt}
+use Rattle.proof_tables.specs.Range.{capacity-over}
+use Rattle.proof_tables.specs.Reads.{counts-in}
+use Rattle.proof_tables.specs.Rebuilding.{parity-length}
+use Rattle.proof_tables.specs.Sealing.{sparesIn, footerChunks, footer-puts}
+use Rattle.proof_tables.specs.Segs.{present-in, data-low, zone-by, chunk-at}
+use Rattle.law_views.specs.Views.{Whole, blocks-long, block-view, spare-view, seen}
 use Rattle.proof_answers.specs.Rising.{Proper}
 
 -- ---- zones

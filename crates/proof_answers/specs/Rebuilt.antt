@@ -9,29 +9,29 @@ use borrow.Author.Tests.{ne-eqb}
 use native.Mathlib.Omega.{arith}
 use lib.Dec.{eqb}
 use lib.ListN.{length, length-append, length-map}
-use Rattle.defs.specs.declared.Params.{Params}
-use Rattle.defs.specs.Drives.{View, zoneAt, pointerAt, Store, zoneOn, zeroSpare}
-use Rattle.defs.specs.Drives.Store.{put, reset}
-use Rattle.defs.specs.Layout.{headerBlock, recordBytes, footerBlock}
-use Rattle.defs.specs.Lists.{below, flat, isIn}
-use Rattle.defs.specs.Params.{spareLen, footers, capacity, named}
-use Rattle.defs.specs.Parity.{Piece}
-use Rattle.defs.specs.Rebuild.{rebuiltZone, rebuildStores}
-use Rattle.defs.specs.Segments.{remaining, Segment, segmentOf, segments, counted, pieceOf, putPiece}
-use Rattle.laws.specs.Geometry.{Ranged}
-use Rattle.laws.specs.Mask.{isIn-only}
-use Rattle.laws.specs.Ranges.{Test, test, length-below}
-use Rattle.laws.specs.Ranges.Test.{yes!, no! }
-use Rattle.tablesay.specs.Laid.{length-record, Long}
-use Rattle.tablesay.specs.Members.{In, in-append, map-in, flat-in, flat-cong, keep-nothing, keep-all, flat-nothing, keep-map, flat-map, below-in}
-use Rattle.tablesay.specs.Puts.{hits-append, hits-flat, keep-one-below, flat-one}
-use Rattle.tablesay.specs.Range.{capacity-is}
-use Rattle.tablesay.specs.Reading.{nil-append}
-use Rattle.tablesay.specs.Rebuilding.{counted-low, counted-in}
-use Rattle.tablesay.specs.Segs.{remaining-low, seg-is}
-use Rattle.tablesay.specs.Tables.{remains, remaining-is}
-use Rattle.tablesay.specs.Tests.{and-false-left, cond-false, eqb-self}
-use Rattle.tablesay.specs.Zones.{hitsAt, hits}
+use Rattle.spec.specs.declared.Params.{Params}
+use Rattle.spec.specs.Drives.{View, zoneAt, pointerAt, Store, zoneOn, zeroSpare}
+use Rattle.spec.specs.Drives.Store.{put, reset}
+use Rattle.spec.specs.Layout.{headerBlock, recordBytes, footerBlock}
+use Rattle.spec.specs.Lists.{below, flat, isIn}
+use Rattle.spec.specs.Params.{spareLen, footers, capacity, named}
+use Rattle.spec.specs.Parity.{Piece}
+use Rattle.spec.specs.Rebuild.{rebuiltZone, rebuildStores}
+use Rattle.spec.specs.Segments.{remaining, Segment, segmentOf, segments, counted, pieceOf, putPiece}
+use Rattle.law_basic.specs.Geometry.{Ranged}
+use Rattle.law_basic.specs.Mask.{isIn-only}
+use Rattle.law_basic.specs.Ranges.{Test, test, length-below}
+use Rattle.law_basic.specs.Ranges.Test.{yes!, no! }
+use Rattle.proof_tables.specs.Laid.{length-record, Long}
+use Rattle.proof_tables.specs.Members.{In, in-append, map-in, flat-in, flat-cong, keep-nothing, keep-all, flat-nothing, keep-map, flat-map, below-in}
+use Rattle.proof_tables.specs.Puts.{hits-append, hits-flat, keep-one-below, flat-one}
+use Rattle.proof_tables.specs.Range.{capacity-is}
+use Rattle.proof_tables.specs.Reading.{nil-append}
+use Rattle.proof_tables.specs.Rebuilding.{counted-low, counted-in}
+use Rattle.proof_tables.specs.Segs.{remaining-low, seg-is}
+use Rattle.proof_tables.specs.Tables.{remains, remaining-is}
+use Rattle.proof_tables.specs.Tests.{and-false-left, cond-false, eqb-self}
+use Rattle.proof_tables.specs.Zones.{hitsAt, hits}
 use Rattle.proof_answers.specs.Lengths.{Fair, header-proper, footer-proper, decoded-long, piece-proper}
 use Rattle.proof_answers.specs.Rising.{Rises, rises-few, Proper, Able}
 

@@ -9,28 +9,28 @@ use borrow.Author.Tests.{le-leb, eq-eqb, ne-eqb}
 use native.Mathlib.Omega.{arith}
 use lib.Dec.{leb, eqb}
 use lib.ListN.{length, getD, length-append, length-map}
-use Rattle.defs.specs.declared.Params.{Params}
-use Rattle.defs.specs.Drives.{Chunk, Zone, noZone, View, zoneAt, pointerAt, Store, segmentNumbers, zoneOn, zeroSpare, headerStores, footerStores, resetStores}
-use Rattle.defs.specs.Drives.Store.{put, reset}
-use Rattle.defs.specs.Faults.{footersStored, clashes}
-use Rattle.defs.specs.Layout.{headerBlock}
-use Rattle.defs.specs.Lists.{below, any, keep, isNil, flat, firstOr}
-use Rattle.defs.specs.Params.{footers, capacity, drivesOf}
-use Rattle.defs.specs.Restart.{freeZones, isWhole, isRagged, missingFooters, movedPieces, movedOn, movedStripe, movedStripes, rewriteStores, dropStores, mendStores, restartStores, rewrites}
-use Rattle.defs.specs.Segments.{remaining, Segment, segmentOf, segments, counts, counted, putPiece, greatestSerial, unsealed}
-use Rattle.laws.specs.Geometry.{Ranged}
-use Rattle.laws.specs.Mask.{isIn-empty}
-use Rattle.laws.specs.Ranges.{Test, test, and-both, flat-none, flat-cons}
-use Rattle.laws.specs.Ranges.Test.{yes!, no! }
-use Rattle.tablesay.specs.Accept.{Accepted, pointer-ok, faults-apart}
-use Rattle.tablesay.specs.Members.{In, in-append, map-in, flat-in, keep-in, in-any, flat-cong, below-in, first-in}
-use Rattle.tablesay.specs.Puts.{hits-append, hits-flat, putAt, hits-drives, hits-resets, hits-headers, flat-one}
-use Rattle.tablesay.specs.Range.{capacity-is, capacity-over}
-use Rattle.tablesay.specs.Rebuilding.{counted-low, counted-in}
-use Rattle.tablesay.specs.Sealing.{hits-each, footerChunks, footer-puts}
-use Rattle.tablesay.specs.Segs.{remaining-low, zone-by, seg-is}
-use Rattle.tablesay.specs.Tests.{clash, cond-true, cond-false, cond-same}
-use Rattle.tablesay.specs.Zones.{hitsAt, hits}
+use Rattle.spec.specs.declared.Params.{Params}
+use Rattle.spec.specs.Drives.{Chunk, Zone, noZone, View, zoneAt, pointerAt, Store, segmentNumbers, zoneOn, zeroSpare, headerStores, footerStores, resetStores}
+use Rattle.spec.specs.Drives.Store.{put, reset}
+use Rattle.spec.specs.Faults.{footersStored, clashes}
+use Rattle.spec.specs.Layout.{headerBlock}
+use Rattle.spec.specs.Lists.{below, any, keep, isNil, flat, firstOr}
+use Rattle.spec.specs.Params.{footers, capacity, drivesOf}
+use Rattle.spec.specs.Restart.{freeZones, isWhole, isRagged, missingFooters, movedPieces, movedOn, movedStripe, movedStripes, rewriteStores, dropStores, mendStores, restartStores, rewrites}
+use Rattle.spec.specs.Segments.{remaining, Segment, segmentOf, segments, counts, counted, putPiece, greatestSerial, unsealed}
+use Rattle.law_basic.specs.Geometry.{Ranged}
+use Rattle.law_basic.specs.Mask.{isIn-empty}
+use Rattle.law_basic.specs.Ranges.{Test, test, and-both, flat-none, flat-cons}
+use Rattle.law_basic.specs.Ranges.Test.{yes!, no! }
+use Rattle.proof_tables.specs.Accept.{Accepted, pointer-ok, faults-apart}
+use Rattle.proof_tables.specs.Members.{In, in-append, map-in, flat-in, keep-in, in-any, flat-cong, below-in, first-in}
+use Rattle.proof_tables.specs.Puts.{hits-append, hits-flat, putAt, hits-drives, hits-resets, hits-headers, flat-one}
+use Rattle.proof_tables.specs.Range.{capacity-is, capacity-over}
+use Rattle.proof_tables.specs.Rebuilding.{counted-low, counted-in}
+use Rattle.proof_tables.specs.Sealing.{hits-each, footerChunks, footer-puts}
+use Rattle.proof_tables.specs.Segs.{remaining-low, zone-by, seg-is}
+use Rattle.proof_tables.specs.Tests.{clash, cond-true, cond-false, cond-same}
+use Rattle.proof_tables.specs.Zones.{hitsAt, hits}
 use Rattle.proof_answers.specs.Lengths.{Fair, headers-proper, resets-proper, footers-proper, footers-count, moved-long, piece-proper}
 use Rattle.proof_answers.specs.Rising.{Rises, rises-few, Proper, Able}
 

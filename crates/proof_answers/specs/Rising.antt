@@ -7,18 +7,18 @@ use Prim.Native.Nat.{ℕ, zero, suc, _+_, _^_, _≤_, _<_}
 use native.Mathlib.Omega.{arith}
 use lib.Dec.{eqb}
 use lib.ListN.{length, take}
-use Rattle.defs.specs.declared.Params.{Params}
-use Rattle.defs.specs.Drives.{Zone, View, zoneAt, pointerAt, Store, storeView, Disk, storeDisk}
-use Rattle.defs.specs.Drives.Store.{put, reset}
-use Rattle.defs.specs.Lists.{consIf, keep}
-use Rattle.defs.specs.Params.{spareLen, capacity}
-use Rattle.laws.specs.Ranges.{Test, test, and-both}
-use Rattle.laws.specs.Ranges.Test.{yes!, no! }
+use Rattle.spec.specs.declared.Params.{Params}
+use Rattle.spec.specs.Drives.{Zone, View, zoneAt, pointerAt, Store, storeView, Disk, storeDisk}
+use Rattle.spec.specs.Drives.Store.{put, reset}
+use Rattle.spec.specs.Lists.{consIf, keep}
+use Rattle.spec.specs.Params.{spareLen, capacity}
+use Rattle.law_basic.specs.Ranges.{Test, test, and-both}
+use Rattle.law_basic.specs.Ranges.Test.{yes!, no! }
 use Rattle.spec_demands.specs.Rules.{Obeys, ObeyAll}
-use Rattle.tablesay.specs.Members.{In}
-use Rattle.tablesay.specs.Tests.{cond-true, cond-false, eqb-self}
-use Rattle.tablesay.specs.Zones.{Sized, hitsAt, zoneStore, hits, sized-store, zone-stored, put-pointer, reset-pointer}
-use Rattle.views.specs.Views.{Whole, pointer-view, Fits, AllFit, seen, view-store, whole-store}
+use Rattle.proof_tables.specs.Members.{In}
+use Rattle.proof_tables.specs.Tests.{cond-true, cond-false, eqb-self}
+use Rattle.proof_tables.specs.Zones.{Sized, hitsAt, zoneStore, hits, sized-store, zone-stored, put-pointer, reset-pointer}
+use Rattle.law_views.specs.Views.{Whole, pointer-view, Fits, AllFit, seen, view-store, whole-store}
 
 -- ---- one zone
 

@@ -9,39 +9,39 @@ use borrow.Author.Tests.{ne-eqb, ltb-true, not-false}
 use native.Mathlib.Omega.{arith}
 use lib.Dec.{ltb, eqb}
 use lib.ListN.{length, take}
-use Rattle.defs.specs.declared.Params.{Params}
-use Rattle.defs.specs.declared.Answer.the-variants.{Rebuilt}
-use Rattle.defs.specs.Calls.{Check, firstRefusal, Plan, mkPlan, Verdict, decided}
-use Rattle.defs.specs.Calls.Check.{rule}
-use Rattle.defs.specs.Calls.Verdict.{refused, due}
-use Rattle.defs.specs.Counts.{lastCount}
-use Rattle.defs.specs.Drives.{View, zoneAt, chunkAt, Store, Disk, storeDisk, storeAll, placeSegment, recordAt}
-use Rattle.defs.specs.Engine.{Call, storeCount, verdict, lentOk, Lent, Left, lentDisk, lentMemory, lentAll, callBytes}
-use Rattle.defs.specs.Engine.Call.{write, land, close, reclaim, read, fill, restart, rebuild}
-use Rattle.defs.specs.Landing.{waiting, landFaults, landChecks, landPlan, landVerdict}
-use Rattle.defs.specs.Lists.{Opt, isNil, firstOr}
-use Rattle.defs.specs.Memory.{Memory, stateLen, stateFaults}
-use Rattle.defs.specs.Params.{inRange, placeBlock, placeZone, placeDrive, named}
-use Rattle.defs.specs.Rebuild.{namesMissing, rebuildChecks, rebuildStores, rebuildVerdict}
-use Rattle.defs.specs.Reclaim.{Victim, victim, isNone, victimSegment, victimLive, idle, reclaimChecks, resetPlan, copyPlan, reclaimVerdict}
-use Rattle.defs.specs.Restart.{freeZones, restartStores, namesDrive, rewrites, restartChecks, restartPlan, restartVerdict}
-use Rattle.defs.specs.Segments.{segments, greatestSerial}
-use Rattle.defs.specs.Write.{opens, scarce, writeChecks, writePlan, writeVerdict}
-use Rattle.laws.specs.Geometry.{Ranged, ranged}
-use Rattle.laws.specs.Ranges.{Test, test, and-left}
-use Rattle.laws.specs.Ranges.Test.{yes!, no! }
+use Rattle.spec.specs.declared.Params.{Params}
+use Rattle.spec.specs.declared.Answer.the-variants.{Rebuilt}
+use Rattle.spec.specs.Calls.{Check, firstRefusal, Plan, mkPlan, Verdict, decided}
+use Rattle.spec.specs.Calls.Check.{rule}
+use Rattle.spec.specs.Calls.Verdict.{refused, due}
+use Rattle.spec.specs.Counts.{lastCount}
+use Rattle.spec.specs.Drives.{View, zoneAt, chunkAt, Store, Disk, storeDisk, storeAll, placeSegment, recordAt}
+use Rattle.spec.specs.Engine.{Call, storeCount, verdict, lentOk, Lent, Left, lentDisk, lentMemory, lentAll, callBytes}
+use Rattle.spec.specs.Engine.Call.{write, land, close, reclaim, read, fill, restart, rebuild}
+use Rattle.spec.specs.Landing.{waiting, landFaults, landChecks, landPlan, landVerdict}
+use Rattle.spec.specs.Lists.{Opt, isNil, firstOr}
+use Rattle.spec.specs.Memory.{Memory, stateLen, stateFaults}
+use Rattle.spec.specs.Params.{inRange, placeBlock, placeZone, placeDrive, named}
+use Rattle.spec.specs.Rebuild.{namesMissing, rebuildChecks, rebuildStores, rebuildVerdict}
+use Rattle.spec.specs.Reclaim.{Victim, victim, isNone, victimSegment, victimLive, idle, reclaimChecks, resetPlan, copyPlan, reclaimVerdict}
+use Rattle.spec.specs.Restart.{freeZones, restartStores, namesDrive, rewrites, restartChecks, restartPlan, restartVerdict}
+use Rattle.spec.specs.Segments.{segments, greatestSerial}
+use Rattle.spec.specs.Write.{opens, scarce, writeChecks, writePlan, writeVerdict}
+use Rattle.law_basic.specs.Geometry.{Ranged, ranged}
+use Rattle.law_basic.specs.Ranges.{Test, test, and-left}
+use Rattle.law_basic.specs.Ranges.Test.{yes!, no! }
 use Rattle.spec_demands.specs.Answering.{canStore, withCount, cutLeft}
 use Rattle.spec_demands.specs.Rules.{ObeyAll, ZoneRules}
-use Rattle.tablesay.specs.Accept.{Accepted, accepted-of}
-use Rattle.tablesay.specs.Checks.{Passes, Decided, decide}
-use Rattle.tablesay.specs.Checks.Decided.{stops, goes}
-use Rattle.tablesay.specs.Idle.{lengths-of, whole-of}
-use Rattle.tablesay.specs.Image.{sized-of}
-use Rattle.tablesay.specs.Range.{capacity-word}
-use Rattle.tablesay.specs.Reclaiming.{taken}
-use Rattle.tablesay.specs.Tests.{clash, or-left, or-right}
-use Rattle.tablesay.specs.Zones.{Sized}
-use Rattle.views.specs.Views.{Whole, seen}
+use Rattle.proof_tables.specs.Accept.{Accepted, accepted-of}
+use Rattle.proof_tables.specs.Checks.{Passes, Decided, decide}
+use Rattle.proof_tables.specs.Checks.Decided.{stops, goes}
+use Rattle.proof_tables.specs.Idle.{lengths-of, whole-of}
+use Rattle.proof_tables.specs.Image.{sized-of}
+use Rattle.proof_tables.specs.Range.{capacity-word}
+use Rattle.proof_tables.specs.Reclaiming.{taken}
+use Rattle.proof_tables.specs.Tests.{clash, or-left, or-right}
+use Rattle.proof_tables.specs.Zones.{Sized}
+use Rattle.law_views.specs.Views.{Whole, seen}
 use Rattle.proof_answers.specs.Answered.{dueOf, long, decidedBy, due-stores}
 use Rattle.proof_answers.specs.Lengths.{Fair, fair-of}
 use Rattle.proof_answers.specs.Rebuilt.{rebuild-able}

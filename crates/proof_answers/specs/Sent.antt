@@ -9,27 +9,27 @@ use borrow.Author.Tests.{eq-eqb, ne-eqb, eqb-true, leb-false, ltb-true, ltb-fals
 use native.Mathlib.Omega.{arith}
 use lib.Dec.{ltb, eqb}
 use lib.ListN.{length, getD, length-map, List·getD-eq-default}
-use Rattle.defs.specs.declared.Params.{Params}
-use Rattle.defs.specs.declared.State.{State}
-use Rattle.defs.specs.Drives.{Chunk, Zone, noZone, View, zoneAt, pointerAt, Store, storeView, segmentNumbers, zoneOn, emptyOnAll, emptyZones, zeroSpare, headerStores, footerStores, resetStores}
-use Rattle.defs.specs.Drives.Store.{put, reset}
-use Rattle.defs.specs.Landing.{slotOf, waiting, ready, seals, completes, flightRec, misplaced, overfull, entryFaults, landFaults, landStore, sealStores, landPlan}
-use Rattle.defs.specs.Layout.{group, headerBlock, recordBytes}
-use Rattle.defs.specs.Lists.{below, any, consIf, keep, isNil, flat, firstOr}
-use Rattle.defs.specs.Memory.{Memory, slotCount, entriesIn, openSegment, slotBlock, slotByte}
-use Rattle.defs.specs.Params.{between, footers, capacity, inflightLen, drivesOf}
-use Rattle.defs.specs.Write.{opens, scarce, sending}
-use Rattle.laws.specs.Geometry.{Ranged, between-low, between-high, slot-within}
-use Rattle.laws.specs.Ranges.{Test, test, and-left, and-right, and-both}
-use Rattle.laws.specs.Ranges.Test.{yes!, no! }
-use Rattle.laws.specs.Splice.{length-part}
-use Rattle.tablesay.specs.Laid.{length-record}
-use Rattle.tablesay.specs.Members.{In, flat-in, keep-in, all-in, none-in, flat-cong, in-below, below-in, first-in}
-use Rattle.tablesay.specs.Puts.{putAt, hits-resets, hits-headers}
-use Rattle.tablesay.specs.Range.{capacity-over}
-use Rattle.tablesay.specs.Sealing.{hits-each, footerChunks, footer-puts}
-use Rattle.tablesay.specs.Tests.{false-true, and-false-left, and-false-right, cond-true, cond-false, eqb-self}
-use Rattle.tablesay.specs.Zones.{Sized, hitsAt, zoneStore, hits, zone-stored}
+use Rattle.spec.specs.declared.Params.{Params}
+use Rattle.spec.specs.declared.State.{State}
+use Rattle.spec.specs.Drives.{Chunk, Zone, noZone, View, zoneAt, pointerAt, Store, storeView, segmentNumbers, zoneOn, emptyOnAll, emptyZones, zeroSpare, headerStores, footerStores, resetStores}
+use Rattle.spec.specs.Drives.Store.{put, reset}
+use Rattle.spec.specs.Landing.{slotOf, waiting, ready, seals, completes, flightRec, misplaced, overfull, entryFaults, landFaults, landStore, sealStores, landPlan}
+use Rattle.spec.specs.Layout.{group, headerBlock, recordBytes}
+use Rattle.spec.specs.Lists.{below, any, consIf, keep, isNil, flat, firstOr}
+use Rattle.spec.specs.Memory.{Memory, slotCount, entriesIn, openSegment, slotBlock, slotByte}
+use Rattle.spec.specs.Params.{between, footers, capacity, inflightLen, drivesOf}
+use Rattle.spec.specs.Write.{opens, scarce, sending}
+use Rattle.law_basic.specs.Geometry.{Ranged, between-low, between-high, slot-within}
+use Rattle.law_basic.specs.Ranges.{Test, test, and-left, and-right, and-both}
+use Rattle.law_basic.specs.Ranges.Test.{yes!, no! }
+use Rattle.law_basic.specs.Splice.{length-part}
+use Rattle.proof_tables.specs.Laid.{length-record}
+use Rattle.proof_tables.specs.Members.{In, flat-in, keep-in, all-in, none-in, flat-cong, in-below, below-in, first-in}
+use Rattle.proof_tables.specs.Puts.{putAt, hits-resets, hits-headers}
+use Rattle.proof_tables.specs.Range.{capacity-over}
+use Rattle.proof_tables.specs.Sealing.{hits-each, footerChunks, footer-puts}
+use Rattle.proof_tables.specs.Tests.{false-true, and-false-left, and-false-right, cond-true, cond-false, eqb-self}
+use Rattle.proof_tables.specs.Zones.{Sized, hitsAt, zoneStore, hits, zone-stored}
 use Rattle.proof_answers.specs.Lengths.{Fair, put-fair, headers-proper, resets-proper, footers-proper, footers-count}
 use Rattle.proof_answers.specs.Rising.{Rises, rises-few, Proper, Able, able-none}
 

@@ -8,37 +8,37 @@ use borrow.Author.Tests.{lt-leb, ne-eqb, leb-true}
 use native.Mathlib.Omega.{arith}
 use lib.Dec.{leb, eqb}
 use lib.ListN.{length}
-use Rattle.defs.specs.declared.Params.{Params}
-use Rattle.defs.specs.declared.Answer.{Answer}
-use Rattle.defs.specs.declared.Answer.the-variants.{Refused, BadZone, Filled, Rebuilt}
-use Rattle.defs.specs.Answers.{kind, values, isRefused, isCut}
-use Rattle.defs.specs.Calls.{Check, ninth, ruled, firstRefusal, Plan, mkPlan, Verdict, decided, outcome}
-use Rattle.defs.specs.Calls.Check.{rule, zones}
-use Rattle.defs.specs.Calls.Verdict.{refused, due}
-use Rattle.defs.specs.Closing.{closeChecks, closePlan, closeVerdict}
-use Rattle.defs.specs.Drives.{View, Disk, storeDisk}
-use Rattle.defs.specs.Engine.{Call, storeCount, lentBlock, verdict, callOn}
-use Rattle.defs.specs.Engine.Call.{write, land, close, reclaim, read, fill, restart, rebuild}
-use Rattle.defs.specs.Faults.{imageChecks}
-use Rattle.defs.specs.Landing.{landChecks, landPlan, landVerdict}
-use Rattle.defs.specs.Lists.{Opt, all, any, isMember, isNil, firstOr, least}
-use Rattle.defs.specs.Lists.Opt.{none, some}
-use Rattle.defs.specs.Memory.{Memory, stateFaults}
-use Rattle.defs.specs.Params.{named}
-use Rattle.defs.specs.Read.{Found, lookup, foundFaults, decodeFaults, readPiece, readAnswer, readChecks, readVerdict, fillVerdict}
-use Rattle.defs.specs.Read.Found.{nowhere, here, away}
-use Rattle.defs.specs.Rebuild.{rebuildChecks, rebuildStores, rebuildVerdict}
-use Rattle.defs.specs.Reclaim.{victim, victimSegment, victimLive, idle, reclaimChecks, resetPlan, copyPlan, reclaimVerdict}
-use Rattle.defs.specs.Restart.{restartChecks, restartPlan, restartVerdict}
-use Rattle.defs.specs.Segments.{segments}
-use Rattle.defs.specs.Write.{writeChecks, writePlan, writeVerdict}
-use Rattle.laws.specs.Ranges.{and-left, and-right, member-all}
-use Rattle.laws.specs.Stores.{refused-same, done-all}
+use Rattle.spec.specs.declared.Params.{Params}
+use Rattle.spec.specs.declared.Answer.{Answer}
+use Rattle.spec.specs.declared.Answer.the-variants.{Refused, BadZone, Filled, Rebuilt}
+use Rattle.spec.specs.Answers.{kind, values, isRefused, isCut}
+use Rattle.spec.specs.Calls.{Check, ninth, ruled, firstRefusal, Plan, mkPlan, Verdict, decided, outcome}
+use Rattle.spec.specs.Calls.Check.{rule, zones}
+use Rattle.spec.specs.Calls.Verdict.{refused, due}
+use Rattle.spec.specs.Closing.{closeChecks, closePlan, closeVerdict}
+use Rattle.spec.specs.Drives.{View, Disk, storeDisk}
+use Rattle.spec.specs.Engine.{Call, storeCount, lentBlock, verdict, callOn}
+use Rattle.spec.specs.Engine.Call.{write, land, close, reclaim, read, fill, restart, rebuild}
+use Rattle.spec.specs.Faults.{imageChecks}
+use Rattle.spec.specs.Landing.{landChecks, landPlan, landVerdict}
+use Rattle.spec.specs.Lists.{Opt, all, any, isMember, isNil, firstOr, least}
+use Rattle.spec.specs.Lists.Opt.{none, some}
+use Rattle.spec.specs.Memory.{Memory, stateFaults}
+use Rattle.spec.specs.Params.{named}
+use Rattle.spec.specs.Read.{Found, lookup, foundFaults, decodeFaults, readPiece, readAnswer, readChecks, readVerdict, fillVerdict}
+use Rattle.spec.specs.Read.Found.{nowhere, here, away}
+use Rattle.spec.specs.Rebuild.{rebuildChecks, rebuildStores, rebuildVerdict}
+use Rattle.spec.specs.Reclaim.{victim, victimSegment, victimLive, idle, reclaimChecks, resetPlan, copyPlan, reclaimVerdict}
+use Rattle.spec.specs.Restart.{restartChecks, restartPlan, restartVerdict}
+use Rattle.spec.specs.Segments.{segments}
+use Rattle.spec.specs.Write.{writeChecks, writePlan, writeVerdict}
+use Rattle.law_basic.specs.Ranges.{and-left, and-right, member-all}
+use Rattle.law_basic.specs.Stores.{refused-same, done-all}
 use Rattle.spec_demands.specs.Answering.{refusalsOf, resultsOf, canStore, refusalNumber, withCount}
-use Rattle.tablesay.specs.Checks.{Decided, decide}
-use Rattle.tablesay.specs.Checks.Decided.{stops, goes}
-use Rattle.tablesay.specs.Outcomes.{refusal-kind}
-use Rattle.views.specs.Views.{seen}
+use Rattle.proof_tables.specs.Checks.{Decided, decide}
+use Rattle.proof_tables.specs.Checks.Decided.{stops, goes}
+use Rattle.proof_tables.specs.Outcomes.{refusal-kind}
+use Rattle.law_views.specs.Views.{seen}
 
 -- ---- numbers of refusals
 

@@ -7,11 +7,11 @@ use native.Mathlib.Omega.{arith}
 use lib.Bits.{or-lt}
 use lib.Dec.{lit<}
 use lib.ListN.{getD, set, replicate, length-set, length-replicate}
-use Rattle.defs.specs.declared.State.{State}
-use Rattle.defs.specs.Lists.{only}
-use Rattle.defs.specs.Memory.{stateSections, cell, idleState, zeroState, filledIn, landedIn, setStamp, setOpen, setClosed, beginStripe, addEntry, landedMask, markLanded, freeStripe}
-use Rattle.laws.specs.Mask.{only-lt}
-use Rattle.tablesay.specs.Tables.{zero-at}
+use Rattle.spec.specs.declared.State.{State}
+use Rattle.spec.specs.Lists.{only}
+use Rattle.spec.specs.Memory.{stateSections, cell, idleState, zeroState, filledIn, landedIn, setStamp, setOpen, setClosed, beginStripe, addEntry, landedMask, markLanded, freeStripe}
+use Rattle.law_basic.specs.Mask.{only-lt}
+use Rattle.proof_tables.specs.Tables.{zero-at}
 use Rattle.proof_bytes.specs.Sections.{limit, limit-pos, Fill, Fits}
 
 -- ---- lists of numbers

@@ -9,31 +9,31 @@ use native.Mathlib.Decide.{decLt}
 use native.Mathlib.Omega.{arith}
 use lib.Dec.{eqb, lit<}
 use lib.ListN.{length, getD, replicate, List·getD-eq-default}
-use Rattle.defs.specs.declared.Params.{Params}
-use Rattle.defs.specs.declared.State.{State}
-use Rattle.defs.specs.Closing.{padded, closeChecks, closePlan}
-use Rattle.defs.specs.Counts.{paddingAddress, lastCount}
-use Rattle.defs.specs.Drives.{View, pointerAt, storeView, storeAll, segmentNumbers, emptyOnAll, emptyZones, zoneOn, recordAt}
-use Rattle.defs.specs.Landing.{slotOf, completes, seals, misplaced, overfull, entryFaults, landFaults, landChecks, landPlan}
-use Rattle.defs.specs.Layout.{group}
-use Rattle.defs.specs.Lists.{Opt, below, isNil, firstOr, consIf, flat}
-use Rattle.defs.specs.Memory.{Memory, stateSections, filledIn, freeSlot, fillingSlot, hasFilling, openSegment, entriesIn, stateFaults, setOpen, setClosed, beginStripe, addEntry, markLanded}
-use Rattle.defs.specs.Memory.{freeStripe}
-use Rattle.defs.specs.Params.{between, inRange, dataCount, named}
-use Rattle.defs.specs.Reclaim.{Victim, victimSegment, victimLive, reclaimChecks, tableFaults, resetPlan, copyPlan}
-use Rattle.defs.specs.Restart.{openOf, nextOf, restartMemory, restartStores, restartChecks, restartPlan}
-use Rattle.defs.specs.Segments.{remaining, Segment, segmentOf, segments, counts, counted, unsealed, candidates, greatestStamp, greatestSerial}
-use Rattle.defs.specs.Write.{opens, noStamp, noSerial, placed, openedBy, slotFor, begunBy, sending, writeChecks, writePlan}
-use Rattle.laws.specs.Geometry.{between-high, Ranged, ranged, addresses-all, data-count-high}
-use Rattle.laws.specs.Mask.{only-lt}
-use Rattle.laws.specs.Ranges.{Test, test, and-left, length-below, length-keep}
-use Rattle.laws.specs.Ranges.Test.{yes!, no! }
-use Rattle.plans.specs.Refusals.{state-free}
-use Rattle.tablesay.specs.Checks.{Passes}
-use Rattle.tablesay.specs.Idle.{StateOk, state-of}
-use Rattle.tablesay.specs.Members.{In, map-in, keep-in, below-in, first-in}
-use Rattle.tablesay.specs.Segs.{remaining-low, seg-is}
-use Rattle.tablesay.specs.Tests.{clash, or-left, or-right}
+use Rattle.spec.specs.declared.Params.{Params}
+use Rattle.spec.specs.declared.State.{State}
+use Rattle.spec.specs.Closing.{padded, closeChecks, closePlan}
+use Rattle.spec.specs.Counts.{paddingAddress, lastCount}
+use Rattle.spec.specs.Drives.{View, pointerAt, storeView, storeAll, segmentNumbers, emptyOnAll, emptyZones, zoneOn, recordAt}
+use Rattle.spec.specs.Landing.{slotOf, completes, seals, misplaced, overfull, entryFaults, landFaults, landChecks, landPlan}
+use Rattle.spec.specs.Layout.{group}
+use Rattle.spec.specs.Lists.{Opt, below, isNil, firstOr, consIf, flat}
+use Rattle.spec.specs.Memory.{Memory, stateSections, filledIn, freeSlot, fillingSlot, hasFilling, openSegment, entriesIn, stateFaults, setOpen, setClosed, beginStripe, addEntry, markLanded}
+use Rattle.spec.specs.Memory.{freeStripe}
+use Rattle.spec.specs.Params.{between, inRange, dataCount, named}
+use Rattle.spec.specs.Reclaim.{Victim, victimSegment, victimLive, reclaimChecks, tableFaults, resetPlan, copyPlan}
+use Rattle.spec.specs.Restart.{openOf, nextOf, restartMemory, restartStores, restartChecks, restartPlan}
+use Rattle.spec.specs.Segments.{remaining, Segment, segmentOf, segments, counts, counted, unsealed, candidates, greatestStamp, greatestSerial}
+use Rattle.spec.specs.Write.{opens, noStamp, noSerial, placed, openedBy, slotFor, begunBy, sending, writeChecks, writePlan}
+use Rattle.law_basic.specs.Geometry.{between-high, Ranged, ranged, addresses-all, data-count-high}
+use Rattle.law_basic.specs.Mask.{only-lt}
+use Rattle.law_basic.specs.Ranges.{Test, test, and-left, length-below, length-keep}
+use Rattle.law_basic.specs.Ranges.Test.{yes!, no! }
+use Rattle.law_calls.specs.Refusals.{state-free}
+use Rattle.proof_tables.specs.Checks.{Passes}
+use Rattle.proof_tables.specs.Idle.{StateOk, state-of}
+use Rattle.proof_tables.specs.Members.{In, map-in, keep-in, below-in, first-in}
+use Rattle.proof_tables.specs.Segs.{remaining-low, seg-is}
+use Rattle.proof_tables.specs.Tests.{clash, or-left, or-right}
 use Rattle.proof_bytes.specs.Sections.{limit, limit-pos, Fits}
 use Rattle.proof_bytes.specs.Changes.{low-set, set-le, fits-stamp, fits-open, fits-closed, fits-begin, fits-add, fits-mark, fits-free, fits-idle}
 use Rattle.proof_bytes.specs.Reads.{Reads, stamps-low, serials-low}

@@ -6,17 +6,17 @@ use mathlib.Core.Logic.{inl, inr, ⊎-elim}
 use Prim.Native.Nat.{ℕ, zero, suc, _+_, _*_}
 use lib.Bits.{xor-lt}
 use lib.ListN.{length, getD, take, drop, set}
-use Rattle.defs.specs.declared.Params.{Params}
-use Rattle.defs.specs.Bytes.{splice, xors, parity}
-use Rattle.defs.specs.Drives.{Chunk, mkChunk, noChunk, Zone, mkZone, noZone, View, zoneAt, chunkOf, zoneOf, driveOf, viewOf, Store, putZone, resetZone, setZone, storeView, Disk, storeDisk, storeAll}
-use Rattle.defs.specs.Drives.{pointerOf}
-use Rattle.defs.specs.Drives.Store.{put, reset}
-use Rattle.defs.specs.Lists.{flat, pieces, zipped}
-use Rattle.defs.specs.Params.{capacity, unitLen, zoneLen, driveLen, placeOf, placeByte}
-use Rattle.tablesay.specs.Image.{bytes-take, bytes-drop}
-use Rattle.tablesay.specs.Laid.{bytes-nil, bytes-append, bytes-zeros}
-use Rattle.tablesay.specs.Members.{In, map-in, flat-in, in-append}
-use Rattle.tablesay.specs.Zones.{Bytes}
+use Rattle.spec.specs.declared.Params.{Params}
+use Rattle.spec.specs.Bytes.{splice, xors, parity}
+use Rattle.spec.specs.Drives.{Chunk, mkChunk, noChunk, Zone, mkZone, noZone, View, zoneAt, chunkOf, zoneOf, driveOf, viewOf, Store, putZone, resetZone, setZone, storeView, Disk, storeDisk, storeAll}
+use Rattle.spec.specs.Drives.{pointerOf}
+use Rattle.spec.specs.Drives.Store.{put, reset}
+use Rattle.spec.specs.Lists.{flat, pieces, zipped}
+use Rattle.spec.specs.Params.{capacity, unitLen, zoneLen, driveLen, placeOf, placeByte}
+use Rattle.proof_tables.specs.Image.{bytes-take, bytes-drop}
+use Rattle.proof_tables.specs.Laid.{bytes-nil, bytes-append, bytes-zeros}
+use Rattle.proof_tables.specs.Members.{In, map-in, flat-in, in-append}
+use Rattle.proof_tables.specs.Zones.{Bytes}
 use Rattle.proof_bytes.specs.Reads.{Grounded}
 
 -- ---- lists of bytes

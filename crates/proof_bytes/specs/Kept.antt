@@ -6,37 +6,37 @@ use Prim.Native.Nat.{ℕ, suc}
 use borrow.Author.Tests.{lt-ltb}
 use lib.Dec.{leb, ltb, eqb}
 use lib.ListN.{length, take}
-use Rattle.defs.specs.declared.Params.{Params}
-use Rattle.defs.specs.declared.State.{State}
-use Rattle.defs.specs.declared.Answer.{Answer}
-use Rattle.defs.specs.declared.Answer.the-variants.{Cut}
-use Rattle.defs.specs.Answers.{isRefused, finished}
-use Rattle.defs.specs.Calls.{firstRefusal, Verdict, decided, After, mkAfter, cutMemory, limited, outcome}
-use Rattle.defs.specs.Calls.Verdict.{due}
-use Rattle.defs.specs.Demands.{areBytes}
-use Rattle.defs.specs.Drives.{View, Store, Disk, storeDisk, storeAll}
-use Rattle.defs.specs.Engine.{Call, storeCount, lentBlock, lentOk, callOn, callDisk, Lent, Left, lentDisk, lentMemory, lentAll, leftBy, callBytes}
-use Rattle.defs.specs.Engine.Call.{write, land, close, reclaim, read, fill, restart, rebuild}
-use Rattle.defs.specs.Lists.{all, firstOr}
-use Rattle.defs.specs.Memory.{Memory, mkMemory, stateLen}
-use Rattle.defs.specs.Params.{named}
-use Rattle.defs.specs.Read.{lookup}
-use Rattle.defs.specs.Reclaim.{victim, idle}
-use Rattle.defs.specs.Restart.{restartStores, restartChecks, restartPlan}
-use Rattle.defs.specs.Segments.{segments}
-use Rattle.laws.specs.Ranges.{and-left, and-right, and-both}
-use Rattle.laws.specs.Stores.{refused-same}
-use Rattle.views.specs.Views.{seen}
-use Rattle.hosts.specs.Hosts.{bytes-long}
-use Rattle.hosts.specs.Shorts.{write-keeps, land-keeps, close-keeps, reclaim-keeps, read-keeps, fill-keeps, restart-keeps, rebuild-keeps}
-use Rattle.runs.specs.Refusals.{Decides, decides}
-use Rattle.tablesay.specs.Checks.{Passes, Decided, decide}
-use Rattle.tablesay.specs.Checks.Decided.{stops, goes}
-use Rattle.tablesay.specs.Image.{bytes-of}
-use Rattle.tablesay.specs.Laid.{in-take}
-use Rattle.tablesay.specs.Outcomes.{refusal-kind, refused-unfinished, cut-unfinished}
-use Rattle.tablesay.specs.Tests.{clash}
-use Rattle.tablesay.specs.Zones.{Bytes}
+use Rattle.spec.specs.declared.Params.{Params}
+use Rattle.spec.specs.declared.State.{State}
+use Rattle.spec.specs.declared.Answer.{Answer}
+use Rattle.spec.specs.declared.Answer.the-variants.{Cut}
+use Rattle.spec.specs.Answers.{isRefused, finished}
+use Rattle.spec.specs.Calls.{firstRefusal, Verdict, decided, After, mkAfter, cutMemory, limited, outcome}
+use Rattle.spec.specs.Calls.Verdict.{due}
+use Rattle.spec.specs.Demands.{areBytes}
+use Rattle.spec.specs.Drives.{View, Store, Disk, storeDisk, storeAll}
+use Rattle.spec.specs.Engine.{Call, storeCount, lentBlock, lentOk, callOn, callDisk, Lent, Left, lentDisk, lentMemory, lentAll, leftBy, callBytes}
+use Rattle.spec.specs.Engine.Call.{write, land, close, reclaim, read, fill, restart, rebuild}
+use Rattle.spec.specs.Lists.{all, firstOr}
+use Rattle.spec.specs.Memory.{Memory, mkMemory, stateLen}
+use Rattle.spec.specs.Params.{named}
+use Rattle.spec.specs.Read.{lookup}
+use Rattle.spec.specs.Reclaim.{victim, idle}
+use Rattle.spec.specs.Restart.{restartStores, restartChecks, restartPlan}
+use Rattle.spec.specs.Segments.{segments}
+use Rattle.law_basic.specs.Ranges.{and-left, and-right, and-both}
+use Rattle.law_basic.specs.Stores.{refused-same}
+use Rattle.law_views.specs.Views.{seen}
+use Rattle.law_lent.specs.Hosts.{bytes-long}
+use Rattle.law_lent.specs.Shorts.{write-keeps, land-keeps, close-keeps, reclaim-keeps, read-keeps, fill-keeps, restart-keeps, rebuild-keeps}
+use Rattle.proof_crash_calls.specs.Refusals.{Decides, decides}
+use Rattle.proof_tables.specs.Checks.{Passes, Decided, decide}
+use Rattle.proof_tables.specs.Checks.Decided.{stops, goes}
+use Rattle.proof_tables.specs.Image.{bytes-of}
+use Rattle.proof_tables.specs.Laid.{in-take}
+use Rattle.proof_tables.specs.Outcomes.{refusal-kind, refused-unfinished, cut-unfinished}
+use Rattle.proof_tables.specs.Tests.{clash}
+use Rattle.proof_tables.specs.Zones.{Bytes}
 use Rattle.proof_bytes.specs.Sections.{Fits, fits-stateOf, bytes-stateBytes, length-stateBytes, stateOf-stateBytes}
 use Rattle.proof_bytes.specs.Changes.{fits-zero}
 use Rattle.proof_bytes.specs.Reads.{Reads, grounded-reads}

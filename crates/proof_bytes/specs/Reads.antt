@@ -9,24 +9,24 @@ use native.Mathlib.Omega.{arith}
 use lib.Dec.{lit<}
 use lib.ListN.{length, getD, drop, List·getD-eq-default}
 use lib.Seq.{getD-drop}
-use Rattle.defs.specs.declared.Params.{Params}
-use Rattle.defs.specs.Bytes.{part}
-use Rattle.defs.specs.Drives.{Chunk, noChunk, Zone, noZone, View, zoneAt, chunkAt, zoneOn, sealedIn, dataStored, blocksOf, recordIn}
-use Rattle.defs.specs.Layout.{dataDrive, headerSerial, Rec, mkRec, recordOf, footerRecord}
-use Rattle.defs.specs.Lists.{below, isIn}
-use Rattle.defs.specs.Params.{capacity, spareLen, perFooter, present}
-use Rattle.defs.specs.Parity.{parityRec}
-use Rattle.defs.specs.Rank.{Cand}
-use Rattle.defs.specs.Segments.{lowDrive, headerAt, remaining, Segment, recordsIn, segmentOf, segments, offsetOn, storedRec, recOf, candOf, candidates, greatestStamp, greatestSerial}
-use Rattle.laws.specs.Geometry.{data-drive-lt}
-use Rattle.laws.specs.Xor.{xorAll-lt}
-use Rattle.tablesay.specs.Bounds.{blocks-at}
-use Rattle.tablesay.specs.Counting.{greatest-low}
-use Rattle.tablesay.specs.Image.{bytes-part}
-use Rattle.tablesay.specs.Laid.{bytes-nil, serial-low, address-low, stamp-low}
-use Rattle.tablesay.specs.Members.{In, map-in, in-getD}
-use Rattle.tablesay.specs.Segs.{present-in, recs-on, serial-is, cand-at}
-use Rattle.tablesay.specs.Zones.{Bytes, Plain, ZoneOk, Shaped}
+use Rattle.spec.specs.declared.Params.{Params}
+use Rattle.spec.specs.Bytes.{part}
+use Rattle.spec.specs.Drives.{Chunk, noChunk, Zone, noZone, View, zoneAt, chunkAt, zoneOn, sealedIn, dataStored, blocksOf, recordIn}
+use Rattle.spec.specs.Layout.{dataDrive, headerSerial, Rec, mkRec, recordOf, footerRecord}
+use Rattle.spec.specs.Lists.{below, isIn}
+use Rattle.spec.specs.Params.{capacity, spareLen, perFooter, present}
+use Rattle.spec.specs.Parity.{parityRec}
+use Rattle.spec.specs.Rank.{Cand}
+use Rattle.spec.specs.Segments.{lowDrive, headerAt, remaining, Segment, recordsIn, segmentOf, segments, offsetOn, storedRec, recOf, candOf, candidates, greatestStamp, greatestSerial}
+use Rattle.law_basic.specs.Geometry.{data-drive-lt}
+use Rattle.law_basic.specs.Xor.{xorAll-lt}
+use Rattle.proof_tables.specs.Bounds.{blocks-at}
+use Rattle.proof_tables.specs.Counting.{greatest-low}
+use Rattle.proof_tables.specs.Image.{bytes-part}
+use Rattle.proof_tables.specs.Laid.{bytes-nil, serial-low, address-low, stamp-low}
+use Rattle.proof_tables.specs.Members.{In, map-in, in-getD}
+use Rattle.proof_tables.specs.Segs.{present-in, recs-on, serial-is, cand-at}
+use Rattle.proof_tables.specs.Zones.{Bytes, Plain, ZoneOk, Shaped}
 
 -- address and stamp are of 8 bytes
 abbrev pub LowRec : Rec → Type 0

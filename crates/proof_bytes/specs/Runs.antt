@@ -5,25 +5,25 @@ use mathlib.Core.Bool.{false}
 use mathlib.Core.Logic.{⊎-elim}
 use Prim.Native.Nat.{ℕ, _^_, _<_}
 use lib.Dec.{eqb}
-use Rattle.defs.specs.declared.Params.{Params}
-use Rattle.defs.specs.Drives.{View, Store, storeView, Disk, storeDisk, storeAll}
-use Rattle.defs.specs.Engine.{Call, lentOk}
-use Rattle.defs.specs.Engine.Call.{write, land, close, reclaim, read, fill, restart, rebuild}
-use Rattle.defs.specs.Lists.{flat}
-use Rattle.defs.specs.Memory.{Memory, stateSections, idleState}
-use Rattle.defs.specs.Params.{named}
-use Rattle.defs.specs.Restart.{dropStores, mendStores, restartStores, restartMemory, restartPlan}
-use Rattle.defs.specs.Segments.{segments, unsealed, candidates, greatestStamp, greatestSerial}
-use Rattle.laws.specs.Geometry.{Ranged, ranged}
-use Rattle.views.specs.Views.{Whole, seen}
-use Rattle.tablesay.specs.Checks.{Passes}
-use Rattle.tablesay.specs.Idle.{whole-of}
-use Rattle.tablesay.specs.Losing.{named-some}
-use Rattle.tablesay.specs.Restarting.{started}
-use Rattle.tablesay.specs.Run.{Lost, Well, Run}
-use Rattle.tablesay.specs.Starting.{memory-missing, startChecks, startPlan, begins}
-use Rattle.tablesay.specs.Tests.{cond-false}
-use Rattle.tablesay.specs.Zones.{Shaped}
+use Rattle.spec.specs.declared.Params.{Params}
+use Rattle.spec.specs.Drives.{View, Store, storeView, Disk, storeDisk, storeAll}
+use Rattle.spec.specs.Engine.{Call, lentOk}
+use Rattle.spec.specs.Engine.Call.{write, land, close, reclaim, read, fill, restart, rebuild}
+use Rattle.spec.specs.Lists.{flat}
+use Rattle.spec.specs.Memory.{Memory, stateSections, idleState}
+use Rattle.spec.specs.Params.{named}
+use Rattle.spec.specs.Restart.{dropStores, mendStores, restartStores, restartMemory, restartPlan}
+use Rattle.spec.specs.Segments.{segments, unsealed, candidates, greatestStamp, greatestSerial}
+use Rattle.law_basic.specs.Geometry.{Ranged, ranged}
+use Rattle.law_views.specs.Views.{Whole, seen}
+use Rattle.proof_tables.specs.Checks.{Passes}
+use Rattle.proof_tables.specs.Idle.{whole-of}
+use Rattle.proof_tables.specs.Losing.{named-some}
+use Rattle.proof_tables.specs.Restarting.{started}
+use Rattle.proof_tables.specs.Run.{Lost, Well, Run}
+use Rattle.proof_tables.specs.Starting.{memory-missing, startChecks, startPlan, begins}
+use Rattle.proof_tables.specs.Tests.{cond-false}
+use Rattle.proof_tables.specs.Zones.{Shaped}
 use Rattle.proof_bytes.specs.Sections.{Fits}
 use Rattle.proof_bytes.specs.Reads.{grounded-reads, shaped-grounded, stamps-low, serials-low}
 use Rattle.proof_bytes.specs.Fitted.{idle-fits}

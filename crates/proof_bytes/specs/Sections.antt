@@ -8,17 +8,17 @@ use native.Mathlib.Nat.{mod-lt, zero-add, add-comm, add-assoc, mul-comm, mul-zer
 use lib.Dec.{lit<}
 use lib.ListN.{length, getD, take, drop, replicate, length-append, length-map, length-take, List·getD-eq-default}
 use lib.Seq.{ext-getD}
-use Rattle.defs.specs.declared.State.{State}
-use Rattle.defs.specs.Bytes.{leOf, toLe, part}
-use Rattle.defs.specs.Lists.{upFrom, below, flat, total, zipped}
-use Rattle.defs.specs.Memory.{idleState, zeroState, Section, section, stateSections, sectionLen, sectionAt, stateLen, numbersAt, sectionOf, numberOf, stateNumbers, sectionBytes, stateBytes, stateOf}
-use Rattle.defs.specs.Memory.{mkState}
-use Rattle.laws.specs.Le.{length-toLe, leOf-toLe, leOf-lt}
-use Rattle.laws.specs.Ranges.{length-below, map-below-same, getD-map-below, length-flat}
-use Rattle.laws.specs.Splice.{part-all, part-append-left, part-append-right}
-use Rattle.tablesay.specs.Image.{bytes-part}
-use Rattle.tablesay.specs.Laid.{bytes-nil, bytes-append}
-use Rattle.tablesay.specs.Zones.{Bytes}
+use Rattle.spec.specs.declared.State.{State}
+use Rattle.spec.specs.Bytes.{leOf, toLe, part}
+use Rattle.spec.specs.Lists.{upFrom, below, flat, total, zipped}
+use Rattle.spec.specs.Memory.{idleState, zeroState, Section, section, stateSections, sectionLen, sectionAt, stateLen, numbersAt, sectionOf, numberOf, stateNumbers, sectionBytes, stateBytes, stateOf}
+use Rattle.spec.specs.Memory.{mkState}
+use Rattle.law_basic.specs.Le.{length-toLe, leOf-toLe, leOf-lt}
+use Rattle.law_basic.specs.Ranges.{length-below, map-below-same, getD-map-below, length-flat}
+use Rattle.law_basic.specs.Splice.{part-all, part-append-left, part-append-right}
+use Rattle.proof_tables.specs.Image.{bytes-part}
+use Rattle.proof_tables.specs.Laid.{bytes-nil, bytes-append}
+use Rattle.proof_tables.specs.Zones.{Bytes}
 
 -- ---- one section
 

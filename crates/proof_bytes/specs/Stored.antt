@@ -6,34 +6,34 @@ use mathlib.Core.Bool.{Bool, true, false, cond, not}
 use Prim.Native.Nat.{ℕ, zero, suc, _+_, _-_}
 use lib.Dec.{eqb}
 use lib.ListN.{getD, take, drop, replicate}
-use Rattle.defs.specs.declared.Params.{Params}
-use Rattle.defs.specs.declared.State.{State}
-use Rattle.defs.specs.declared.Answer.{Answer}
-use Rattle.defs.specs.declared.Answer.the-variants.{Rebuilt}
-use Rattle.defs.specs.Bytes.{parity}
-use Rattle.defs.specs.Calls.{Plan, mkPlan}
-use Rattle.defs.specs.Closing.{padded, closePlan}
-use Rattle.defs.specs.Counts.{paddingAddress}
-use Rattle.defs.specs.Drives.{Chunk, noChunk, Zone, noZone, View, zoneAt, chunkAt, storeView, zoneOn, sparesOf, footersOf, zeroSpare, headerStores, footerStores, resetStores, emptyZones}
-use Rattle.defs.specs.Drives.Store.{put, reset}
-use Rattle.defs.specs.Landing.{slotOf, seals, flightRec, sealStores, landStore, landPlan}
-use Rattle.defs.specs.Layout.{headerBlock, recordBytes, footerBlock, mkRec, dataPosition, isData, dataDrives}
-use Rattle.defs.specs.Lists.{upFrom, below, flat, firstOr, isIn, isNil, keep, Opt}
-use Rattle.defs.specs.Memory.{Memory, stripeIn, filledIn, openSegment, fillingSlot, isFull, shownAt, addEntry, slotByte, slotBlock, setSlotBlock, setSlotParity}
-use Rattle.defs.specs.Params.{dataCount, drivesOf, footers, named, present, placeBlock, placeZone, placeDrive}
-use Rattle.defs.specs.Parity.{Piece, mkPiece, parityPiece}
-use Rattle.defs.specs.Read.{Found, storedAt, decodedAt, readPiece}
-use Rattle.defs.specs.Read.Found.{nowhere, here, away}
-use Rattle.defs.specs.Rebuild.{rebuiltZone, rebuildStores}
-use Rattle.defs.specs.Reclaim.{Victim, victimSegment, victimLive, resetPlan, copyPlan}
-use Rattle.defs.specs.Restart.{freeZones, isWhole, isRagged, missingFooters, renumbered, movedPieces, movedOn, movedStripe, movedStripes, rewriteStores, dropStores, mendStores, restartStores}
-use Rattle.defs.specs.Restart.{restartMemory, restartPlan}
-use Rattle.defs.specs.Segments.{remaining, Segment, segmentOf, segments, counted, offsetOn, storedPiece, pieceOf, putPiece, greatestSerial, unsealed}
-use Rattle.defs.specs.Write.{placed, slotFor, opens, openedBy, begunBy, sending, writePlan}
-use Rattle.tablesay.specs.Image.{bytes-part}
-use Rattle.tablesay.specs.Laid.{bytes-nil, bytes-zeros, bytes-header, bytes-zeroSpare, bytes-record, bytes-footer, in-take, in-drop}
-use Rattle.tablesay.specs.Members.{In, map-in, getD-in, keep-in}
-use Rattle.tablesay.specs.Zones.{Bytes}
+use Rattle.spec.specs.declared.Params.{Params}
+use Rattle.spec.specs.declared.State.{State}
+use Rattle.spec.specs.declared.Answer.{Answer}
+use Rattle.spec.specs.declared.Answer.the-variants.{Rebuilt}
+use Rattle.spec.specs.Bytes.{parity}
+use Rattle.spec.specs.Calls.{Plan, mkPlan}
+use Rattle.spec.specs.Closing.{padded, closePlan}
+use Rattle.spec.specs.Counts.{paddingAddress}
+use Rattle.spec.specs.Drives.{Chunk, noChunk, Zone, noZone, View, zoneAt, chunkAt, storeView, zoneOn, sparesOf, footersOf, zeroSpare, headerStores, footerStores, resetStores, emptyZones}
+use Rattle.spec.specs.Drives.Store.{put, reset}
+use Rattle.spec.specs.Landing.{slotOf, seals, flightRec, sealStores, landStore, landPlan}
+use Rattle.spec.specs.Layout.{headerBlock, recordBytes, footerBlock, mkRec, dataPosition, isData, dataDrives}
+use Rattle.spec.specs.Lists.{upFrom, below, flat, firstOr, isIn, isNil, keep, Opt}
+use Rattle.spec.specs.Memory.{Memory, stripeIn, filledIn, openSegment, fillingSlot, isFull, shownAt, addEntry, slotByte, slotBlock, setSlotBlock, setSlotParity}
+use Rattle.spec.specs.Params.{dataCount, drivesOf, footers, named, present, placeBlock, placeZone, placeDrive}
+use Rattle.spec.specs.Parity.{Piece, mkPiece, parityPiece}
+use Rattle.spec.specs.Read.{Found, storedAt, decodedAt, readPiece}
+use Rattle.spec.specs.Read.Found.{nowhere, here, away}
+use Rattle.spec.specs.Rebuild.{rebuiltZone, rebuildStores}
+use Rattle.spec.specs.Reclaim.{Victim, victimSegment, victimLive, resetPlan, copyPlan}
+use Rattle.spec.specs.Restart.{freeZones, isWhole, isRagged, missingFooters, renumbered, movedPieces, movedOn, movedStripe, movedStripes, rewriteStores, dropStores, mendStores, restartStores}
+use Rattle.spec.specs.Restart.{restartMemory, restartPlan}
+use Rattle.spec.specs.Segments.{remaining, Segment, segmentOf, segments, counted, offsetOn, storedPiece, pieceOf, putPiece, greatestSerial, unsealed}
+use Rattle.spec.specs.Write.{placed, slotFor, opens, openedBy, begunBy, sending, writePlan}
+use Rattle.proof_tables.specs.Image.{bytes-part}
+use Rattle.proof_tables.specs.Laid.{bytes-nil, bytes-zeros, bytes-header, bytes-zeroSpare, bytes-record, bytes-footer, in-take, in-drop}
+use Rattle.proof_tables.specs.Members.{In, map-in, getD-in, keep-in}
+use Rattle.proof_tables.specs.Zones.{Bytes}
 use Rattle.proof_bytes.specs.Images.{bytes-splice, bytes-parity, get-map, ZoneBytes, ViewBytes, no-zone-bytes, StoreBytes, StoresBytes, store-view, stores-none, stores-cons, stores-append}
 use Rattle.proof_bytes.specs.Images.{stores-cond, stores-map, stores-flat}
 

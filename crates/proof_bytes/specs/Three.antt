@@ -7,38 +7,38 @@ use borrow.Author.Tests.{eq-eqb, ne-eqb}
 use native.Mathlib.Decide.{ℕ-discrete}
 use lib.Dec.{ltb, eqb}
 use lib.ListN.{length, replicate, length-replicate}
-use Rattle.defs.specs.declared.Params.{Params}
-use Rattle.defs.specs.declared.State.{State}
-use Rattle.defs.specs.declared.Answer.{Answer}
-use Rattle.defs.specs.Answers.{kind, isRefused, isRefusedAs, finished}
-use Rattle.defs.specs.Bytes.{splice}
-use Rattle.defs.specs.Calls.{After}
-use Rattle.defs.specs.Demands.{areBytes, ReadOk, SameAs, RestartOk, ClaimOf, Allowed, Claims}
-use Rattle.defs.specs.Drives.{Disk, mkDisk, pointerByte}
-use Rattle.defs.specs.Engine.{Call, lentBlock, lentOk, callDisk, Lent, Left, lentDisk, lentMemory, callBytes}
-use Rattle.defs.specs.Engine.Call.{read, fill, restart}
-use Rattle.defs.specs.History.{World, mkWorld, Event, callOf, restartOf, inOrder, swapped, before, happens, onlyIf, orderly, restartIn, worldAfter, sentAfter, untrustedAfter, Mark, Hist, marked, step}
-use Rattle.defs.specs.History.{began, namesAll, allowed, seenFilled, seenAt}
-use Rattle.defs.specs.History.Event.{calls as calls′, boots as boots′}
-use Rattle.defs.specs.History.Seen.{unwritten, got, failed}
-use Rattle.defs.specs.Lists.{Opt, consIf}
-use Rattle.defs.specs.Lists.Opt.{none, some}
-use Rattle.defs.specs.Memory.{mkMemory, stateLen}
-use Rattle.defs.specs.Params.{inRange, driveLen, addressesLen, compactLen, inflightLen, named}
-use Rattle.defs.specs.Restart.{namesDrive}
-use Rattle.laws.specs.Ranges.{and-left, and-right, and-both}
-use Rattle.demand3.specs.Demand.{demand-3}
-use Rattle.hosts.specs.Shorts.{short-refused}
-use Rattle.runs.specs.Join.{sent-refused}
+use Rattle.spec.specs.declared.Params.{Params}
+use Rattle.spec.specs.declared.State.{State}
+use Rattle.spec.specs.declared.Answer.{Answer}
+use Rattle.spec.specs.Answers.{kind, isRefused, isRefusedAs, finished}
+use Rattle.spec.specs.Bytes.{splice}
+use Rattle.spec.specs.Calls.{After}
+use Rattle.spec.specs.Demands.{areBytes, ReadOk, SameAs, RestartOk, ClaimOf, Allowed, Claims}
+use Rattle.spec.specs.Drives.{Disk, mkDisk, pointerByte}
+use Rattle.spec.specs.Engine.{Call, lentBlock, lentOk, callDisk, Lent, Left, lentDisk, lentMemory, callBytes}
+use Rattle.spec.specs.Engine.Call.{read, fill, restart}
+use Rattle.spec.specs.History.{World, mkWorld, Event, callOf, restartOf, inOrder, swapped, before, happens, onlyIf, orderly, restartIn, worldAfter, sentAfter, untrustedAfter, Mark, Hist, marked, step}
+use Rattle.spec.specs.History.{began, namesAll, allowed, seenFilled, seenAt}
+use Rattle.spec.specs.History.Event.{calls as calls′, boots as boots′}
+use Rattle.spec.specs.History.Seen.{unwritten, got, failed}
+use Rattle.spec.specs.Lists.{Opt, consIf}
+use Rattle.spec.specs.Lists.Opt.{none, some}
+use Rattle.spec.specs.Memory.{mkMemory, stateLen}
+use Rattle.spec.specs.Params.{inRange, driveLen, addressesLen, compactLen, inflightLen, named}
+use Rattle.spec.specs.Restart.{namesDrive}
+use Rattle.law_basic.specs.Ranges.{and-left, and-right, and-both}
+use Rattle.proof_crash.specs.Demand.{demand-3}
+use Rattle.law_lent.specs.Shorts.{short-refused}
+use Rattle.proof_crash_calls.specs.Join.{sent-refused}
 use Rattle.spec_demands.specs.Engines.{onBytes, callLent, readsAs}
 use Rattle.spec_demands.specs.Histories.{LentEvent, lentCall, withDisk, lentInOrder, lentBefore, lentHappens, lentOrderly, lentRestart, lentAfter, LentMark, LentHist, lentMarked, lentStep, lentBegan}
 use Rattle.spec_demands.specs.Histories.{lentBytes, eventBytes, lentAllowed, LentAllowed, LentSame, LentClaim, LentClaims, Demand3}
 use Rattle.spec_demands.specs.Histories.LentEvent.{calls, boots}
-use Rattle.tablesay.specs.Image.{bytes-of}
-use Rattle.tablesay.specs.Laid.{bytes-nil, bytes-zeros}
-use Rattle.tablesay.specs.Outcomes.{refused-unfinished}
-use Rattle.tablesay.specs.Tests.{cond-true, cond-false}
-use Rattle.tablesay.specs.Zones.{Bytes}
+use Rattle.proof_tables.specs.Image.{bytes-of}
+use Rattle.proof_tables.specs.Laid.{bytes-nil, bytes-zeros}
+use Rattle.proof_tables.specs.Outcomes.{refused-unfinished}
+use Rattle.proof_tables.specs.Tests.{cond-true, cond-false}
+use Rattle.proof_tables.specs.Zones.{Bytes}
 use Rattle.proof_bytes.specs.Sections.{Fits, stateOf-zeros}
 use Rattle.proof_bytes.specs.Images.{bytes-splice}
 use Rattle.proof_bytes.specs.Kept.{LentBytes, call-fits, call-bytes, decoded, state-long, simulates-bytes}

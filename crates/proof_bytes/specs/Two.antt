@@ -6,30 +6,30 @@ use Prim.Native.Nat.{ℕ}
 use native.Mathlib.Decide.{ℕ-discrete}
 use lib.Dec.{eqb}
 use lib.ListN.{length, replicate}
-use Rattle.defs.specs.declared.Params.{Params}
-use Rattle.defs.specs.Answers.{kind, values, isRefused, isRefusedAs, isCut, finished}
-use Rattle.defs.specs.Calls.{After}
-use Rattle.defs.specs.Demands.{NotNinth}
-use Rattle.defs.specs.Drives.{Disk}
-use Rattle.defs.specs.Engine.{Call, lentOk, callOn, callDisk, Lent, Left, lentDisk, lentMemory, callBytes}
-use Rattle.defs.specs.Engine.Call.{write, land, close, reclaim, read, fill, restart, rebuild}
-use Rattle.defs.specs.History.{World, mkWorld, restartOf}
-use Rattle.defs.specs.History.Seen.{unwritten, got, failed}
-use Rattle.defs.specs.Memory.{stateLen}
-use Rattle.defs.specs.Params.{inRange, noDrive, named}
-use Rattle.defs.specs.Restart.{namesDrive}
-use Rattle.defs.specs.Segments.{Segment, segments}
-use Rattle.views.specs.Views.{Whole, seen}
-use Rattle.hosts.specs.Hosts.{bytes-short}
-use Rattle.hosts.specs.Shorts.{shortAnswer, short-refused, restart-short}
+use Rattle.spec.specs.declared.Params.{Params}
+use Rattle.spec.specs.Answers.{kind, values, isRefused, isRefusedAs, isCut, finished}
+use Rattle.spec.specs.Calls.{After}
+use Rattle.spec.specs.Demands.{NotNinth}
+use Rattle.spec.specs.Drives.{Disk}
+use Rattle.spec.specs.Engine.{Call, lentOk, callOn, callDisk, Lent, Left, lentDisk, lentMemory, callBytes}
+use Rattle.spec.specs.Engine.Call.{write, land, close, reclaim, read, fill, restart, rebuild}
+use Rattle.spec.specs.History.{World, mkWorld, restartOf}
+use Rattle.spec.specs.History.Seen.{unwritten, got, failed}
+use Rattle.spec.specs.Memory.{stateLen}
+use Rattle.spec.specs.Params.{inRange, noDrive, named}
+use Rattle.spec.specs.Restart.{namesDrive}
+use Rattle.spec.specs.Segments.{Segment, segments}
+use Rattle.law_views.specs.Views.{Whole, seen}
+use Rattle.law_lent.specs.Hosts.{bytes-short}
+use Rattle.law_lent.specs.Shorts.{shortAnswer, short-refused, restart-short}
 use Rattle.spec_demands.specs.Engines.{Reply, onValues, onBytes, callWorld, callLent, viewIn, readsAs}
 use Rattle.spec_demands.specs.Tables.{Pending, pendingAfter, foundAfter, Says, openIn, landingStores, Lands, Restarts, Rebuilds, CallSays, SaysOn, AfterRestart}
-use Rattle.tablesay.specs.Image.{bytes-of, shaped-of}
-use Rattle.tablesay.specs.Outcomes.{refused-unfinished}
-use Rattle.tablesay.specs.Run.{Run}
-use Rattle.tablesay.specs.Tests.{clash}
-use Rattle.tablesay.specs.Theorem.{restart-finished, stepped}
-use Rattle.tablesay.specs.Zones.{Shaped}
+use Rattle.proof_tables.specs.Image.{bytes-of, shaped-of}
+use Rattle.proof_tables.specs.Outcomes.{refused-unfinished}
+use Rattle.proof_tables.specs.Run.{Run}
+use Rattle.proof_tables.specs.Tests.{clash}
+use Rattle.proof_tables.specs.Theorem.{restart-finished, stepped}
+use Rattle.proof_tables.specs.Zones.{Shaped}
 use Rattle.proof_bytes.specs.Sections.{Fits}
 use Rattle.proof_bytes.specs.Reads.{grounded-reads, shaped-grounded}
 use Rattle.proof_bytes.specs.Kept.{on-fits, finished-fits, answer-same, simulates, state-long}

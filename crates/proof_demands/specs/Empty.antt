@@ -8,38 +8,38 @@ use native.Mathlib.Decide.{ℕ-discrete}
 use native.Mathlib.Omega.{arith}
 use lib.Dec.{ltb, eqb}
 use lib.ListN.{length}
-use Rattle.defs.specs.declared.Params.{Params}
-use Rattle.defs.specs.declared.Answer.{Answer}
-use Rattle.defs.specs.Answers.{kind, isRefused}
-use Rattle.defs.specs.Calls.{Check, After}
-use Rattle.defs.specs.Calls.Check.{rule}
-use Rattle.defs.specs.Counts.{lastCount}
-use Rattle.defs.specs.Lists.Opt.{none, some}
-use Rattle.defs.specs.Drives.{View, pointerAt, Disk, zoneOn, segmentNumbers}
-use Rattle.defs.specs.Engine.{lentOk, callDisk, Lent, Left, lentDisk, lentMemory, leftBy, callBytes}
-use Rattle.defs.specs.Engine.Call.{restart}
-use Rattle.defs.specs.Faults.{pointerFaults, segmentFault, segmentFaults, imageChecks}
-use Rattle.defs.specs.History.{emptyDisk}
-use Rattle.defs.specs.Lists.{below, all, any, keep, isNil, isIn}
-use Rattle.defs.specs.Memory.{Memory, stateLen}
-use Rattle.defs.specs.Params.{inRange, capacity, named, present}
-use Rattle.defs.specs.Restart.{freeZones, isRagged, namesDrive, rewrites, restartChecks, restartPlan}
-use Rattle.defs.specs.Segments.{lowDrive, leftBy1, isCopy, remaining, Segment, segmentOf, segments, greatestSerial, unsealed}
-use Rattle.laws.specs.Geometry.{Ranged, ranged}
-use Rattle.laws.specs.Ranges.{and-left, and-right}
-use Rattle.views.specs.Views.{seen}
-use Rattle.hosts.specs.Hosts.{bytes-long}
+use Rattle.spec.specs.declared.Params.{Params}
+use Rattle.spec.specs.declared.Answer.{Answer}
+use Rattle.spec.specs.Answers.{kind, isRefused}
+use Rattle.spec.specs.Calls.{Check, After}
+use Rattle.spec.specs.Calls.Check.{rule}
+use Rattle.spec.specs.Counts.{lastCount}
+use Rattle.spec.specs.Lists.Opt.{none, some}
+use Rattle.spec.specs.Drives.{View, pointerAt, Disk, zoneOn, segmentNumbers}
+use Rattle.spec.specs.Engine.{lentOk, callDisk, Lent, Left, lentDisk, lentMemory, leftBy, callBytes}
+use Rattle.spec.specs.Engine.Call.{restart}
+use Rattle.spec.specs.Faults.{pointerFaults, segmentFault, segmentFaults, imageChecks}
+use Rattle.spec.specs.History.{emptyDisk}
+use Rattle.spec.specs.Lists.{below, all, any, keep, isNil, isIn}
+use Rattle.spec.specs.Memory.{Memory, stateLen}
+use Rattle.spec.specs.Params.{inRange, capacity, named, present}
+use Rattle.spec.specs.Restart.{freeZones, isRagged, namesDrive, rewrites, restartChecks, restartPlan}
+use Rattle.spec.specs.Segments.{lowDrive, leftBy1, isCopy, remaining, Segment, segmentOf, segments, greatestSerial, unsealed}
+use Rattle.law_basic.specs.Geometry.{Ranged, ranged}
+use Rattle.law_basic.specs.Ranges.{and-left, and-right}
+use Rattle.law_views.specs.Views.{seen}
+use Rattle.law_lent.specs.Hosts.{bytes-long}
 use Rattle.spec_demands.specs.Histories.{lentInOrder}
-use Rattle.bridge.specs.Named.{is-named}
-use Rattle.bridge.specs.Start.{empty-pointer}
-use Rattle.tablesay.specs.Accept.{checks-of}
-use Rattle.tablesay.specs.Checks.{Passes, passed}
-use Rattle.tablesay.specs.Members.{keep-nothing, in-none, below-in, all-in}
-use Rattle.tablesay.specs.Outcomes.{Ended}
-use Rattle.tablesay.specs.Outcomes.Ended.{ended-refused, ended-done, ended-cut}
-use Rattle.tablesay.specs.Starting.{startChecks, startPlan}
-use Rattle.tablesay.specs.Theorem.{restart-ends}
-use Rattle.tablesay.specs.Segs.{in-present, present-in}
+use Rattle.proof_crash_items.specs.Named.{is-named}
+use Rattle.proof_crash_items.specs.Start.{empty-pointer}
+use Rattle.proof_tables.specs.Accept.{checks-of}
+use Rattle.proof_tables.specs.Checks.{Passes, passed}
+use Rattle.proof_tables.specs.Members.{keep-nothing, in-none, below-in, all-in}
+use Rattle.proof_tables.specs.Outcomes.{Ended}
+use Rattle.proof_tables.specs.Outcomes.Ended.{ended-refused, ended-done, ended-cut}
+use Rattle.proof_tables.specs.Starting.{startChecks, startPlan}
+use Rattle.proof_tables.specs.Theorem.{restart-ends}
+use Rattle.proof_tables.specs.Segs.{in-present, present-in}
 
 module _ (p : Params) (rg : inRange p ≡ true) (k : Disk) (e : emptyDisk p k ≡ true) (d : ℕ) where
   abbrev r : Ranged p

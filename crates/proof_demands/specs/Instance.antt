@@ -6,23 +6,23 @@ use Prim.Native.Nat.{ℕ}
 use native.Mathlib.Omega.{arith}
 use lib.Dec.{eqb}
 use lib.ListN.{length}
-use Rattle.defs.specs.declared.Params.{Params}
-use Rattle.defs.specs.declared.Answer.{Answer}
-use Rattle.defs.specs.Answers.{kind, isRefused, isCut, finished}
-use Rattle.defs.specs.Demands.{areBytes}
-use Rattle.defs.specs.Engine.{Call, Lent, lentDisk, callBytes}
-use Rattle.defs.specs.Engine.Call.{restart}
-use Rattle.defs.specs.History.{emptyDisk}
-use Rattle.defs.specs.Lists.{any, isMember}
-use Rattle.defs.specs.Params.{named}
-use Rattle.defs.specs.Segments.{segments}
+use Rattle.spec.specs.declared.Params.{Params}
+use Rattle.spec.specs.declared.Answer.{Answer}
+use Rattle.spec.specs.Answers.{kind, isRefused, isCut, finished}
+use Rattle.spec.specs.Demands.{areBytes}
+use Rattle.spec.specs.Engine.{Call, Lent, lentDisk, callBytes}
+use Rattle.spec.specs.Engine.Call.{restart}
+use Rattle.spec.specs.History.{emptyDisk}
+use Rattle.spec.specs.Lists.{any, isMember}
+use Rattle.spec.specs.Params.{named}
+use Rattle.spec.specs.Segments.{segments}
 use Rattle.spec_demands.specs.Answering.{resultsOf, Answers, withCount}
 use Rattle.spec_demands.specs.Answering.Answers.{result, cut, refusal}
 use Rattle.spec_demands.specs.Engines.{callLent, onBytes, viewIn}
 use Rattle.spec_demands.specs.Histories.{lentInOrder}
 use Rattle.spec_demands.specs.Tables.{SaysOn}
 use Rattle.proof_answers.specs.Answered.{demand-1}
-use Rattle.tablesay.specs.Tests.{clash}
+use Rattle.proof_tables.specs.Tests.{clash}
 use Rattle.proof_demands.specs.Demand.{demand-2}
 use Rattle.proof_demands.specs.Empty.{accepts-empty}
 

@@ -2,15 +2,15 @@
 use mathlib.Core.Path.{_≡_}
 use mathlib.Core.List.{List, [], _∷_}
 use mathlib.Core.Bool.{false}
-use Rattle.defs.specs.declared.Params.{Params}
-use Rattle.defs.specs.Answers.{isCut}
-use Rattle.defs.specs.Drives.{Disk}
-use Rattle.defs.specs.Engine.{Call, callDisk}
-use Rattle.defs.specs.Engine.Call.{write, land, close, reclaim, read, fill, restart, rebuild}
-use Rattle.defs.specs.History.{mkWorld, seenFilled, seenAt}
-use Rattle.defs.specs.Memory.{Memory}
-use Rattle.defs.specs.Params.{named}
-use Rattle.defs.specs.Segments.{Segment, segments}
+use Rattle.spec.specs.declared.Params.{Params}
+use Rattle.spec.specs.Answers.{isCut}
+use Rattle.spec.specs.Drives.{Disk}
+use Rattle.spec.specs.Engine.{Call, callDisk}
+use Rattle.spec.specs.Engine.Call.{write, land, close, reclaim, read, fill, restart, rebuild}
+use Rattle.spec.specs.History.{mkWorld, seenFilled, seenAt}
+use Rattle.spec.specs.Memory.{Memory}
+use Rattle.spec.specs.Params.{named}
+use Rattle.spec.specs.Segments.{Segment, segments}
 use Rattle.proof_flights.specs.Flown.{Flown}
 use Rattle.proof_flights.specs.Idled.{flown-read, flown-fill}
 use Rattle.proof_flights.specs.LandedCall.{flown-land, lands-say}
@@ -22,12 +22,12 @@ use Rattle.proof_rebuilt.specs.Theorem.{rebuilds-say}
 use Rattle.spec_demands.specs.Engines.{callWorld, onValues, viewIn, readsAs}
 use Rattle.spec_demands.specs.Layouts.{Layout}
 use Rattle.spec_demands.specs.Tables.{Pending, pendingAfter, foundAfter, Says, CallSays, SaysOn, AfterRestart}
-use Rattle.tablesay.specs.Image.{bytes-of, shaped-of}
-use Rattle.tablesay.specs.Reading.{says}
-use Rattle.tablesay.specs.Run.{Run}
-use Rattle.tablesay.specs.Theorem.{restart-finished, stepped}
-use Rattle.tablesay.specs.Zones.{Shaped}
-use Rattle.views.specs.Views.{Whole, seen}
+use Rattle.proof_tables.specs.Image.{bytes-of, shaped-of}
+use Rattle.proof_tables.specs.Reading.{says}
+use Rattle.proof_tables.specs.Run.{Run}
+use Rattle.proof_tables.specs.Theorem.{restart-finished, stepped}
+use Rattle.proof_tables.specs.Zones.{Shaped}
+use Rattle.law_views.specs.Views.{Whole, seen}
 use Rattle.proof_layout.specs.Calls.{Keeps, laid-write, laid-close, laid-read, laid-fill, laid-reclaim, laid-land, laid-rebuild}
 use Rattle.proof_layout.specs.Laid.{Laid, layout-of}
 use Rattle.proof_layout.specs.Restarts.{restarts-say, laid-first, laid-again}

@@ -11,30 +11,30 @@ use borrow.Author.Tests.{lt-leb, ne-eqb, leb-true}
 use lib.Bits.{bitOr, or-zero-r}
 use lib.Dec.{leb, ltb, eqb}
 use lib.ListN.{length, getD}
-use Rattle.defs.specs.declared.Params.{Params}
-use Rattle.defs.specs.declared.State.{State}
-use Rattle.defs.specs.Bytes.{parity}
-use Rattle.defs.specs.Drives.{mkChunk, View, chunkAt, zoneOn}
-use Rattle.defs.specs.Landing.{flightRec}
-use Rattle.defs.specs.Layout.{parityDrive, dataDrive, dataPosition, isData, dataDrives, Rec, recordBytes}
-use Rattle.defs.specs.Lists.{below, consIf, keep, only, isIn}
-use Rattle.defs.specs.Memory.{stripeIn, filledIn, landedIn, isWrite, entryIn, entriesIn, offsetIn, openSegment, isFull, addEntry, slotBlock}
-use Rattle.defs.specs.Params.{dataCount, inflightLen}
-use Rattle.defs.specs.Parity.{parityRec}
-use Rattle.defs.specs.Write.{placed}
-use Rattle.laws.specs.Geometry.{Ranged, data-count-high, parity-drive-lt, position-drive, data-drive-lt, data-not-parity}
-use Rattle.laws.specs.Mask.{isIn-with}
-use Rattle.laws.specs.Ranges.{Test, test, map-append, keep-append, keep-below-same, keep-below-snoc}
-use Rattle.laws.specs.Ranges.Test.{yes!, no! }
-use Rattle.runs.specs.Cells.{SameSlot, add-entry, add-entry-old}
-use Rattle.runs.specs.Placed.{data-drive-once, placed-here, placed-other, placed-parity}
-use Rattle.runs.specs.Rel.{Long}
-use Rattle.runs.specs.Slots.{data-blocks-same}
+use Rattle.spec.specs.declared.Params.{Params}
+use Rattle.spec.specs.declared.State.{State}
+use Rattle.spec.specs.Bytes.{parity}
+use Rattle.spec.specs.Drives.{mkChunk, View, chunkAt, zoneOn}
+use Rattle.spec.specs.Landing.{flightRec}
+use Rattle.spec.specs.Layout.{parityDrive, dataDrive, dataPosition, isData, dataDrives, Rec, recordBytes}
+use Rattle.spec.specs.Lists.{below, consIf, keep, only, isIn}
+use Rattle.spec.specs.Memory.{stripeIn, filledIn, landedIn, isWrite, entryIn, entriesIn, offsetIn, openSegment, isFull, addEntry, slotBlock}
+use Rattle.spec.specs.Params.{dataCount, inflightLen}
+use Rattle.spec.specs.Parity.{parityRec}
+use Rattle.spec.specs.Write.{placed}
+use Rattle.law_basic.specs.Geometry.{Ranged, data-count-high, parity-drive-lt, position-drive, data-drive-lt, data-not-parity}
+use Rattle.law_basic.specs.Mask.{isIn-with}
+use Rattle.law_basic.specs.Ranges.{Test, test, map-append, keep-append, keep-below-same, keep-below-snoc}
+use Rattle.law_basic.specs.Ranges.Test.{yes!, no! }
+use Rattle.proof_crash_calls.specs.Cells.{SameSlot, add-entry, add-entry-old}
+use Rattle.proof_crash_calls.specs.Placed.{data-drive-once, placed-here, placed-other, placed-parity}
+use Rattle.proof_crash_calls.specs.Rel.{Long}
+use Rattle.proof_crash_calls.specs.Slots.{data-blocks-same}
 use Rattle.spec_demands.specs.Tables.{Pending}
-use Rattle.tablesay.specs.Members.{keep-in, map-cong, below-in}
-use Rattle.tablesay.specs.Run.{Lists}
-use Rattle.tablesay.specs.Slots.{add-filled, add-writes}
-use Rattle.tablesay.specs.Tests.{clash, cond-true, cond-false, not-so, eqb-self}
+use Rattle.proof_tables.specs.Members.{keep-in, map-cong, below-in}
+use Rattle.proof_tables.specs.Run.{Lists}
+use Rattle.proof_tables.specs.Slots.{add-filled, add-writes}
+use Rattle.proof_tables.specs.Tests.{clash, cond-true, cond-false, not-so, eqb-self}
 use Rattle.proof_flights.specs.Flown.{sentOf}
 
 -- a block that fills the next position of eighth i, as one that waits

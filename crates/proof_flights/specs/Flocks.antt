@@ -10,24 +10,24 @@ use borrow.Author.Tests.{lt-leb, eq-eqb, ne-eqb, eqb-true}
 use lib.Dec.{eqb}
 use lib.ListN.{length, getD, length-append, List·getD-append}
 use lib.Seq.{getD-append-seam}
-use Rattle.defs.specs.declared.Params.{Params}
-use Rattle.defs.specs.declared.State.{State}
-use Rattle.defs.specs.Drives.{View, chunkAt, zoneOn}
-use Rattle.defs.specs.Lists.{upFrom, below, consIf, keep, isIn}
-use Rattle.defs.specs.Memory.{stripeIn, filledIn, landedIn, isWrite, openSegment, isFull, beginStripe, addEntry}
-use Rattle.defs.specs.Params.{dataCount, inflightLen}
-use Rattle.defs.specs.Write.{placed}
-use Rattle.laws.specs.Geometry.{Ranged, data-count-low, data-count-high}
-use Rattle.laws.specs.Mask.{isIn-empty}
-use Rattle.laws.specs.Ranges.{keep-append}
-use Rattle.runs.specs.Cells.{SameSlot, add-same, begin-same}
-use Rattle.runs.specs.Placed.{placed-other}
+use Rattle.spec.specs.declared.Params.{Params}
+use Rattle.spec.specs.declared.State.{State}
+use Rattle.spec.specs.Drives.{View, chunkAt, zoneOn}
+use Rattle.spec.specs.Lists.{upFrom, below, consIf, keep, isIn}
+use Rattle.spec.specs.Memory.{stripeIn, filledIn, landedIn, isWrite, openSegment, isFull, beginStripe, addEntry}
+use Rattle.spec.specs.Params.{dataCount, inflightLen}
+use Rattle.spec.specs.Write.{placed}
+use Rattle.law_basic.specs.Geometry.{Ranged, data-count-low, data-count-high}
+use Rattle.law_basic.specs.Mask.{isIn-empty}
+use Rattle.law_basic.specs.Ranges.{keep-append}
+use Rattle.proof_crash_calls.specs.Cells.{SameSlot, add-same, begin-same}
+use Rattle.proof_crash_calls.specs.Placed.{placed-other}
 use Rattle.spec_demands.specs.Tables.{Pending, noPending}
-use Rattle.tablesay.specs.Idle.{StateOk}
-use Rattle.tablesay.specs.Members.{keep-nothing, getD-in}
-use Rattle.tablesay.specs.Run.{flies, Lists, Healthy}
-use Rattle.tablesay.specs.Slots.{begin-number, begin-filled, begin-landed, begin-writes, add-filled, add-filled-other, add-number, free-is, some-flies}
-use Rattle.tablesay.specs.Tests.{clash, or-cases, or-true-right}
+use Rattle.proof_tables.specs.Idle.{StateOk}
+use Rattle.proof_tables.specs.Members.{keep-nothing, getD-in}
+use Rattle.proof_tables.specs.Run.{flies, Lists, Healthy}
+use Rattle.proof_tables.specs.Slots.{begin-number, begin-filled, begin-landed, begin-writes, add-filled, add-filled-other, add-number, free-is, some-flies}
+use Rattle.proof_tables.specs.Tests.{clash, or-cases, or-true-right}
 use Rattle.proof_flights.specs.Eighths.{freshly, plus, waitsOf, Eighth, long-of, eighth-same, eighth-add}
 use Rattle.proof_flights.specs.Flown.{sentOf, Flights}
 

@@ -5,19 +5,19 @@ use mathlib.Core.Bool.{true, false}
 use Prim.Native.Nat.{ℕ, _+_, _≤_, _<_}
 use lib.Dec.{eqb}
 use lib.ListN.{length, getD}
-use Rattle.defs.specs.declared.Params.{Params}
-use Rattle.defs.specs.declared.State.{State}
-use Rattle.defs.specs.Bytes.{parity}
-use Rattle.defs.specs.Drives.{mkChunk, View, chunkAt, Disk, zoneOn}
-use Rattle.defs.specs.Landing.{flightRec}
-use Rattle.defs.specs.Layout.{parityDrive, dataDrive, dataDrives, recordBytes}
-use Rattle.defs.specs.Lists.{below, keep, isIn}
-use Rattle.defs.specs.Memory.{Memory, stripeIn, filledIn, landedIn, isWrite, entryIn, offsetIn, openSegment, isFull, slotBlock}
-use Rattle.defs.specs.Segments.{Segment, segmentOf, counts}
+use Rattle.spec.specs.declared.Params.{Params}
+use Rattle.spec.specs.declared.State.{State}
+use Rattle.spec.specs.Bytes.{parity}
+use Rattle.spec.specs.Drives.{mkChunk, View, chunkAt, Disk, zoneOn}
+use Rattle.spec.specs.Landing.{flightRec}
+use Rattle.spec.specs.Layout.{parityDrive, dataDrive, dataDrives, recordBytes}
+use Rattle.spec.specs.Lists.{below, keep, isIn}
+use Rattle.spec.specs.Memory.{Memory, stripeIn, filledIn, landedIn, isWrite, entryIn, offsetIn, openSegment, isFull, slotBlock}
+use Rattle.spec.specs.Segments.{Segment, segmentOf, counts}
 use Rattle.spec_demands.specs.Layouts.{Remains, foundCounted, ParityMade}
 use Rattle.spec_demands.specs.Tables.{Pending, noPending}
-use Rattle.tablesay.specs.Run.{flies}
-use Rattle.views.specs.Views.{seen}
+use Rattle.proof_tables.specs.Run.{flies}
+use Rattle.law_views.specs.Views.{seen}
 
 -- data position k of eighth i, as the write that filled it sent it
 unfoldable pub sentOf : Params → State → List ℕ → ℕ → ℕ → Pending

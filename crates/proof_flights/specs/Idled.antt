@@ -7,30 +7,30 @@ use native.Mathlib.Omega.{arith}
 use borrow.Author.Tests.{ne-eqb, leb-true}
 use lib.Dec.{leb, ltb, eqb}
 use lib.ListN.{length, getD}
-use Rattle.defs.specs.declared.Params.{Params}
-use Rattle.defs.specs.declared.Answer.{Answer}
-use Rattle.defs.specs.declared.Answer.the-variants.{Filled}
-use Rattle.defs.specs.Answers.{kind, values, isRefused, isCut, finished}
-use Rattle.defs.specs.Calls.{Check, Plan, mkPlan, After}
-use Rattle.defs.specs.Calls.Check.{rule, zones}
-use Rattle.defs.specs.Drives.{Disk, storeDisk, storeAll}
-use Rattle.defs.specs.Engine.{Call, storeCount, lentBlock, verdict, lentOk, callOn, callDisk}
-use Rattle.defs.specs.Engine.Call.{write, land, close, reclaim, read, fill, restart, rebuild}
-use Rattle.defs.specs.History.{endsRun}
-use Rattle.defs.specs.Lists.{consIf, keep}
-use Rattle.defs.specs.Memory.{Memory, stateFaults}
-use Rattle.defs.specs.Params.{inRange}
-use Rattle.defs.specs.Read.{Found, lookup, foundFaults, decodeFaults, readPiece, readAnswer, readChecks, readVerdict, fillVerdict}
-use Rattle.defs.specs.Read.Found.{nowhere, here, away}
-use Rattle.defs.specs.Segments.{Segment}
-use Rattle.hosts.specs.Shorts.{write-keeps, land-keeps, close-keeps, reclaim-keeps, read-keeps, fill-keeps, restart-keeps, rebuild-keeps}
+use Rattle.spec.specs.declared.Params.{Params}
+use Rattle.spec.specs.declared.Answer.{Answer}
+use Rattle.spec.specs.declared.Answer.the-variants.{Filled}
+use Rattle.spec.specs.Answers.{kind, values, isRefused, isCut, finished}
+use Rattle.spec.specs.Calls.{Check, Plan, mkPlan, After}
+use Rattle.spec.specs.Calls.Check.{rule, zones}
+use Rattle.spec.specs.Drives.{Disk, storeDisk, storeAll}
+use Rattle.spec.specs.Engine.{Call, storeCount, lentBlock, verdict, lentOk, callOn, callDisk}
+use Rattle.spec.specs.Engine.Call.{write, land, close, reclaim, read, fill, restart, rebuild}
+use Rattle.spec.specs.History.{endsRun}
+use Rattle.spec.specs.Lists.{consIf, keep}
+use Rattle.spec.specs.Memory.{Memory, stateFaults}
+use Rattle.spec.specs.Params.{inRange}
+use Rattle.spec.specs.Read.{Found, lookup, foundFaults, decodeFaults, readPiece, readAnswer, readChecks, readVerdict, fillVerdict}
+use Rattle.spec.specs.Read.Found.{nowhere, here, away}
+use Rattle.spec.specs.Segments.{Segment}
+use Rattle.law_lent.specs.Shorts.{write-keeps, land-keeps, close-keeps, reclaim-keeps, read-keeps, fill-keeps, restart-keeps, rebuild-keeps}
 use Rattle.spec_demands.specs.Tables.{Pending, pendingBy, stillPending, pendingAfter}
-use Rattle.tablesay.specs.Checks.{Passes}
-use Rattle.tablesay.specs.Outcomes.{Ended, ended, refusal-kind, cut-cut}
-use Rattle.tablesay.specs.Outcomes.Ended.{ended-refused, ended-done, ended-cut}
-use Rattle.tablesay.specs.Run.{Run}
-use Rattle.tablesay.specs.Tests.{clash, cond-false, and-false-left, or-neither}
-use Rattle.views.specs.Views.{seen}
+use Rattle.proof_tables.specs.Checks.{Passes}
+use Rattle.proof_tables.specs.Outcomes.{Ended, ended, refusal-kind, cut-cut}
+use Rattle.proof_tables.specs.Outcomes.Ended.{ended-refused, ended-done, ended-cut}
+use Rattle.proof_tables.specs.Run.{Run}
+use Rattle.proof_tables.specs.Tests.{clash, cond-false, and-false-left, or-neither}
+use Rattle.law_views.specs.Views.{seen}
 use Rattle.proof_flights.specs.Flown.{Flown}
 
 -- ---- the writes that wait, after an answer that sends none and lands none

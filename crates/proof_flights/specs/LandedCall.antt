@@ -8,44 +8,44 @@ use native.Mathlib.Omega.{arith}
 use borrow.Author.Tests.{lt-ltb, eq-eqb, eqb-true, leb-true, not-false}
 use lib.Dec.{ltb, eqb}
 use lib.ListN.{length, length-map, getD}
-use Rattle.defs.specs.declared.Params.{Params}
-use Rattle.defs.specs.declared.State.{State}
-use Rattle.defs.specs.declared.Answer.{Answer}
-use Rattle.defs.specs.declared.Answer.the-variants.{Landed, Cut}
-use Rattle.defs.specs.Answers.{kind, values, isRefused, isCut, finished}
-use Rattle.defs.specs.Calls.{Plan}
-use Rattle.defs.specs.Drives.{View, pointerAt, Store, storeView, Disk, storeDisk, storeAll, zoneOn, sealedIn}
-use Rattle.defs.specs.Drives.Store.{put}
-use Rattle.defs.specs.Engine.Call.{land}
-use Rattle.defs.specs.Engine.{storeCount, lentBlock, verdict, lentOk, callOn, callDisk}
-use Rattle.defs.specs.History.{endsRun, mkWorld}
-use Rattle.defs.specs.Landing.{slotOf, waiting, completes, seals, flightRec, landChecks, sealStores, writesIn, landStore, landPlan, landVerdict}
-use Rattle.defs.specs.Layout.{recordBytes, dataDrive, Rec}
-use Rattle.defs.specs.Lists.{below, keep, tally}
-use Rattle.defs.specs.Memory.{Memory, filledIn, isWrite, openSegment, isFree, inFlight, setClosed, markLanded, freeStripe, slotBlock, stripeIn, entryIn}
-use Rattle.defs.specs.Segments.{Segment, segmentOf, counts}
-use Rattle.laws.specs.Geometry.{Ranged, ranged, position-drive, drive-is-data}
-use Rattle.laws.specs.Ranges.{Test, test, and-left, and-right}
-use Rattle.laws.specs.Ranges.Test.{yes!, no! }
-use Rattle.laws.specs.Stores.{storeAll-append}
-use Rattle.views.specs.Views.{seen}
+use Rattle.spec.specs.declared.Params.{Params}
+use Rattle.spec.specs.declared.State.{State}
+use Rattle.spec.specs.declared.Answer.{Answer}
+use Rattle.spec.specs.declared.Answer.the-variants.{Landed, Cut}
+use Rattle.spec.specs.Answers.{kind, values, isRefused, isCut, finished}
+use Rattle.spec.specs.Calls.{Plan}
+use Rattle.spec.specs.Drives.{View, pointerAt, Store, storeView, Disk, storeDisk, storeAll, zoneOn, sealedIn}
+use Rattle.spec.specs.Drives.Store.{put}
+use Rattle.spec.specs.Engine.Call.{land}
+use Rattle.spec.specs.Engine.{storeCount, lentBlock, verdict, lentOk, callOn, callDisk}
+use Rattle.spec.specs.History.{endsRun, mkWorld}
+use Rattle.spec.specs.Landing.{slotOf, waiting, completes, seals, flightRec, landChecks, sealStores, writesIn, landStore, landPlan, landVerdict}
+use Rattle.spec.specs.Layout.{recordBytes, dataDrive, Rec}
+use Rattle.spec.specs.Lists.{below, keep, tally}
+use Rattle.spec.specs.Memory.{Memory, filledIn, isWrite, openSegment, isFree, inFlight, setClosed, markLanded, freeStripe, slotBlock, stripeIn, entryIn}
+use Rattle.spec.specs.Segments.{Segment, segmentOf, counts}
+use Rattle.law_basic.specs.Geometry.{Ranged, ranged, position-drive, drive-is-data}
+use Rattle.law_basic.specs.Ranges.{Test, test, and-left, and-right}
+use Rattle.law_basic.specs.Ranges.Test.{yes!, no! }
+use Rattle.law_basic.specs.Stores.{storeAll-append}
+use Rattle.law_views.specs.Views.{seen}
 use Rattle.spec_demands.specs.Layouts.{ParityMade}
 use Rattle.spec_demands.specs.Tables.{Pending, pendingBy, stillPending, pendingAfter, noPending, pendingIn, openIn, landingStores, Lands}
 use Rattle.spec_demands.specs.Engines.{onValues, callWorld, viewIn}
-use Rattle.tablesay.specs.Checks.{Passes}
-use Rattle.tablesay.specs.Chunks.{chunk-roomy, chunk-tidy, chunk-open, chunk-healthy, all-behind, none-left, open-after, uncounted-yet, counts-now}
-use Rattle.tablesay.specs.Filling.{block-long! }
-use Rattle.tablesay.specs.Going.{buffer-long}
-use Rattle.tablesay.specs.Idle.{StateOk, state-of}
-use Rattle.tablesay.specs.Joins.{roomy-append, within-append}
-use Rattle.tablesay.specs.Landings.{Waits, waits}
-use Rattle.tablesay.specs.Members.{In, in-keep, map-in, in-getD}
-use Rattle.tablesay.specs.Outcomes.{Ended, ended, refusal-kind}
-use Rattle.tablesay.specs.Outcomes.Ended.{ended-refused, ended-done, ended-cut}
-use Rattle.tablesay.specs.Run.{flies, Healthy, Well, Run}
-use Rattle.tablesay.specs.Sealing.{seal-roomy, seal-within, seal-sealed}
-use Rattle.tablesay.specs.Tests.{clash, not-so, cond-true, cond-false}
-use Rattle.tablesay.specs.Zones.{Shaped, Within, Roomy, shaped-after}
+use Rattle.proof_tables.specs.Checks.{Passes}
+use Rattle.proof_tables.specs.Chunks.{chunk-roomy, chunk-tidy, chunk-open, chunk-healthy, all-behind, none-left, open-after, uncounted-yet, counts-now}
+use Rattle.proof_tables.specs.Filling.{block-long! }
+use Rattle.proof_tables.specs.Going.{buffer-long}
+use Rattle.proof_tables.specs.Idle.{StateOk, state-of}
+use Rattle.proof_tables.specs.Joins.{roomy-append, within-append}
+use Rattle.proof_tables.specs.Landings.{Waits, waits}
+use Rattle.proof_tables.specs.Members.{In, in-keep, map-in, in-getD}
+use Rattle.proof_tables.specs.Outcomes.{Ended, ended, refusal-kind}
+use Rattle.proof_tables.specs.Outcomes.Ended.{ended-refused, ended-done, ended-cut}
+use Rattle.proof_tables.specs.Run.{flies, Healthy, Well, Run}
+use Rattle.proof_tables.specs.Sealing.{seal-roomy, seal-within, seal-sealed}
+use Rattle.proof_tables.specs.Tests.{clash, not-so, cond-true, cond-false}
+use Rattle.proof_tables.specs.Zones.{Shaped, Within, Roomy, shaped-after}
 use Rattle.proof_flights.specs.Flown.{sentOf, Flights, Flown}
 use Rattle.proof_flights.specs.Idled.{flown-ended}
 use Rattle.proof_flights.specs.Written.{well-of, seen-after, parity-none, flown-of}

@@ -11,37 +11,37 @@ use borrow.Author.Tests.{le-leb, eq-eqb, ne-eqb}
 use lib.Dec.{ltb, eqb}
 use lib.ListN.{length, getD, length-map}
 use lib.Seq.{getD-set-same, getD-set-other}
-use Rattle.defs.specs.declared.Params.{Params}
-use Rattle.defs.specs.declared.State.{State}
-use Rattle.defs.specs.Bytes.{parity}
-use Rattle.defs.specs.Drives.{Chunk, mkChunk, noChunk, Zone, View, zoneAt, pointerAt, chunkAt, putZone, storeView, zoneOn, sealedIn, dataStored, recordIn}
-use Rattle.defs.specs.Drives.Store.{put}
-use Rattle.defs.specs.Landing.{ready, completes, flightRec}
-use Rattle.defs.specs.Layout.{parityDrive, dataDrive, dataPosition, isData, dataDrives, Rec, recordBytes, recordOf}
-use Rattle.defs.specs.Lists.{below, all, keep, isIn}
-use Rattle.defs.specs.Memory.{stripeIn, filledIn, landedIn, isWrite, entryIn, entriesIn, offsetIn, openSegment, isFree, isFull, markLanded, slotBlock}
-use Rattle.defs.specs.Params.{dataCount, present}
-use Rattle.defs.specs.Parity.{Piece, mkPiece, parityRec, parityPiece}
-use Rattle.defs.specs.Segments.{Segment, segmentOf, hasChunk, counts, storedPiece}
-use Rattle.laws.specs.Geometry.{Ranged, parity-drive-lt, position-drive, drive-is-data, position-lt}
-use Rattle.laws.specs.Mask.{isIn-empty}
-use Rattle.laws.specs.Ranges.{Test, test, and-right, length-below, getD-map-below, map-map}
-use Rattle.laws.specs.Ranges.Test.{yes!, no! }
-use Rattle.laws.specs.Xor.{xorAll-lt}
+use Rattle.spec.specs.declared.Params.{Params}
+use Rattle.spec.specs.declared.State.{State}
+use Rattle.spec.specs.Bytes.{parity}
+use Rattle.spec.specs.Drives.{Chunk, mkChunk, noChunk, Zone, View, zoneAt, pointerAt, chunkAt, putZone, storeView, zoneOn, sealedIn, dataStored, recordIn}
+use Rattle.spec.specs.Drives.Store.{put}
+use Rattle.spec.specs.Landing.{ready, completes, flightRec}
+use Rattle.spec.specs.Layout.{parityDrive, dataDrive, dataPosition, isData, dataDrives, Rec, recordBytes, recordOf}
+use Rattle.spec.specs.Lists.{below, all, keep, isIn}
+use Rattle.spec.specs.Memory.{stripeIn, filledIn, landedIn, isWrite, entryIn, entriesIn, offsetIn, openSegment, isFree, isFull, markLanded, slotBlock}
+use Rattle.spec.specs.Params.{dataCount, present}
+use Rattle.spec.specs.Parity.{Piece, mkPiece, parityRec, parityPiece}
+use Rattle.spec.specs.Segments.{Segment, segmentOf, hasChunk, counts, storedPiece}
+use Rattle.law_basic.specs.Geometry.{Ranged, parity-drive-lt, position-drive, drive-is-data, position-lt}
+use Rattle.law_basic.specs.Mask.{isIn-empty}
+use Rattle.law_basic.specs.Ranges.{Test, test, and-right, length-below, getD-map-below, map-map}
+use Rattle.law_basic.specs.Ranges.Test.{yes!, no! }
+use Rattle.law_basic.specs.Xor.{xorAll-lt}
 use Rattle.spec_demands.specs.Layouts.{ParityMade}
 use Rattle.spec_demands.specs.Tables.{Pending}
-use Rattle.tablesay.specs.Chunks.{cells-differ, pointer-some, pointer-data, chunk-zone, chunk-other, chunk-pointer, pointer-else, chunk-grows, mask-now}
-use Rattle.tablesay.specs.Chunks.{chunk-open, open-before, open-after, all-landed, uncounted-yet, landed-chunk, all-filled}
-use Rattle.tablesay.specs.Idle.{StateOk}
-use Rattle.tablesay.specs.Laid.{record-back}
-use Rattle.tablesay.specs.Members.{in-all, map-cong}
-use Rattle.tablesay.specs.Range.{capacity-over}
-use Rattle.tablesay.specs.Reads.{counts-in}
-use Rattle.tablesay.specs.Run.{flies, Flight, Open, Healthy}
-use Rattle.tablesay.specs.Segs.{data-low, low-data, present-in}
-use Rattle.tablesay.specs.Slots.{mark-landed-other, mark-offset, mark-offset-other}
-use Rattle.tablesay.specs.Tests.{or-true-left, cond-true, cond-false, eqb-self}
-use Rattle.tablesay.specs.Zones.{Shaped}
+use Rattle.proof_tables.specs.Chunks.{cells-differ, pointer-some, pointer-data, chunk-zone, chunk-other, chunk-pointer, pointer-else, chunk-grows, mask-now}
+use Rattle.proof_tables.specs.Chunks.{chunk-open, open-before, open-after, all-landed, uncounted-yet, landed-chunk, all-filled}
+use Rattle.proof_tables.specs.Idle.{StateOk}
+use Rattle.proof_tables.specs.Laid.{record-back}
+use Rattle.proof_tables.specs.Members.{in-all, map-cong}
+use Rattle.proof_tables.specs.Range.{capacity-over}
+use Rattle.proof_tables.specs.Reads.{counts-in}
+use Rattle.proof_tables.specs.Run.{flies, Flight, Open, Healthy}
+use Rattle.proof_tables.specs.Segs.{data-low, low-data, present-in}
+use Rattle.proof_tables.specs.Slots.{mark-landed-other, mark-offset, mark-offset-other}
+use Rattle.proof_tables.specs.Tests.{or-true-left, cond-true, cond-false, eqb-self}
+use Rattle.proof_tables.specs.Zones.{Shaped}
 use Rattle.proof_flights.specs.Flown.{sentOf, Flights}
 use Rattle.proof_flights.specs.LandedPieces.{piece-parts, Extends, extends-piece, extends-back, data-drives-in, parity-grows}
 use Rattle.proof_flights.specs.Pieces.{ParityAt}

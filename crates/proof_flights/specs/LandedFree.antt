@@ -9,33 +9,33 @@ use native.Mathlib.Omega.{arith}
 use borrow.Author.Tests.{eqb-true, eqb-false, ne-eqb, not-true}
 use lib.Dec.{eqb}
 use lib.ListN.{length, getD}
-use Rattle.defs.specs.declared.Params.{Params}
-use Rattle.defs.specs.declared.State.{State}
-use Rattle.defs.specs.Bytes.{parity}
-use Rattle.defs.specs.Drives.{Chunk, mkChunk, noChunk, Zone, View, zoneAt, pointerAt, chunkAt, storeView, storeAll, zoneOn, sealedIn, dataStored}
-use Rattle.defs.specs.Landing.{flightRec, sealStores}
-use Rattle.defs.specs.Layout.{parityDrive, dataPosition, isData, dataDrives, Rec, mkRec, recordBytes}
-use Rattle.defs.specs.Lists.{below, keep, isIn}
-use Rattle.defs.specs.Memory.{stripeIn, filledIn, landedIn, isWrite, entryIn, entriesIn, offsetIn, openSegment, isFree, isFull, freeStripe, slotBlock}
-use Rattle.defs.specs.Params.{footers}
-use Rattle.defs.specs.Parity.{parityRec}
-use Rattle.defs.specs.Segments.{Segment, segmentOf, counts}
-use Rattle.laws.specs.Geometry.{Ranged}
-use Rattle.laws.specs.Mask.{isIn-empty}
-use Rattle.laws.specs.Ranges.{Test, test}
-use Rattle.laws.specs.Ranges.Test.{yes!, no! }
+use Rattle.spec.specs.declared.Params.{Params}
+use Rattle.spec.specs.declared.State.{State}
+use Rattle.spec.specs.Bytes.{parity}
+use Rattle.spec.specs.Drives.{Chunk, mkChunk, noChunk, Zone, View, zoneAt, pointerAt, chunkAt, storeView, storeAll, zoneOn, sealedIn, dataStored}
+use Rattle.spec.specs.Landing.{flightRec, sealStores}
+use Rattle.spec.specs.Layout.{parityDrive, dataPosition, isData, dataDrives, Rec, mkRec, recordBytes}
+use Rattle.spec.specs.Lists.{below, keep, isIn}
+use Rattle.spec.specs.Memory.{stripeIn, filledIn, landedIn, isWrite, entryIn, entriesIn, offsetIn, openSegment, isFree, isFull, freeStripe, slotBlock}
+use Rattle.spec.specs.Params.{footers}
+use Rattle.spec.specs.Parity.{parityRec}
+use Rattle.spec.specs.Segments.{Segment, segmentOf, counts}
+use Rattle.law_basic.specs.Geometry.{Ranged}
+use Rattle.law_basic.specs.Mask.{isIn-empty}
+use Rattle.law_basic.specs.Ranges.{Test, test}
+use Rattle.law_basic.specs.Ranges.Test.{yes!, no! }
 use Rattle.spec_demands.specs.Layouts.{ParityMade}
 use Rattle.spec_demands.specs.Tables.{Pending, noPending}
-use Rattle.tablesay.specs.Members.{In, keep-in, keep-all, keep-nil-in, keep-keep, keep-cong, in-getD, getD-in}
-use Rattle.tablesay.specs.Puts.{puts-old}
-use Rattle.tablesay.specs.Range.{capacity-over}
-use Rattle.tablesay.specs.Reads.{counts-in}
-use Rattle.tablesay.specs.Run.{flies, Lists, Tidy}
-use Rattle.tablesay.specs.Sealing.{footerChunks, seal-zone, seal-pointer, seal-grows, seal-records}
-use Rattle.tablesay.specs.Segs.{record-at}
-use Rattle.tablesay.specs.Slots.{free-filled, free-filled-other, none-flies}
-use Rattle.tablesay.specs.Tests.{clash, and-false-left}
-use Rattle.tablesay.specs.Zones.{Shaped}
+use Rattle.proof_tables.specs.Members.{In, keep-in, keep-all, keep-nil-in, keep-keep, keep-cong, in-getD, getD-in}
+use Rattle.proof_tables.specs.Puts.{puts-old}
+use Rattle.proof_tables.specs.Range.{capacity-over}
+use Rattle.proof_tables.specs.Reads.{counts-in}
+use Rattle.proof_tables.specs.Run.{flies, Lists, Tidy}
+use Rattle.proof_tables.specs.Sealing.{footerChunks, seal-zone, seal-pointer, seal-grows, seal-records}
+use Rattle.proof_tables.specs.Segs.{record-at}
+use Rattle.proof_tables.specs.Slots.{free-filled, free-filled-other, none-flies}
+use Rattle.proof_tables.specs.Tests.{clash, and-false-left}
+use Rattle.proof_tables.specs.Zones.{Shaped}
 use Rattle.proof_flights.specs.Flown.{sentOf, Flights}
 use Rattle.proof_flights.specs.LandedPieces.{Extends, extends-counts, extends-piece, extends-sym, parity-grows}
 

@@ -7,21 +7,21 @@ use Prim.Native.Nat.{ℕ, _+_, _≤_, _<_}
 use native.Mathlib.Omega.{arith}
 use native.Mathlib.Decide.{ℕ-discrete}
 use lib.ListN.{getD}
-use Rattle.defs.specs.declared.Params.{Params}
-use Rattle.defs.specs.Drives.{noChunk, Zone, View, zoneAt, sealedIn, dataStored, recordIn}
-use Rattle.defs.specs.Layout.{dataDrive, dataDrives, headerSerial, Rec}
-use Rattle.defs.specs.Lists.{below, all, isMember, isIn}
-use Rattle.defs.specs.Params.{dataCount, present}
-use Rattle.defs.specs.Parity.{mkPiece}
-use Rattle.defs.specs.Segments.{remaining, Segment, segmentOf, offsetOn, hasChunk, counts, storedPiece, storedRec}
-use Rattle.laws.specs.Geometry.{Ranged, data-drive-lt}
+use Rattle.spec.specs.declared.Params.{Params}
+use Rattle.spec.specs.Drives.{noChunk, Zone, View, zoneAt, sealedIn, dataStored, recordIn}
+use Rattle.spec.specs.Layout.{dataDrive, dataDrives, headerSerial, Rec}
+use Rattle.spec.specs.Lists.{below, all, isMember, isIn}
+use Rattle.spec.specs.Params.{dataCount, present}
+use Rattle.spec.specs.Parity.{mkPiece}
+use Rattle.spec.specs.Segments.{remaining, Segment, segmentOf, offsetOn, hasChunk, counts, storedPiece, storedRec}
+use Rattle.law_basic.specs.Geometry.{Ranged, data-drive-lt}
 use Rattle.spec_demands.specs.Layouts.{Remains, ParityMade}
-use Rattle.tablesay.specs.Growing.{Grows, grows-tidy, grows-remaining}
-use Rattle.tablesay.specs.Members.{In, map-in, in-all, below-in, is-member}
-use Rattle.tablesay.specs.Reads.{counts-in}
-use Rattle.tablesay.specs.Run.{Tidy}
-use Rattle.tablesay.specs.Segs.{ChunkAt, zone-by, chunk-at, has-chunk, offset-is, present-in, remaining-low}
-use Rattle.tablesay.specs.Settled.{serial-of, zones-segment}
+use Rattle.proof_tables.specs.Growing.{Grows, grows-tidy, grows-remaining}
+use Rattle.proof_tables.specs.Members.{In, map-in, in-all, below-in, is-member}
+use Rattle.proof_tables.specs.Reads.{counts-in}
+use Rattle.proof_tables.specs.Run.{Tidy}
+use Rattle.proof_tables.specs.Segs.{ChunkAt, zone-by, chunk-at, has-chunk, offset-is, present-in, remaining-low}
+use Rattle.proof_tables.specs.Settled.{serial-of, zones-segment}
 use Rattle.proof_flights.specs.Pieces.{ParityAt, SameStripe, parity-from}
 
 -- a piece is the block and the record at the stripe's offset, whatever is missing

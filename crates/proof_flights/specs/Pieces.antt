@@ -6,22 +6,22 @@ use mathlib.Core.Logic.{_⊎_, inl, inr}
 use Prim.Native.Nat.{ℕ, _+_, _<_}
 use native.Mathlib.Omega.{arith}
 use lib.ListN.{getD}
-use Rattle.defs.specs.declared.Params.{Params}
-use Rattle.defs.specs.Drives.{noChunk, Zone, noZone, View, zoneAt, chunkAt, zoneOn, sealedIn, dataStored, recordIn, recordAt}
-use Rattle.defs.specs.Layout.{parityDrive, dataDrive, dataDrives}
-use Rattle.defs.specs.Lists.{below}
-use Rattle.defs.specs.Params.{dataCount, present}
-use Rattle.defs.specs.Parity.{mkPiece, parityPiece}
-use Rattle.defs.specs.Segments.{remaining, Segment, segmentOf, offsetOn, hasChunk, counts, storedPiece, storedRec}
-use Rattle.laws.specs.Geometry.{Ranged, parity-drive-lt, data-drive-lt}
-use Rattle.laws.specs.Mask.{isIn-empty}
-use Rattle.laws.specs.Ranges.{map-map}
+use Rattle.spec.specs.declared.Params.{Params}
+use Rattle.spec.specs.Drives.{noChunk, Zone, noZone, View, zoneAt, chunkAt, zoneOn, sealedIn, dataStored, recordIn, recordAt}
+use Rattle.spec.specs.Layout.{parityDrive, dataDrive, dataDrives}
+use Rattle.spec.specs.Lists.{below}
+use Rattle.spec.specs.Params.{dataCount, present}
+use Rattle.spec.specs.Parity.{mkPiece, parityPiece}
+use Rattle.spec.specs.Segments.{remaining, Segment, segmentOf, offsetOn, hasChunk, counts, storedPiece, storedRec}
+use Rattle.law_basic.specs.Geometry.{Ranged, parity-drive-lt, data-drive-lt}
+use Rattle.law_basic.specs.Mask.{isIn-empty}
+use Rattle.law_basic.specs.Ranges.{map-map}
 use Rattle.spec_demands.specs.Layouts.{Remains, foundCounted, ParityMade}
-use Rattle.tablesay.specs.Members.{in-all, map-cong, below-in, is-member, member-is}
-use Rattle.tablesay.specs.Reads.{counts-in}
-use Rattle.tablesay.specs.Run.{usedAt, Tidy}
-use Rattle.tablesay.specs.Segs.{present-in, zone-by, chunk-at, has-chunk, offset-is}
-use Rattle.tablesay.specs.Settled.{used-remains, remains-is-used, SameZones, zones-segment}
+use Rattle.proof_tables.specs.Members.{in-all, map-cong, below-in, is-member, member-is}
+use Rattle.proof_tables.specs.Reads.{counts-in}
+use Rattle.proof_tables.specs.Run.{usedAt, Tidy}
+use Rattle.proof_tables.specs.Segs.{present-in, zone-by, chunk-at, has-chunk, offset-is}
+use Rattle.proof_tables.specs.Settled.{used-remains, remains-is-used, SameZones, zones-segment}
 
 -- ---- the same zones, the same pieces
 

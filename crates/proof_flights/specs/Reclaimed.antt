@@ -7,50 +7,50 @@ use Prim.Native.Nat.{ℕ, zero, suc, _+_, _-_, _^_, _<_}
 use native.Mathlib.Omega.{arith}
 use lib.Dec.{eqb}
 use lib.ListN.{length, getD}
-use Rattle.defs.specs.declared.Params.{Params}
-use Rattle.defs.specs.declared.State.{State}
-use Rattle.defs.specs.declared.Answer.{Answer}
-use Rattle.defs.specs.declared.Answer.the-variants.{Copied, Reset}
-use Rattle.defs.specs.Answers.{kind, isCut}
-use Rattle.defs.specs.Calls.{Check, Plan}
-use Rattle.defs.specs.Calls.Check.{rule, zones}
-use Rattle.defs.specs.Counts.{aStamp}
-use Rattle.defs.specs.Drives.{noChunk, Zone, View, zoneAt, pointerAt, chunkAt, Store, storeView, Disk, storeDisk, storeAll, zoneOn, placeSegment, sealedIn, recordIn, recordAt, resetStores}
-use Rattle.defs.specs.Engine.{storeCount, lentBlock, verdict, lentOk, callOn, callDisk}
-use Rattle.defs.specs.Engine.Call.{reclaim}
-use Rattle.defs.specs.Layout.{Rec}
-use Rattle.defs.specs.Lists.{Opt, isMember, keep, isNil, firstOr}
-use Rattle.defs.specs.Memory.{Memory, mkMemory, openSegment, stateFaults}
-use Rattle.defs.specs.Params.{between, inRange, capacity, placeBlock, placeZone, placeDrive, drivesOf}
-use Rattle.defs.specs.Reclaim.{placesIn, tableFaults, segmentPlaces, liveIn, flying, Victim, victim, isNone, victimSegment, victimLive}
-use Rattle.defs.specs.Reclaim.{idle, reclaimChecks, cleared, resetPlan, copyPlan, reclaimVerdict}
-use Rattle.defs.specs.Segments.{Segment, segmentOf, counts}
-use Rattle.defs.specs.Write.{opens, noSerial, mustWait, scarce, Sending, sending}
-use Rattle.laws.specs.Geometry.{Ranged, ranged}
-use Rattle.laws.specs.Ranges.{Test, test}
-use Rattle.laws.specs.Ranges.Test.{yes!, no! }
-use Rattle.runs.specs.Cells.{SameSlot}
+use Rattle.spec.specs.declared.Params.{Params}
+use Rattle.spec.specs.declared.State.{State}
+use Rattle.spec.specs.declared.Answer.{Answer}
+use Rattle.spec.specs.declared.Answer.the-variants.{Copied, Reset}
+use Rattle.spec.specs.Answers.{kind, isCut}
+use Rattle.spec.specs.Calls.{Check, Plan}
+use Rattle.spec.specs.Calls.Check.{rule, zones}
+use Rattle.spec.specs.Counts.{aStamp}
+use Rattle.spec.specs.Drives.{noChunk, Zone, View, zoneAt, pointerAt, chunkAt, Store, storeView, Disk, storeDisk, storeAll, zoneOn, placeSegment, sealedIn, recordIn, recordAt, resetStores}
+use Rattle.spec.specs.Engine.{storeCount, lentBlock, verdict, lentOk, callOn, callDisk}
+use Rattle.spec.specs.Engine.Call.{reclaim}
+use Rattle.spec.specs.Layout.{Rec}
+use Rattle.spec.specs.Lists.{Opt, isMember, keep, isNil, firstOr}
+use Rattle.spec.specs.Memory.{Memory, mkMemory, openSegment, stateFaults}
+use Rattle.spec.specs.Params.{between, inRange, capacity, placeBlock, placeZone, placeDrive, drivesOf}
+use Rattle.spec.specs.Reclaim.{placesIn, tableFaults, segmentPlaces, liveIn, flying, Victim, victim, isNone, victimSegment, victimLive}
+use Rattle.spec.specs.Reclaim.{idle, reclaimChecks, cleared, resetPlan, copyPlan, reclaimVerdict}
+use Rattle.spec.specs.Segments.{Segment, segmentOf, counts}
+use Rattle.spec.specs.Write.{opens, noSerial, mustWait, scarce, Sending, sending}
+use Rattle.law_basic.specs.Geometry.{Ranged, ranged}
+use Rattle.law_basic.specs.Ranges.{Test, test}
+use Rattle.law_basic.specs.Ranges.Test.{yes!, no! }
+use Rattle.proof_crash_calls.specs.Cells.{SameSlot}
 use Rattle.spec_demands.specs.Layouts.{Remains, ParityMade}
 use Rattle.spec_demands.specs.Tables.{Pending, pendingAfter}
-use Rattle.tablesay.specs.Base.{cand-zone}
-use Rattle.tablesay.specs.Bounds.{record-low, open-short}
-use Rattle.tablesay.specs.Checks.{Passes}
-use Rattle.tablesay.specs.Going.{address-table, buffer-long}
-use Rattle.tablesay.specs.Idle.{StateOk, state-of}
-use Rattle.tablesay.specs.Live.{Pointed, places-pointed}
-use Rattle.tablesay.specs.Members.{In, keep-in, first-in, is-member}
-use Rattle.tablesay.specs.Outcomes.{ended}
-use Rattle.tablesay.specs.Range.{capacity-over}
-use Rattle.tablesay.specs.Reads.{spot-block, spot-drive}
-use Rattle.tablesay.specs.Reclaiming.{taken, sealed-full}
-use Rattle.tablesay.specs.Resetting.{reset-same, reset-roomy, reset-within, reset-was, reset-tidy}
-use Rattle.tablesay.specs.Run.{flies, Healthy, Well, Run}
-use Rattle.tablesay.specs.Segs.{remaining-low}
-use Rattle.tablesay.specs.Sending.{sends}
-use Rattle.tablesay.specs.Settled.{SameZones}
-use Rattle.tablesay.specs.Tests.{clash, or-left, or-right, cond-true, cond-false}
-use Rattle.tablesay.specs.Zones.{Shaped}
-use Rattle.views.specs.Views.{seen}
+use Rattle.proof_tables.specs.Base.{cand-zone}
+use Rattle.proof_tables.specs.Bounds.{record-low, open-short}
+use Rattle.proof_tables.specs.Checks.{Passes}
+use Rattle.proof_tables.specs.Going.{address-table, buffer-long}
+use Rattle.proof_tables.specs.Idle.{StateOk, state-of}
+use Rattle.proof_tables.specs.Live.{Pointed, places-pointed}
+use Rattle.proof_tables.specs.Members.{In, keep-in, first-in, is-member}
+use Rattle.proof_tables.specs.Outcomes.{ended}
+use Rattle.proof_tables.specs.Range.{capacity-over}
+use Rattle.proof_tables.specs.Reads.{spot-block, spot-drive}
+use Rattle.proof_tables.specs.Reclaiming.{taken, sealed-full}
+use Rattle.proof_tables.specs.Resetting.{reset-same, reset-roomy, reset-within, reset-was, reset-tidy}
+use Rattle.proof_tables.specs.Run.{flies, Healthy, Well, Run}
+use Rattle.proof_tables.specs.Segs.{remaining-low}
+use Rattle.proof_tables.specs.Sending.{sends}
+use Rattle.proof_tables.specs.Settled.{SameZones}
+use Rattle.proof_tables.specs.Tests.{clash, or-left, or-right, cond-true, cond-false}
+use Rattle.proof_tables.specs.Zones.{Shaped}
+use Rattle.law_views.specs.Views.{seen}
 use Rattle.proof_flights.specs.Flocks.{none-more, flock-of, of-flock, flock-same}
 use Rattle.proof_flights.specs.Flown.{Flights, Flown}
 use Rattle.proof_flights.specs.Idled.{Quiet, pending-quiet, quiet-kind, flown-as, flown-ended}

@@ -6,48 +6,48 @@ use Prim.Native.Nat.{ℕ, _<_}
 use native.Mathlib.Omega.{arith}
 use borrow.Author.Tests.{eqb-true, eqb-false, ltb-true, not-false}
 use lib.Dec.{ltb, eqb}
-use Rattle.defs.specs.declared.Params.{Params}
-use Rattle.defs.specs.declared.Answer.the-variants.{Rebuilt}
-use Rattle.defs.specs.Answers.{kind, isRefused, isCut, finished}
-use Rattle.defs.specs.Calls.{Plan, mkPlan, After}
-use Rattle.defs.specs.Counts.{lastCount}
-use Rattle.defs.specs.Drives.{View, Store, storeView, Disk, storeDisk, storeAll}
-use Rattle.defs.specs.Engine.Call.{restart, rebuild}
-use Rattle.defs.specs.Engine.{storeCount, lentBlock, verdict, lentOk, callOn, callDisk}
-use Rattle.defs.specs.History.{endsRun}
-use Rattle.defs.specs.Lists.{isMember, isNil, flat}
-use Rattle.defs.specs.Memory.{Memory, idleState, filledIn}
-use Rattle.defs.specs.Params.{inRange, named, present}
-use Rattle.defs.specs.Rebuild.{namesMissing, rebuildChecks, rebuildStores, rebuildVerdict}
-use Rattle.defs.specs.Restart.{freeZones, dropStores, mendStores, restartStores, restartMemory, rewrites, restartPlan, restartVerdict}
-use Rattle.defs.specs.Segments.{lowDrive, remaining, Segment, segmentOf, segments, recsOn, hasChunk, counts, greatestSerial, unsealed}
-use Rattle.laws.specs.Geometry.{Ranged, ranged}
-use Rattle.laws.specs.Ranges.{Test, test, and-left, and-right}
-use Rattle.laws.specs.Ranges.Test.{yes!, no! }
-use Rattle.laws.specs.Stores.{storeAll-append}
-use Rattle.views.specs.Views.{Whole, seen, view-stores}
+use Rattle.spec.specs.declared.Params.{Params}
+use Rattle.spec.specs.declared.Answer.the-variants.{Rebuilt}
+use Rattle.spec.specs.Answers.{kind, isRefused, isCut, finished}
+use Rattle.spec.specs.Calls.{Plan, mkPlan, After}
+use Rattle.spec.specs.Counts.{lastCount}
+use Rattle.spec.specs.Drives.{View, Store, storeView, Disk, storeDisk, storeAll}
+use Rattle.spec.specs.Engine.Call.{restart, rebuild}
+use Rattle.spec.specs.Engine.{storeCount, lentBlock, verdict, lentOk, callOn, callDisk}
+use Rattle.spec.specs.History.{endsRun}
+use Rattle.spec.specs.Lists.{isMember, isNil, flat}
+use Rattle.spec.specs.Memory.{Memory, idleState, filledIn}
+use Rattle.spec.specs.Params.{inRange, named, present}
+use Rattle.spec.specs.Rebuild.{namesMissing, rebuildChecks, rebuildStores, rebuildVerdict}
+use Rattle.spec.specs.Restart.{freeZones, dropStores, mendStores, restartStores, restartMemory, rewrites, restartPlan, restartVerdict}
+use Rattle.spec.specs.Segments.{lowDrive, remaining, Segment, segmentOf, segments, recsOn, hasChunk, counts, greatestSerial, unsealed}
+use Rattle.law_basic.specs.Geometry.{Ranged, ranged}
+use Rattle.law_basic.specs.Ranges.{Test, test, and-left, and-right}
+use Rattle.law_basic.specs.Ranges.Test.{yes!, no! }
+use Rattle.law_basic.specs.Stores.{storeAll-append}
+use Rattle.law_views.specs.Views.{Whole, seen, view-stores}
 use Rattle.spec_demands.specs.Layouts.{Remains, foundCounted}
 use Rattle.spec_demands.specs.Tables.{Pending, pendingBy, stillPending, pendingAfter, foundAfter}
-use Rattle.tablesay.specs.Accept.{Accepted}
-use Rattle.tablesay.specs.Checks.{Passes}
-use Rattle.tablesay.specs.Dropping.{drop-roomy, drop-within}
-use Rattle.tablesay.specs.Frame.{Agree, core, same-remaining, same-core}
-use Rattle.tablesay.specs.Idle.{whole-of}
-use Rattle.tablesay.specs.Joins.{roomy-append, within-append}
-use Rattle.tablesay.specs.Losing.{named-in, named-some, low-present}
-use Rattle.tablesay.specs.Members.{In, is-member}
-use Rattle.tablesay.specs.Outcomes.{Ended, ended, refusal-kind, refused-unfinished, cut-unfinished, cut-cut}
-use Rattle.tablesay.specs.Outcomes.Ended.{ended-refused, ended-done, ended-cut}
-use Rattle.tablesay.specs.Range.{capacity-word}
-use Rattle.tablesay.specs.Rebuilding.{rebuild-roomy, rebuild-within, rebuild-agrees}
-use Rattle.tablesay.specs.Restarting.{mended, serials-small}
-use Rattle.tablesay.specs.Run.{flies, Run}
-use Rattle.tablesay.specs.Segs.{remaining-low}
-use Rattle.tablesay.specs.Slots.{none-flies}
-use Rattle.tablesay.specs.Starting.{memory-missing, startChecks, startPlan, Begins, begins}
-use Rattle.tablesay.specs.Tables.{zero-at}
-use Rattle.tablesay.specs.Tests.{clash, or-right, or-true-right, cond-true, cond-false}
-use Rattle.tablesay.specs.Zones.{Shaped, all-fit}
+use Rattle.proof_tables.specs.Accept.{Accepted}
+use Rattle.proof_tables.specs.Checks.{Passes}
+use Rattle.proof_tables.specs.Dropping.{drop-roomy, drop-within}
+use Rattle.proof_tables.specs.Frame.{Agree, core, same-remaining, same-core}
+use Rattle.proof_tables.specs.Idle.{whole-of}
+use Rattle.proof_tables.specs.Joins.{roomy-append, within-append}
+use Rattle.proof_tables.specs.Losing.{named-in, named-some, low-present}
+use Rattle.proof_tables.specs.Members.{In, is-member}
+use Rattle.proof_tables.specs.Outcomes.{Ended, ended, refusal-kind, refused-unfinished, cut-unfinished, cut-cut}
+use Rattle.proof_tables.specs.Outcomes.Ended.{ended-refused, ended-done, ended-cut}
+use Rattle.proof_tables.specs.Range.{capacity-word}
+use Rattle.proof_tables.specs.Rebuilding.{rebuild-roomy, rebuild-within, rebuild-agrees}
+use Rattle.proof_tables.specs.Restarting.{mended, serials-small}
+use Rattle.proof_tables.specs.Run.{flies, Run}
+use Rattle.proof_tables.specs.Segs.{remaining-low}
+use Rattle.proof_tables.specs.Slots.{none-flies}
+use Rattle.proof_tables.specs.Starting.{memory-missing, startChecks, startPlan, Begins, begins}
+use Rattle.proof_tables.specs.Tables.{zero-at}
+use Rattle.proof_tables.specs.Tests.{clash, or-right, or-true-right, cond-true, cond-false}
+use Rattle.proof_tables.specs.Zones.{Shaped, all-fit}
 use Rattle.proof_flights.specs.Flown.{Flights, Found, Flown}
 use Rattle.proof_flights.specs.Idled.{quiet-refused, flown-still, flown-ended}
 use Rattle.proof_flights.specs.Written.{seen-after, flown-of}

@@ -8,35 +8,35 @@ use native.Mathlib.Omega.{arith}
 use borrow.Author.Tests.{eq-eqb, ne-eqb}
 use lib.Dec.{eqb}
 use lib.ListN.{length, getD, length-map}
-use Rattle.defs.specs.declared.Params.{Params}
-use Rattle.defs.specs.Drives.{Chunk, mkChunk, noChunk, Zone, View, zoneAt, pointerAt, Store, storeView, storeAll, zoneOn, sealedIn, dataStored, recordIn, zeroSpare, headerStores, resetStores}
-use Rattle.defs.specs.Drives.Store.{put, reset}
-use Rattle.defs.specs.Layout.{parityDrive, dataDrive, dataPosition, isData, dataDrives, headerBlock, Rec, mkRec, recordBytes, recordOf}
-use Rattle.defs.specs.Lists.{below, keep}
-use Rattle.defs.specs.Params.{dataCount, drivesOf}
-use Rattle.defs.specs.Parity.{Piece, mkPiece, parityRec, parityPiece}
-use Rattle.defs.specs.Restart.{isWhole, renumbered, movedPieces, movedOn, movedStripe, movedStripes, rewriteStores, dropStores}
-use Rattle.defs.specs.Segments.{Segment, segmentOf, segments, offsetOn, counts, counted, storedPiece, storedRec, putPiece, greatestSerial}
-use Rattle.laws.specs.Geometry.{Ranged, parity-drive-lt, position-drive, drive-is-data, data-drive-lt, position-lt}
-use Rattle.laws.specs.Mask.{isIn-empty}
-use Rattle.laws.specs.Ranges.{Test, test, length-below, getD-map-below, map-map}
-use Rattle.laws.specs.Ranges.Test.{yes!, no! }
-use Rattle.laws.specs.Xor.{xorAll-lt}
-use Rattle.tablesay.specs.Accept.{Accepted}
-use Rattle.tablesay.specs.Bounds.{record-low}
-use Rattle.tablesay.specs.Dropping.{drop-empty}
-use Rattle.tablesay.specs.Laid.{record-back}
-use Rattle.tablesay.specs.Members.{map-cong, in-getD, below-in}
-use Rattle.tablesay.specs.Mending.{shaped-a}
-use Rattle.tablesay.specs.Puts.{hits-append, putAt, hits-drives, hits-resets, hits-headers, putAll, puts-new}
-use Rattle.tablesay.specs.Range.{capacity-over}
-use Rattle.tablesay.specs.Reads.{counts-in}
-use Rattle.tablesay.specs.Rebuilding.{counted-low, counted-in, pieceChunk}
-use Rattle.tablesay.specs.Rewriting.{new-pointer, new-stripe, open-now, under! }
-use Rattle.tablesay.specs.Segs.{low-data, seg-is, chunk-at, offset-is, has-chunk}
-use Rattle.tablesay.specs.Tables.{remains}
-use Rattle.tablesay.specs.Tests.{clash, cond-true, cond-false, cond-same, eqb-self}
-use Rattle.tablesay.specs.Zones.{Shaped, hitsAt, zoneStore, hits, zone-after}
+use Rattle.spec.specs.declared.Params.{Params}
+use Rattle.spec.specs.Drives.{Chunk, mkChunk, noChunk, Zone, View, zoneAt, pointerAt, Store, storeView, storeAll, zoneOn, sealedIn, dataStored, recordIn, zeroSpare, headerStores, resetStores}
+use Rattle.spec.specs.Drives.Store.{put, reset}
+use Rattle.spec.specs.Layout.{parityDrive, dataDrive, dataPosition, isData, dataDrives, headerBlock, Rec, mkRec, recordBytes, recordOf}
+use Rattle.spec.specs.Lists.{below, keep}
+use Rattle.spec.specs.Params.{dataCount, drivesOf}
+use Rattle.spec.specs.Parity.{Piece, mkPiece, parityRec, parityPiece}
+use Rattle.spec.specs.Restart.{isWhole, renumbered, movedPieces, movedOn, movedStripe, movedStripes, rewriteStores, dropStores}
+use Rattle.spec.specs.Segments.{Segment, segmentOf, segments, offsetOn, counts, counted, storedPiece, storedRec, putPiece, greatestSerial}
+use Rattle.law_basic.specs.Geometry.{Ranged, parity-drive-lt, position-drive, drive-is-data, data-drive-lt, position-lt}
+use Rattle.law_basic.specs.Mask.{isIn-empty}
+use Rattle.law_basic.specs.Ranges.{Test, test, length-below, getD-map-below, map-map}
+use Rattle.law_basic.specs.Ranges.Test.{yes!, no! }
+use Rattle.law_basic.specs.Xor.{xorAll-lt}
+use Rattle.proof_tables.specs.Accept.{Accepted}
+use Rattle.proof_tables.specs.Bounds.{record-low}
+use Rattle.proof_tables.specs.Dropping.{drop-empty}
+use Rattle.proof_tables.specs.Laid.{record-back}
+use Rattle.proof_tables.specs.Members.{map-cong, in-getD, below-in}
+use Rattle.proof_tables.specs.Mending.{shaped-a}
+use Rattle.proof_tables.specs.Puts.{hits-append, putAt, hits-drives, hits-resets, hits-headers, putAll, puts-new}
+use Rattle.proof_tables.specs.Range.{capacity-over}
+use Rattle.proof_tables.specs.Reads.{counts-in}
+use Rattle.proof_tables.specs.Rebuilding.{counted-low, counted-in, pieceChunk}
+use Rattle.proof_tables.specs.Rewriting.{new-pointer, new-stripe, open-now, under! }
+use Rattle.proof_tables.specs.Segs.{low-data, seg-is, chunk-at, offset-is, has-chunk}
+use Rattle.proof_tables.specs.Tables.{remains}
+use Rattle.proof_tables.specs.Tests.{clash, cond-true, cond-false, cond-same, eqb-self}
+use Rattle.proof_tables.specs.Zones.{Shaped, hitsAt, zoneStore, hits, zone-after}
 use Rattle.proof_flights.specs.LandedPieces.{piece-parts}
 use Rattle.proof_flights.specs.Pieces.{ParityAt}
 

@@ -10,32 +10,32 @@ use native.Mathlib.Omega.{arith}
 use borrow.Author.Tests.{eqb-true, eqb-false, not-true}
 use lib.Dec.{eqb}
 use lib.ListN.{length, getD}
-use Rattle.defs.specs.declared.Params.{Params}
-use Rattle.defs.specs.Counts.{lastCount}
-use Rattle.defs.specs.Drives.{Chunk, noChunk, Zone, View, zoneAt, chunkAt, Store, storeView, storeAll, zoneOn, sealedIn}
-use Rattle.defs.specs.Layout.{headerSerial}
-use Rattle.defs.specs.Lists.{below, any, keep, isNil, flat, firstOr}
-use Rattle.defs.specs.Restart.{freeZones, isWhole, isRagged, missingFooters, rewriteStores, dropStores, mendStores, rewrites}
-use Rattle.defs.specs.Segments.{headerAt, remaining, Segment, segmentOf, segments, counts, counted, greatestSerial, unsealed}
-use Rattle.laws.specs.Geometry.{Ranged}
-use Rattle.laws.specs.Ranges.{Test, test, and-both, length-below, keep-hit, keep-miss, length-keep}
-use Rattle.laws.specs.Ranges.Test.{yes!, no! }
+use Rattle.spec.specs.declared.Params.{Params}
+use Rattle.spec.specs.Counts.{lastCount}
+use Rattle.spec.specs.Drives.{Chunk, noChunk, Zone, View, zoneAt, chunkAt, Store, storeView, storeAll, zoneOn, sealedIn}
+use Rattle.spec.specs.Layout.{headerSerial}
+use Rattle.spec.specs.Lists.{below, any, keep, isNil, flat, firstOr}
+use Rattle.spec.specs.Restart.{freeZones, isWhole, isRagged, missingFooters, rewriteStores, dropStores, mendStores, rewrites}
+use Rattle.spec.specs.Segments.{headerAt, remaining, Segment, segmentOf, segments, counts, counted, greatestSerial, unsealed}
+use Rattle.law_basic.specs.Geometry.{Ranged}
+use Rattle.law_basic.specs.Ranges.{Test, test, and-both, length-below, keep-hit, keep-miss, length-keep}
+use Rattle.law_basic.specs.Ranges.Test.{yes!, no! }
 use Rattle.spec_demands.specs.Layouts.{Remains, foundCounted, ParityMade}
-use Rattle.tablesay.specs.Accept.{Accepted}
-use Rattle.tablesay.specs.Dropping.{free-are, drop-same, drop-used}
-use Rattle.tablesay.specs.Joins.{stores-none}
-use Rattle.tablesay.specs.Members.{In, in-map, in-any, keep-in, in-below, below-in, first-in, is-member, member-is}
-use Rattle.tablesay.specs.Mending.{lack, has-pointer, b-zone, b-other}
-use Rattle.tablesay.specs.Puts.{puts-old}
-use Rattle.tablesay.specs.Rewriting.{same-else, was! }
-use Rattle.tablesay.specs.Run.{usedAt, Tidy}
-use Rattle.tablesay.specs.Segs.{serial-is}
-use Rattle.tablesay.specs.Settled.{low-first, remains-is-used, SameZones, zones-used, zones-segment}
-use Rattle.tablesay.specs.Tables.{remains, in-remaining}
-use Rattle.tablesay.specs.Tests.{clash, eqb-self}
-use Rattle.tablesay.specs.Unsealed.{Loose, loose}
-use Rattle.tablesay.specs.Unsealed.Loose.{loose-none, loose-one}
-use Rattle.tablesay.specs.Zones.{Shaped}
+use Rattle.proof_tables.specs.Accept.{Accepted}
+use Rattle.proof_tables.specs.Dropping.{free-are, drop-same, drop-used}
+use Rattle.proof_tables.specs.Joins.{stores-none}
+use Rattle.proof_tables.specs.Members.{In, in-map, in-any, keep-in, in-below, below-in, first-in, is-member, member-is}
+use Rattle.proof_tables.specs.Mending.{lack, has-pointer, b-zone, b-other}
+use Rattle.proof_tables.specs.Puts.{puts-old}
+use Rattle.proof_tables.specs.Rewriting.{same-else, was! }
+use Rattle.proof_tables.specs.Run.{usedAt, Tidy}
+use Rattle.proof_tables.specs.Segs.{serial-is}
+use Rattle.proof_tables.specs.Settled.{low-first, remains-is-used, SameZones, zones-used, zones-segment}
+use Rattle.proof_tables.specs.Tables.{remains, in-remaining}
+use Rattle.proof_tables.specs.Tests.{clash, eqb-self}
+use Rattle.proof_tables.specs.Unsealed.{Loose, loose}
+use Rattle.proof_tables.specs.Unsealed.Loose.{loose-none, loose-one}
+use Rattle.proof_tables.specs.Zones.{Shaped}
 use Rattle.proof_flights.specs.Pieces.{ParityAt}
 use Rattle.proof_flights.specs.RestartedMoved.{rewritten-made}
 

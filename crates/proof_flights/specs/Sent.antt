@@ -9,30 +9,30 @@ use native.Mathlib.Omega.{arith}
 use borrow.Author.Tests.{leb-false, eq-eqb, eqb-true, eqb-false}
 use lib.Dec.{leb, eqb}
 use lib.ListN.{length}
-use Rattle.defs.specs.declared.Params.{Params}
-use Rattle.defs.specs.declared.State.{State}
-use Rattle.defs.specs.Counts.{lastCount}
-use Rattle.defs.specs.Drives.{Zone, View, zoneAt, pointerAt, Store, storeView, storeAll, segmentNumbers, emptyOnAll, emptyZones, dataStored, headerStores}
-use Rattle.defs.specs.Layout.{dataDrive}
-use Rattle.defs.specs.Lists.{below, any, isNil, firstOr}
-use Rattle.defs.specs.Memory.{slotCount, stripeIn, filledIn, isFree, inFlight, freeSlot, fillingSlot, hasFilling, setOpen, beginStripe, addEntry}
-use Rattle.defs.specs.Params.{dataCount, inflightLen}
-use Rattle.defs.specs.Segments.{Segment, segmentOf, counts}
-use Rattle.defs.specs.Write.{mustOpen, opens, noSerial, otherGroup, mustWait, scarce, placed, Sending, openedBy, slotFor, begunBy, sending}
-use Rattle.laws.specs.Geometry.{Ranged, data-count-low}
-use Rattle.laws.specs.Ranges.{Test, test}
-use Rattle.laws.specs.Ranges.Test.{yes!, no! }
+use Rattle.spec.specs.declared.Params.{Params}
+use Rattle.spec.specs.declared.State.{State}
+use Rattle.spec.specs.Counts.{lastCount}
+use Rattle.spec.specs.Drives.{Zone, View, zoneAt, pointerAt, Store, storeView, storeAll, segmentNumbers, emptyOnAll, emptyZones, dataStored, headerStores}
+use Rattle.spec.specs.Layout.{dataDrive}
+use Rattle.spec.specs.Lists.{below, any, isNil, firstOr}
+use Rattle.spec.specs.Memory.{slotCount, stripeIn, filledIn, isFree, inFlight, freeSlot, fillingSlot, hasFilling, setOpen, beginStripe, addEntry}
+use Rattle.spec.specs.Params.{dataCount, inflightLen}
+use Rattle.spec.specs.Segments.{Segment, segmentOf, counts}
+use Rattle.spec.specs.Write.{mustOpen, opens, noSerial, otherGroup, mustWait, scarce, placed, Sending, openedBy, slotFor, begunBy, sending}
+use Rattle.law_basic.specs.Geometry.{Ranged, data-count-low}
+use Rattle.law_basic.specs.Ranges.{Test, test}
+use Rattle.law_basic.specs.Ranges.Test.{yes!, no! }
 use Rattle.spec_demands.specs.Layouts.{Remains, ParityMade}
 use Rattle.spec_demands.specs.Tables.{Pending}
-use Rattle.tablesay.specs.Heading.{header-other, header-pointer, empty-all, head-tidy}
-use Rattle.tablesay.specs.Idle.{StateOk}
-use Rattle.tablesay.specs.Members.{In, keep-in, below-in, first-in, in-some}
-use Rattle.tablesay.specs.Run.{flies, Lists, Healthy}
-use Rattle.tablesay.specs.Sending.{filling-slot, free-slot, in-flight}
-use Rattle.tablesay.specs.Settled.{SameZones, zones-used}
-use Rattle.tablesay.specs.Slots.{begin-number, begin-number-other, begin-filled, begin-filled-other, begin-lists, free-is}
-use Rattle.tablesay.specs.Tests.{clash, or-left, or-right, or-cases, or-true-right, not-so}
-use Rattle.tablesay.specs.Zones.{Shaped}
+use Rattle.proof_tables.specs.Heading.{header-other, header-pointer, empty-all, head-tidy}
+use Rattle.proof_tables.specs.Idle.{StateOk}
+use Rattle.proof_tables.specs.Members.{In, keep-in, below-in, first-in, in-some}
+use Rattle.proof_tables.specs.Run.{flies, Lists, Healthy}
+use Rattle.proof_tables.specs.Sending.{filling-slot, free-slot, in-flight}
+use Rattle.proof_tables.specs.Settled.{SameZones, zones-used}
+use Rattle.proof_tables.specs.Slots.{begin-number, begin-number-other, begin-filled, begin-filled-other, begin-lists, free-is}
+use Rattle.proof_tables.specs.Tests.{clash, or-left, or-right, or-cases, or-true-right, not-so}
+use Rattle.proof_tables.specs.Zones.{Shaped}
 use Rattle.proof_flights.specs.Eighths.{freshly, plus}
 use Rattle.proof_flights.specs.Flocks.{Flock, open-of, flock-of, of-flock, flock-busy, flock-bare, bare-flock, flock-begin, flock-add, flies-add, flies-stay}
 use Rattle.proof_flights.specs.Flown.{Flights}

@@ -8,36 +8,36 @@ use native.Mathlib.Omega.{arith}
 use borrow.Author.Tests.{not-false}
 use lib.Dec.{eqb}
 use lib.ListN.{length, replicate, length-replicate}
-use Rattle.defs.specs.declared.Params.{Params}
-use Rattle.defs.specs.declared.State.{State}
-use Rattle.defs.specs.declared.Answer.{Answer}
-use Rattle.defs.specs.declared.Answer.the-variants.{Closed}
-use Rattle.defs.specs.Answers.{kind, isCut}
-use Rattle.defs.specs.Calls.{Check}
-use Rattle.defs.specs.Calls.Check.{rule, zones}
-use Rattle.defs.specs.Closing.{padded, closeChecks, closePlan, closeVerdict}
-use Rattle.defs.specs.Counts.{paddingAddress}
-use Rattle.defs.specs.Drives.{View, Disk, storeDisk, storeAll}
-use Rattle.defs.specs.Engine.{storeCount, lentBlock, verdict, lentOk, callOn, callDisk}
-use Rattle.defs.specs.Engine.Call.{close}
-use Rattle.defs.specs.Lists.{isNil}
-use Rattle.defs.specs.Memory.{Memory, mkMemory, stripeIn, filledIn, fillingSlot, hasFilling, stateFaults, addEntry}
-use Rattle.defs.specs.Params.{dataCount, inRange, inflightLen}
-use Rattle.defs.specs.Reclaim.{tableFaults, victim, idle}
-use Rattle.defs.specs.Segments.{Segment}
-use Rattle.defs.specs.Write.{scarce, placed}
-use Rattle.laws.specs.Geometry.{Ranged, ranged}
+use Rattle.spec.specs.declared.Params.{Params}
+use Rattle.spec.specs.declared.State.{State}
+use Rattle.spec.specs.declared.Answer.{Answer}
+use Rattle.spec.specs.declared.Answer.the-variants.{Closed}
+use Rattle.spec.specs.Answers.{kind, isCut}
+use Rattle.spec.specs.Calls.{Check}
+use Rattle.spec.specs.Calls.Check.{rule, zones}
+use Rattle.spec.specs.Closing.{padded, closeChecks, closePlan, closeVerdict}
+use Rattle.spec.specs.Counts.{paddingAddress}
+use Rattle.spec.specs.Drives.{View, Disk, storeDisk, storeAll}
+use Rattle.spec.specs.Engine.{storeCount, lentBlock, verdict, lentOk, callOn, callDisk}
+use Rattle.spec.specs.Engine.Call.{close}
+use Rattle.spec.specs.Lists.{isNil}
+use Rattle.spec.specs.Memory.{Memory, mkMemory, stripeIn, filledIn, fillingSlot, hasFilling, stateFaults, addEntry}
+use Rattle.spec.specs.Params.{dataCount, inRange, inflightLen}
+use Rattle.spec.specs.Reclaim.{tableFaults, victim, idle}
+use Rattle.spec.specs.Segments.{Segment}
+use Rattle.spec.specs.Write.{scarce, placed}
+use Rattle.law_basic.specs.Geometry.{Ranged, ranged}
 use Rattle.spec_demands.specs.Tables.{Pending, pendingAfter}
-use Rattle.tablesay.specs.Checks.{Passes}
-use Rattle.tablesay.specs.Filling.{placed-long}
-use Rattle.tablesay.specs.Going.{buffer-long}
-use Rattle.tablesay.specs.Idle.{state-of}
-use Rattle.tablesay.specs.Outcomes.{ended}
-use Rattle.tablesay.specs.Run.{flies, Lists, Run}
-use Rattle.tablesay.specs.Sending.{filling-slot}
-use Rattle.tablesay.specs.Slots.{add-filled, add-number, add-lists}
-use Rattle.tablesay.specs.Tests.{or-left}
-use Rattle.views.specs.Views.{seen}
+use Rattle.proof_tables.specs.Checks.{Passes}
+use Rattle.proof_tables.specs.Filling.{placed-long}
+use Rattle.proof_tables.specs.Going.{buffer-long}
+use Rattle.proof_tables.specs.Idle.{state-of}
+use Rattle.proof_tables.specs.Outcomes.{ended}
+use Rattle.proof_tables.specs.Run.{flies, Lists, Run}
+use Rattle.proof_tables.specs.Sending.{filling-slot}
+use Rattle.proof_tables.specs.Slots.{add-filled, add-number, add-lists}
+use Rattle.proof_tables.specs.Tests.{or-left}
+use Rattle.law_views.specs.Views.{seen}
 use Rattle.proof_flights.specs.Eighths.{freshly}
 use Rattle.proof_flights.specs.Flocks.{Flock, open-of, none-more, flock-of, of-flock, flock-busy, flock-add, flies-stay}
 use Rattle.proof_flights.specs.Flown.{Flown}

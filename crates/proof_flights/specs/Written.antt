@@ -8,39 +8,39 @@ use native.Mathlib.Omega.{arith}
 use borrow.Author.Tests.{leb-false, eqb-true, eqb-false, not-false}
 use lib.Dec.{leb, eqb}
 use lib.ListN.{length}
-use Rattle.defs.specs.declared.Params.{Params}
-use Rattle.defs.specs.declared.State.{State}
-use Rattle.defs.specs.declared.Answer.{Answer}
-use Rattle.defs.specs.declared.Answer.the-variants.{Sent}
-use Rattle.defs.specs.Answers.{kind, values, isCut, finished}
-use Rattle.defs.specs.Calls.{Check}
-use Rattle.defs.specs.Calls.Check.{rule, zones}
-use Rattle.defs.specs.Counts.{lastCount, aStamp}
-use Rattle.defs.specs.Drives.{View, chunkAt, Store, storeView, Disk, storeDisk, storeAll, zoneOn, emptyZones}
-use Rattle.defs.specs.Lists.{isNil}
-use Rattle.defs.specs.Engine.{storeCount, lentBlock, verdict, lentOk, callOn, callDisk}
-use Rattle.defs.specs.Engine.Call.{write}
-use Rattle.defs.specs.History.{endsRun}
-use Rattle.defs.specs.Memory.{Memory, mkMemory, openSegment, stateFaults, setStamp}
-use Rattle.defs.specs.Params.{inRange}
-use Rattle.defs.specs.Segments.{Segment}
-use Rattle.defs.specs.Write.{opens, noStamp, noSerial, mustWait, scarce, Sending, sending, writeChecks, writePlan, writeVerdict}
-use Rattle.laws.specs.Geometry.{Ranged, ranged}
-use Rattle.runs.specs.Cells.{stamp-same}
+use Rattle.spec.specs.declared.Params.{Params}
+use Rattle.spec.specs.declared.State.{State}
+use Rattle.spec.specs.declared.Answer.{Answer}
+use Rattle.spec.specs.declared.Answer.the-variants.{Sent}
+use Rattle.spec.specs.Answers.{kind, values, isCut, finished}
+use Rattle.spec.specs.Calls.{Check}
+use Rattle.spec.specs.Calls.Check.{rule, zones}
+use Rattle.spec.specs.Counts.{lastCount, aStamp}
+use Rattle.spec.specs.Drives.{View, chunkAt, Store, storeView, Disk, storeDisk, storeAll, zoneOn, emptyZones}
+use Rattle.spec.specs.Lists.{isNil}
+use Rattle.spec.specs.Engine.{storeCount, lentBlock, verdict, lentOk, callOn, callDisk}
+use Rattle.spec.specs.Engine.Call.{write}
+use Rattle.spec.specs.History.{endsRun}
+use Rattle.spec.specs.Memory.{Memory, mkMemory, openSegment, stateFaults, setStamp}
+use Rattle.spec.specs.Params.{inRange}
+use Rattle.spec.specs.Segments.{Segment}
+use Rattle.spec.specs.Write.{opens, noStamp, noSerial, mustWait, scarce, Sending, sending, writeChecks, writePlan, writeVerdict}
+use Rattle.law_basic.specs.Geometry.{Ranged, ranged}
+use Rattle.proof_crash_calls.specs.Cells.{stamp-same}
 use Rattle.spec_demands.specs.Layouts.{ParityMade}
 use Rattle.spec_demands.specs.Tables.{Pending, pendingBy, stillPending, pendingAfter}
-use Rattle.tablesay.specs.Checks.{Passes}
-use Rattle.tablesay.specs.Going.{address-small, buffer-long}
-use Rattle.tablesay.specs.Idle.{StateOk, state-of, whole-of}
-use Rattle.tablesay.specs.Losing.{named-some}
-use Rattle.tablesay.specs.Members.{In}
-use Rattle.tablesay.specs.Outcomes.{ended}
-use Rattle.tablesay.specs.Range.{capacity-word}
-use Rattle.tablesay.specs.Run.{Healthy, Well, Run}
-use Rattle.tablesay.specs.Sending.{sends}
-use Rattle.tablesay.specs.Tests.{clash, or-left, or-right}
-use Rattle.tablesay.specs.Zones.{Within, Roomy, all-fit}
-use Rattle.views.specs.Views.{seen, view-stores}
+use Rattle.proof_tables.specs.Checks.{Passes}
+use Rattle.proof_tables.specs.Going.{address-small, buffer-long}
+use Rattle.proof_tables.specs.Idle.{StateOk, state-of, whole-of}
+use Rattle.proof_tables.specs.Losing.{named-some}
+use Rattle.proof_tables.specs.Members.{In}
+use Rattle.proof_tables.specs.Outcomes.{ended}
+use Rattle.proof_tables.specs.Range.{capacity-word}
+use Rattle.proof_tables.specs.Run.{Healthy, Well, Run}
+use Rattle.proof_tables.specs.Sending.{sends}
+use Rattle.proof_tables.specs.Tests.{clash, or-left, or-right}
+use Rattle.proof_tables.specs.Zones.{Within, Roomy, all-fit}
+use Rattle.law_views.specs.Views.{seen, view-stores}
 use Rattle.proof_flights.specs.Eighths.{plus}
 use Rattle.proof_flights.specs.Flocks.{flock-of, of-flock, flock-same}
 use Rattle.proof_flights.specs.Flown.{Flights, Flown}

@@ -8,57 +8,57 @@ use borrow.Author.Tests.{ne-eqb, eq-eqb, leb-false, ltb-true, eqb-true, eqb-fals
 use native.Mathlib.Omega.{arith}
 use lib.Dec.{ltb, eqb}
 use lib.ListN.{length, replicate}
-use Rattle.defs.specs.declared.Params.{Params}
-use Rattle.defs.specs.declared.State.{State}
-use Rattle.defs.specs.declared.Answer.the-variants.{Rebuilt}
-use Rattle.defs.specs.Answers.{isCut}
-use Rattle.defs.specs.Calls.{Check, Plan, mkPlan, After}
-use Rattle.defs.specs.Calls.Check.{rule}
-use Rattle.defs.specs.Closing.{padded, closeChecks, closePlan, closeVerdict}
-use Rattle.defs.specs.Counts.{paddingAddress, lastCount}
-use Rattle.defs.specs.Drives.{Zone, View, zoneAt, pointerAt, chunkAt, Store, storeView, Disk, storeDisk, storeAll}
-use Rattle.defs.specs.Drives.{segmentNumbers, zoneOn, placeSegment, emptyOnAll, emptyZones, sealedIn, recordAt, headerStores, resetStores}
-use Rattle.defs.specs.Drives.Store.{put}
-use Rattle.defs.specs.Engine.{storeCount, lentBlock, verdict, lentOk, callOn, callDisk}
-use Rattle.defs.specs.Engine.Call.{write, land, close, reclaim, read, fill, rebuild}
-use Rattle.defs.specs.Landing.{slotOf, waiting, completes, seals, flightRec, landChecks, sealStores, landStore, landPlan, landVerdict}
-use Rattle.defs.specs.Layout.{Rec, recordBytes}
-use Rattle.defs.specs.Lists.{Opt, below, isNil, firstOr}
-use Rattle.defs.specs.Memory.{Memory, filledIn, openSegment, freeSlot, fillingSlot, hasFilling, inFlight, setStamp, setOpen, setClosed, beginStripe, addEntry, markLanded, freeStripe, slotBlock}
-use Rattle.defs.specs.Params.{dataCount, inRange, placeBlock, placeZone, placeDrive, named, present}
-use Rattle.defs.specs.Rebuild.{namesMissing, rebuildChecks, rebuildStores, rebuildVerdict}
-use Rattle.defs.specs.Reclaim.{Victim, victim, isNone, victimSegment, victimLive, idle, reclaimChecks, resetPlan, copyPlan, reclaimVerdict}
-use Rattle.defs.specs.Segments.{lowDrive, remaining, Segment, segmentOf, segments}
-use Rattle.defs.specs.Write.{opens, noStamp, noSerial, scarce, placed, sending, openedBy, begunBy, writeChecks, writePlan, writeVerdict}
-use Rattle.laws.specs.Geometry.{Ranged, ranged}
-use Rattle.laws.specs.Ranges.{Test, test, and-left, and-right}
-use Rattle.laws.specs.Ranges.Test.{yes!, no! }
-use Rattle.laws.specs.Stores.{storeAll-append}
-use Rattle.tablesay.specs.Checks.{Passes}
-use Rattle.tablesay.specs.Chunks.{chunk-roomy, all-behind, open-after}
-use Rattle.tablesay.specs.Filling.{block-long! }
-use Rattle.tablesay.specs.Frame.{Agree, same-remaining, same-sealed, same-core, core}
-use Rattle.tablesay.specs.Going.{buffer-long}
-use Rattle.tablesay.specs.Heading.{header-roomy, header-within, empty-all}
-use Rattle.tablesay.specs.Idle.{StateOk, state-of, whole-of}
-use Rattle.tablesay.specs.Joins.{roomy-append, within-append, roomy-none, stores-none}
-use Rattle.tablesay.specs.Landings.{Waits, waits}
-use Rattle.tablesay.specs.Losing.{named-in, named-some, low-present, named-same}
-use Rattle.tablesay.specs.Members.{In, keep-in, below-in, first-in}
-use Rattle.tablesay.specs.Outcomes.{Ended, ended, cut-cut}
-use Rattle.tablesay.specs.Outcomes.Ended.{ended-refused, ended-done, ended-cut}
-use Rattle.tablesay.specs.Range.{capacity-word}
-use Rattle.tablesay.specs.Reading.{read-idle, fill-idle}
-use Rattle.tablesay.specs.Rebuilding.{rebuild-roomy, rebuild-within, rebuild-agrees}
-use Rattle.tablesay.specs.Reclaiming.{taken}
-use Rattle.tablesay.specs.Resetting.{reset-roomy, reset-within}
-use Rattle.tablesay.specs.Run.{usedAt, Lost, Tidy, Healthy, Well, Run}
-use Rattle.tablesay.specs.Sealing.{seal-roomy, seal-within}
-use Rattle.tablesay.specs.Segs.{remaining-low}
-use Rattle.tablesay.specs.Tests.{clash, or-left, or-right, cond-true, cond-false}
-use Rattle.tablesay.specs.Theorem.{stepped}
-use Rattle.tablesay.specs.Zones.{Shaped, Within, Roomy, all-fit, shaped-after}
-use Rattle.views.specs.Views.{Whole, seen, view-stores}
+use Rattle.spec.specs.declared.Params.{Params}
+use Rattle.spec.specs.declared.State.{State}
+use Rattle.spec.specs.declared.Answer.the-variants.{Rebuilt}
+use Rattle.spec.specs.Answers.{isCut}
+use Rattle.spec.specs.Calls.{Check, Plan, mkPlan, After}
+use Rattle.spec.specs.Calls.Check.{rule}
+use Rattle.spec.specs.Closing.{padded, closeChecks, closePlan, closeVerdict}
+use Rattle.spec.specs.Counts.{paddingAddress, lastCount}
+use Rattle.spec.specs.Drives.{Zone, View, zoneAt, pointerAt, chunkAt, Store, storeView, Disk, storeDisk, storeAll}
+use Rattle.spec.specs.Drives.{segmentNumbers, zoneOn, placeSegment, emptyOnAll, emptyZones, sealedIn, recordAt, headerStores, resetStores}
+use Rattle.spec.specs.Drives.Store.{put}
+use Rattle.spec.specs.Engine.{storeCount, lentBlock, verdict, lentOk, callOn, callDisk}
+use Rattle.spec.specs.Engine.Call.{write, land, close, reclaim, read, fill, rebuild}
+use Rattle.spec.specs.Landing.{slotOf, waiting, completes, seals, flightRec, landChecks, sealStores, landStore, landPlan, landVerdict}
+use Rattle.spec.specs.Layout.{Rec, recordBytes}
+use Rattle.spec.specs.Lists.{Opt, below, isNil, firstOr}
+use Rattle.spec.specs.Memory.{Memory, filledIn, openSegment, freeSlot, fillingSlot, hasFilling, inFlight, setStamp, setOpen, setClosed, beginStripe, addEntry, markLanded, freeStripe, slotBlock}
+use Rattle.spec.specs.Params.{dataCount, inRange, placeBlock, placeZone, placeDrive, named, present}
+use Rattle.spec.specs.Rebuild.{namesMissing, rebuildChecks, rebuildStores, rebuildVerdict}
+use Rattle.spec.specs.Reclaim.{Victim, victim, isNone, victimSegment, victimLive, idle, reclaimChecks, resetPlan, copyPlan, reclaimVerdict}
+use Rattle.spec.specs.Segments.{lowDrive, remaining, Segment, segmentOf, segments}
+use Rattle.spec.specs.Write.{opens, noStamp, noSerial, scarce, placed, sending, openedBy, begunBy, writeChecks, writePlan, writeVerdict}
+use Rattle.law_basic.specs.Geometry.{Ranged, ranged}
+use Rattle.law_basic.specs.Ranges.{Test, test, and-left, and-right}
+use Rattle.law_basic.specs.Ranges.Test.{yes!, no! }
+use Rattle.law_basic.specs.Stores.{storeAll-append}
+use Rattle.proof_tables.specs.Checks.{Passes}
+use Rattle.proof_tables.specs.Chunks.{chunk-roomy, all-behind, open-after}
+use Rattle.proof_tables.specs.Filling.{block-long! }
+use Rattle.proof_tables.specs.Frame.{Agree, same-remaining, same-sealed, same-core, core}
+use Rattle.proof_tables.specs.Going.{buffer-long}
+use Rattle.proof_tables.specs.Heading.{header-roomy, header-within, empty-all}
+use Rattle.proof_tables.specs.Idle.{StateOk, state-of, whole-of}
+use Rattle.proof_tables.specs.Joins.{roomy-append, within-append, roomy-none, stores-none}
+use Rattle.proof_tables.specs.Landings.{Waits, waits}
+use Rattle.proof_tables.specs.Losing.{named-in, named-some, low-present, named-same}
+use Rattle.proof_tables.specs.Members.{In, keep-in, below-in, first-in}
+use Rattle.proof_tables.specs.Outcomes.{Ended, ended, cut-cut}
+use Rattle.proof_tables.specs.Outcomes.Ended.{ended-refused, ended-done, ended-cut}
+use Rattle.proof_tables.specs.Range.{capacity-word}
+use Rattle.proof_tables.specs.Reading.{read-idle, fill-idle}
+use Rattle.proof_tables.specs.Rebuilding.{rebuild-roomy, rebuild-within, rebuild-agrees}
+use Rattle.proof_tables.specs.Reclaiming.{taken}
+use Rattle.proof_tables.specs.Resetting.{reset-roomy, reset-within}
+use Rattle.proof_tables.specs.Run.{usedAt, Lost, Tidy, Healthy, Well, Run}
+use Rattle.proof_tables.specs.Sealing.{seal-roomy, seal-within}
+use Rattle.proof_tables.specs.Segs.{remaining-low}
+use Rattle.proof_tables.specs.Tests.{clash, or-left, or-right, cond-true, cond-false}
+use Rattle.proof_tables.specs.Theorem.{stepped}
+use Rattle.proof_tables.specs.Zones.{Shaped, Within, Roomy, all-fit, shaped-after}
+use Rattle.law_views.specs.Views.{Whole, seen, view-stores}
 use Rattle.proof_layout.specs.Laid.{Laid, ZoneLaid, Zoned, WellLaid, laid-zoned, laid-accepted, laid-tidy, tidy-laid}
 use Rattle.proof_layout.specs.Segments.{opened-laid, reset-laid, chunk-laid, seal-laid}
 

@@ -10,26 +10,26 @@ use native.Mathlib.Omega.{arith}
 use lib.Dec.{eqb}
 use lib.ListN.{length, getD, take, drop}
 use lib.Seq.{getD-take, getD-drop}
-use Rattle.defs.specs.declared.Params.{Params}
-use Rattle.defs.specs.Drives.{Chunk, mkChunk, noChunk, Zone, noZone, View, zoneAt, pointerAt, chunkAt, zoneOn, sealedIn, dataStored, blocksOf, sparesOf, recordIn, recordAt, footersOf, zeroSpare}
-use Rattle.defs.specs.Faults.{sameChunk, headerFault, twice, footersStored, sameBlocks, footerFaultIn, footerFault}
-use Rattle.defs.specs.Layout.{inGroupOf, headerBlock, headerSerial, headerCopied, Rec, mkRec, footerBlock}
-use Rattle.defs.specs.Lists.{upFrom, any, sameList, isIn}
-use Rattle.defs.specs.Params.{capacity, present}
-use Rattle.defs.specs.Segments.{headerAt, remaining, Segment, recordsIn, segmentOf, segments}
-use Rattle.laws.specs.Geometry.{Ranged}
-use Rattle.laws.specs.Mask.{isIn-empty}
-use Rattle.laws.specs.Ranges.{Test, test, and-left, and-right, and-both, length-upFrom, getD-upFrom, getD-map, sameList-true}
-use Rattle.laws.specs.Ranges.Test.{yes!, no! }
+use Rattle.spec.specs.declared.Params.{Params}
+use Rattle.spec.specs.Drives.{Chunk, mkChunk, noChunk, Zone, noZone, View, zoneAt, pointerAt, chunkAt, zoneOn, sealedIn, dataStored, blocksOf, sparesOf, recordIn, recordAt, footersOf, zeroSpare}
+use Rattle.spec.specs.Faults.{sameChunk, headerFault, twice, footersStored, sameBlocks, footerFaultIn, footerFault}
+use Rattle.spec.specs.Layout.{inGroupOf, headerBlock, headerSerial, headerCopied, Rec, mkRec, footerBlock}
+use Rattle.spec.specs.Lists.{upFrom, any, sameList, isIn}
+use Rattle.spec.specs.Params.{capacity, present}
+use Rattle.spec.specs.Segments.{headerAt, remaining, Segment, recordsIn, segmentOf, segments}
+use Rattle.law_basic.specs.Geometry.{Ranged}
+use Rattle.law_basic.specs.Mask.{isIn-empty}
+use Rattle.law_basic.specs.Ranges.{Test, test, and-left, and-right, and-both, length-upFrom, getD-upFrom, getD-map, sameList-true}
+use Rattle.law_basic.specs.Ranges.Test.{yes!, no! }
 use Rattle.spec_demands.specs.Layouts.{Here, Remains, foundSealed, ParityMade, Layout}
-use Rattle.tablesay.specs.Accept.{Accepted, pointer-ok, faults-apart, zone-stripes, in-groups, copied-low, serials-differ}
-use Rattle.tablesay.specs.Bounds.{blocks-at}
-use Rattle.tablesay.specs.Members.{In, in-map, in-any, none-in, in-getD, is-member, member-is}
-use Rattle.tablesay.specs.Run.{usedAt, Tidy}
-use Rattle.tablesay.specs.Sealing.{sparesIn}
-use Rattle.tablesay.specs.Segs.{in-present, length-records, record-at, zone-by, seg-is, copied-is, full-is}
-use Rattle.tablesay.specs.Settled.{low-first, used-remains, remains-is-used, serial-of, SameZones, zones-sealed, zones-header}
-use Rattle.tablesay.specs.Tests.{clash, true-false, or-left, or-right, eqb-self}
+use Rattle.proof_tables.specs.Accept.{Accepted, pointer-ok, faults-apart, zone-stripes, in-groups, copied-low, serials-differ}
+use Rattle.proof_tables.specs.Bounds.{blocks-at}
+use Rattle.proof_tables.specs.Members.{In, in-map, in-any, none-in, in-getD, is-member, member-is}
+use Rattle.proof_tables.specs.Run.{usedAt, Tidy}
+use Rattle.proof_tables.specs.Sealing.{sparesIn}
+use Rattle.proof_tables.specs.Segs.{in-present, length-records, record-at, zone-by, seg-is, copied-is, full-is}
+use Rattle.proof_tables.specs.Settled.{low-first, used-remains, remains-is-used, serial-of, SameZones, zones-sealed, zones-header}
+use Rattle.proof_tables.specs.Tests.{clash, true-false, or-left, or-right, eqb-self}
 
 -- 01, What a zone holds: all of the layout but the parity
 pub record Laid (p : Params) (v : View) (gone : ℕ) (old : List Segment) : Type 0 where

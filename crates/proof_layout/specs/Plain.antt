@@ -5,28 +5,28 @@ use mathlib.Core.Bool.{false, cond}
 use mathlib.Core.Logic.{inl, inr}
 use Prim.Native.Nat.{ℕ}
 use native.Mathlib.Omega.{arith}
-use Rattle.defs.specs.declared.Params.{Params}
-use Rattle.defs.specs.Demands.{saidBlock, saidAt}
-use Rattle.defs.specs.Drives.{View, zoneAt, zoneOn, placeSegment, sealedIn, recordIn, recordAt}
-use Rattle.defs.specs.History.Seen.{unwritten, got}
-use Rattle.defs.specs.Layout.{dataDrive, dataPosition}
-use Rattle.defs.specs.Lists.{Opt, isIn}
-use Rattle.defs.specs.Lists.Opt.{none, some}
-use Rattle.defs.specs.Params.{placeZone}
-use Rattle.defs.specs.Rank.{Cand, beats, better, best, candsOf}
-use Rattle.defs.specs.Segments.{remaining, segmentOf, segments, offsetOn, pieceOf, candOf, candidates}
-use Rattle.laws.specs.Geometry.{Ranged, ranged, drive-is-data, data-drive-lt, drive-position, position-lt}
-use Rattle.laws.specs.Ranges.{Test, test}
-use Rattle.laws.specs.Ranges.Test.{yes!, no! }
+use Rattle.spec.specs.declared.Params.{Params}
+use Rattle.spec.specs.Demands.{saidBlock, saidAt}
+use Rattle.spec.specs.Drives.{View, zoneAt, zoneOn, placeSegment, sealedIn, recordIn, recordAt}
+use Rattle.spec.specs.History.Seen.{unwritten, got}
+use Rattle.spec.specs.Layout.{dataDrive, dataPosition}
+use Rattle.spec.specs.Lists.{Opt, isIn}
+use Rattle.spec.specs.Lists.Opt.{none, some}
+use Rattle.spec.specs.Params.{placeZone}
+use Rattle.spec.specs.Rank.{Cand, beats, better, best, candsOf}
+use Rattle.spec.specs.Segments.{remaining, segmentOf, segments, offsetOn, pieceOf, candOf, candidates}
+use Rattle.law_basic.specs.Geometry.{Ranged, ranged, drive-is-data, data-drive-lt, drive-position, position-lt}
+use Rattle.law_basic.specs.Ranges.{Test, test}
+use Rattle.law_basic.specs.Ranges.Test.{yes!, no! }
 use Rattle.spec_demands.specs.Latest.{Recorded, Latest, SaidIsLatest}
 use Rattle.spec_demands.specs.Latest.Latest.{never, latest}
-use Rattle.tablesay.specs.Base.{cand-zone, offset-here, offset-away, its-chunk}
-use Rattle.tablesay.specs.Members.{In, is-member, member-is}
-use Rattle.tablesay.specs.Ranks.{Beats, Tied, beats-yes, yes-beats, beats-trans, beats-self, tied-of, best-in, of-at}
-use Rattle.tablesay.specs.Ranks.Beats.{by-stamp, by-serial, by-drive, by-offset}
-use Rattle.tablesay.specs.Reads.{Spot, spot-of}
-use Rattle.tablesay.specs.Segs.{CandAt, cand-at, at-cand}
-use Rattle.tablesay.specs.Tests.{clash, not-so, cond-true, cond-false}
+use Rattle.proof_tables.specs.Base.{cand-zone, offset-here, offset-away, its-chunk}
+use Rattle.proof_tables.specs.Members.{In, is-member, member-is}
+use Rattle.proof_tables.specs.Ranks.{Beats, Tied, beats-yes, yes-beats, beats-trans, beats-self, tied-of, best-in, of-at}
+use Rattle.proof_tables.specs.Ranks.Beats.{by-stamp, by-serial, by-drive, by-offset}
+use Rattle.proof_tables.specs.Reads.{Spot, spot-of}
+use Rattle.proof_tables.specs.Segs.{CandAt, cand-at, at-cand}
+use Rattle.proof_tables.specs.Tests.{clash, not-so, cond-true, cond-false}
 
 -- ---- the rule
 

@@ -9,54 +9,54 @@ use borrow.Author.Tests.{eq-eqb, eqb-false, not-true}
 use native.Mathlib.Omega.{arith}
 use lib.Dec.{eqb}
 use lib.ListN.{length, getD}
-use Rattle.defs.specs.declared.Params.{Params}
-use Rattle.defs.specs.declared.Answer.the-variants.{Restarted}
-use Rattle.defs.specs.Answers.{kind, isCut, finished}
-use Rattle.defs.specs.Calls.{After}
-use Rattle.defs.specs.Counts.{lastCount}
-use Rattle.defs.specs.Drives.{Chunk, noChunk, Zone, View, zoneAt, pointerAt, chunkAt, Store, storeView, Disk, storeDisk, storeAll, zoneOn, sealedIn}
-use Rattle.defs.specs.Engine.{callDisk}
-use Rattle.defs.specs.Engine.Call.{restart}
-use Rattle.defs.specs.Faults.{footersStored}
-use Rattle.defs.specs.History.{mkWorld}
-use Rattle.defs.specs.Layout.{headerBlock, headerSerial, headerCopied}
-use Rattle.defs.specs.Lists.{below, all, any, keep, tally, isNil, flat, total, firstOr}
-use Rattle.defs.specs.Memory.{Memory}
-use Rattle.defs.specs.Params.{capacity, named, present}
-use Rattle.defs.specs.Restart.{freeZones, isWhole, isRagged, missingFooters, rewriteStores, dropStores, mendStores, restartStores, uncountedIn, reportOf, rewrites, restartPlan}
-use Rattle.defs.specs.Segments.{lowDrive, headerAt, remaining, Segment, segmentOf, segments, counts, counted, uncounted, greatestSerial, unsealed}
-use Rattle.laws.specs.Geometry.{Ranged, ranged}
-use Rattle.laws.specs.Mask.{isIn-empty}
-use Rattle.laws.specs.Ranges.{Test, test, map-map}
-use Rattle.laws.specs.Ranges.Test.{yes!, no! }
-use Rattle.laws.specs.Stores.{storeAll-append}
+use Rattle.spec.specs.declared.Params.{Params}
+use Rattle.spec.specs.declared.Answer.the-variants.{Restarted}
+use Rattle.spec.specs.Answers.{kind, isCut, finished}
+use Rattle.spec.specs.Calls.{After}
+use Rattle.spec.specs.Counts.{lastCount}
+use Rattle.spec.specs.Drives.{Chunk, noChunk, Zone, View, zoneAt, pointerAt, chunkAt, Store, storeView, Disk, storeDisk, storeAll, zoneOn, sealedIn}
+use Rattle.spec.specs.Engine.{callDisk}
+use Rattle.spec.specs.Engine.Call.{restart}
+use Rattle.spec.specs.Faults.{footersStored}
+use Rattle.spec.specs.History.{mkWorld}
+use Rattle.spec.specs.Layout.{headerBlock, headerSerial, headerCopied}
+use Rattle.spec.specs.Lists.{below, all, any, keep, tally, isNil, flat, total, firstOr}
+use Rattle.spec.specs.Memory.{Memory}
+use Rattle.spec.specs.Params.{capacity, named, present}
+use Rattle.spec.specs.Restart.{freeZones, isWhole, isRagged, missingFooters, rewriteStores, dropStores, mendStores, restartStores, uncountedIn, reportOf, rewrites, restartPlan}
+use Rattle.spec.specs.Segments.{lowDrive, headerAt, remaining, Segment, segmentOf, segments, counts, counted, uncounted, greatestSerial, unsealed}
+use Rattle.law_basic.specs.Geometry.{Ranged, ranged}
+use Rattle.law_basic.specs.Mask.{isIn-empty}
+use Rattle.law_basic.specs.Ranges.{Test, test, map-map}
+use Rattle.law_basic.specs.Ranges.Test.{yes!, no! }
+use Rattle.law_basic.specs.Stores.{storeAll-append}
 use Rattle.spec_demands.specs.Engines.{callWorld, onValues, viewIn}
 use Rattle.spec_demands.specs.Tables.{halfStored, uncountedNumber, foundAfter, Restarts}
-use Rattle.tablesay.specs.Accept.{Accepted}
-use Rattle.tablesay.specs.Dropping.{free-are, drop-same, drop-roomy, drop-within, drop-used, kept-known}
-use Rattle.tablesay.specs.Idle.{whole-of}
-use Rattle.tablesay.specs.Joins.{roomy-append, within-append, stores-none}
-use Rattle.tablesay.specs.Laid.{header-serial, header-copied}
-use Rattle.tablesay.specs.Losing.{named-some}
-use Rattle.tablesay.specs.Members.{In, keep-in, in-all, in-any, below-in, first-in}
-use Rattle.tablesay.specs.Mending.{lack, has-pointer, have-few, b-zone, b-other, b-pointer}
-use Rattle.tablesay.specs.Outcomes.{Ended, refusal-kind, refused-unfinished, cut-unfinished, cut-cut}
-use Rattle.tablesay.specs.Outcomes.Ended.{ended-refused, ended-done, ended-cut}
-use Rattle.tablesay.specs.Puts.{puts-old}
-use Rattle.tablesay.specs.Rebuilding.{counted-low}
-use Rattle.tablesay.specs.Restarting.{mended, serials-small, names-none}
-use Rattle.tablesay.specs.Rewriting.{old-pointer, same-else, new-pointer, new-stripe, new-header, open-now}
-use Rattle.tablesay.specs.Run.{usedAt, Run}
-use Rattle.tablesay.specs.Segs.{present-in, data-low, serial-is, copied-is}
-use Rattle.tablesay.specs.Settled.{low-first, zones-used}
-use Rattle.tablesay.specs.Starting.{memory-missing, startChecks, startPlan, Begins, begins}
-use Rattle.tablesay.specs.Tables.{remains, in-remaining}
-use Rattle.tablesay.specs.Tests.{clash, cond-true, cond-false}
-use Rattle.tablesay.specs.Theorem.{restart-ends, restart-finished}
-use Rattle.tablesay.specs.Unsealed.{Loose, loose}
-use Rattle.tablesay.specs.Unsealed.Loose.{loose-none, loose-one}
-use Rattle.tablesay.specs.Zones.{Shaped}
-use Rattle.views.specs.Views.{Whole, seen}
+use Rattle.proof_tables.specs.Accept.{Accepted}
+use Rattle.proof_tables.specs.Dropping.{free-are, drop-same, drop-roomy, drop-within, drop-used, kept-known}
+use Rattle.proof_tables.specs.Idle.{whole-of}
+use Rattle.proof_tables.specs.Joins.{roomy-append, within-append, stores-none}
+use Rattle.proof_tables.specs.Laid.{header-serial, header-copied}
+use Rattle.proof_tables.specs.Losing.{named-some}
+use Rattle.proof_tables.specs.Members.{In, keep-in, in-all, in-any, below-in, first-in}
+use Rattle.proof_tables.specs.Mending.{lack, has-pointer, have-few, b-zone, b-other, b-pointer}
+use Rattle.proof_tables.specs.Outcomes.{Ended, refusal-kind, refused-unfinished, cut-unfinished, cut-cut}
+use Rattle.proof_tables.specs.Outcomes.Ended.{ended-refused, ended-done, ended-cut}
+use Rattle.proof_tables.specs.Puts.{puts-old}
+use Rattle.proof_tables.specs.Rebuilding.{counted-low}
+use Rattle.proof_tables.specs.Restarting.{mended, serials-small, names-none}
+use Rattle.proof_tables.specs.Rewriting.{old-pointer, same-else, new-pointer, new-stripe, new-header, open-now}
+use Rattle.proof_tables.specs.Run.{usedAt, Run}
+use Rattle.proof_tables.specs.Segs.{present-in, data-low, serial-is, copied-is}
+use Rattle.proof_tables.specs.Settled.{low-first, zones-used}
+use Rattle.proof_tables.specs.Starting.{memory-missing, startChecks, startPlan, Begins, begins}
+use Rattle.proof_tables.specs.Tables.{remains, in-remaining}
+use Rattle.proof_tables.specs.Tests.{clash, cond-true, cond-false}
+use Rattle.proof_tables.specs.Theorem.{restart-ends, restart-finished}
+use Rattle.proof_tables.specs.Unsealed.{Loose, loose}
+use Rattle.proof_tables.specs.Unsealed.Loose.{loose-none, loose-one}
+use Rattle.proof_tables.specs.Zones.{Shaped}
+use Rattle.law_views.specs.Views.{Whole, seen}
 use Rattle.proof_layout.specs.Calls.{Keeps, same-keeps, stored-view, run-tidy}
 use Rattle.proof_layout.specs.Laid.{Laid, ZoneLaid, SegLaid, WellLaid, open-footers, checked-footers, accepted-zoned, laid-accepted, laid-tidy, seg-same}
 use Rattle.proof_layout.specs.Segments.{all-but}

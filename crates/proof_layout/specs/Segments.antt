@@ -10,27 +10,27 @@ use borrow.Author.Tests.{eq-eqb, lt-ltb}
 use native.Mathlib.Omega.{arith}
 use lib.Dec.{ltb, eqb, lit<}
 use lib.ListN.{length}
-use Rattle.defs.specs.declared.Params.{Params}
-use Rattle.defs.specs.declared.State.{State}
-use Rattle.defs.specs.Drives.{Zone, View, zoneAt, pointerAt, putZone, storeView, storeAll, sealedIn, headerStores, resetStores}
-use Rattle.defs.specs.Drives.Store.{put}
-use Rattle.defs.specs.Landing.{ready, flightRec, sealStores}
-use Rattle.defs.specs.Layout.{group, inGroupOf, headerBlock, headerSerial, headerCopied, recordBytes}
-use Rattle.defs.specs.Memory.{stripeIn}
-use Rattle.defs.specs.Params.{footers}
-use Rattle.defs.specs.Segments.{headerAt, Segment}
-use Rattle.laws.specs.Geometry.{Ranged}
-use Rattle.laws.specs.Ranges.{and-both}
-use Rattle.tablesay.specs.Chunks.{not-landed, pointer-some, pointer-data, offset-group, stripe-of, chunk-zone, chunk-other, chunk-grows, open-before, open-after}
-use Rattle.tablesay.specs.Heading.{header-zone, header-other, header-block}
-use Rattle.tablesay.specs.Idle.{StateOk}
-use Rattle.tablesay.specs.Laid.{header-serial, header-copied}
-use Rattle.tablesay.specs.Puts.{putAll}
-use Rattle.tablesay.specs.Resetting.{reset-same, reset-was}
-use Rattle.tablesay.specs.Run.{usedAt, flies, Healthy}
-use Rattle.tablesay.specs.Sealing.{footerChunks, seal-zone, seal-other, seal-grows, seal-sealed}
-use Rattle.tablesay.specs.Settled.{SameZones, zones-used}
-use Rattle.tablesay.specs.Zones.{Shaped}
+use Rattle.spec.specs.declared.Params.{Params}
+use Rattle.spec.specs.declared.State.{State}
+use Rattle.spec.specs.Drives.{Zone, View, zoneAt, pointerAt, putZone, storeView, storeAll, sealedIn, headerStores, resetStores}
+use Rattle.spec.specs.Drives.Store.{put}
+use Rattle.spec.specs.Landing.{ready, flightRec, sealStores}
+use Rattle.spec.specs.Layout.{group, inGroupOf, headerBlock, headerSerial, headerCopied, recordBytes}
+use Rattle.spec.specs.Memory.{stripeIn}
+use Rattle.spec.specs.Params.{footers}
+use Rattle.spec.specs.Segments.{headerAt, Segment}
+use Rattle.law_basic.specs.Geometry.{Ranged}
+use Rattle.law_basic.specs.Ranges.{and-both}
+use Rattle.proof_tables.specs.Chunks.{not-landed, pointer-some, pointer-data, offset-group, stripe-of, chunk-zone, chunk-other, chunk-grows, open-before, open-after}
+use Rattle.proof_tables.specs.Heading.{header-zone, header-other, header-block}
+use Rattle.proof_tables.specs.Idle.{StateOk}
+use Rattle.proof_tables.specs.Laid.{header-serial, header-copied}
+use Rattle.proof_tables.specs.Puts.{putAll}
+use Rattle.proof_tables.specs.Resetting.{reset-same, reset-was}
+use Rattle.proof_tables.specs.Run.{usedAt, flies, Healthy}
+use Rattle.proof_tables.specs.Sealing.{footerChunks, seal-zone, seal-other, seal-grows, seal-sealed}
+use Rattle.proof_tables.specs.Settled.{SameZones, zones-used}
+use Rattle.proof_tables.specs.Zones.{Shaped}
 use Rattle.proof_layout.specs.Laid.{ZoneLaid, SegLaid, WellLaid, seg-same}
 use Rattle.proof_layout.specs.Stored.{head-laid, put-laid, mend-laid}
 

@@ -10,22 +10,22 @@ use native.Mathlib.Omega.{arith}
 use lib.Dec.{ltb, eqb}
 use lib.ListN.{length, getD, set, drop}
 use lib.Seq.{ext-getD, getD-set-same, getD-set-other, getD-drop}
-use Rattle.defs.specs.declared.Params.{Params}
-use Rattle.defs.specs.Bytes.{part}
-use Rattle.defs.specs.Drives.{Chunk, mkChunk, noChunk, Zone, putZone, dataStored, blocksOf, recordIn, zeroSpare}
-use Rattle.defs.specs.Faults.{footersStored}
-use Rattle.defs.specs.Layout.{group, inGroupOf, headerBlock, Rec, recordBytes, recordOf, footerBlock, footerRecord}
-use Rattle.defs.specs.Params.{spareLen, perFooter, footers, capacity}
-use Rattle.defs.specs.Segments.{Segment}
-use Rattle.laws.specs.Geometry.{Ranged, per-footer-low, footers-cover}
-use Rattle.laws.specs.Ranges.{and-both}
-use Rattle.tablesay.specs.Bounds.{blocks-at}
-use Rattle.tablesay.specs.Laid.{record-stripe, getD-footer}
-use Rattle.tablesay.specs.Puts.{putAll, puts-pointer, puts-old, puts-new}
-use Rattle.tablesay.specs.Range.{capacity-is, capacity-over}
-use Rattle.tablesay.specs.Sealing.{sparesIn, footerChunks, spares-long, spares-count, spare-at, footers-count, footer-chunk, footer-rooms}
-use Rattle.tablesay.specs.Segs.{data-low, low-data}
-use Rattle.tablesay.specs.Zones.{ZoneOk, room-ok}
+use Rattle.spec.specs.declared.Params.{Params}
+use Rattle.spec.specs.Bytes.{part}
+use Rattle.spec.specs.Drives.{Chunk, mkChunk, noChunk, Zone, putZone, dataStored, blocksOf, recordIn, zeroSpare}
+use Rattle.spec.specs.Faults.{footersStored}
+use Rattle.spec.specs.Layout.{group, inGroupOf, headerBlock, Rec, recordBytes, recordOf, footerBlock, footerRecord}
+use Rattle.spec.specs.Params.{spareLen, perFooter, footers, capacity}
+use Rattle.spec.specs.Segments.{Segment}
+use Rattle.law_basic.specs.Geometry.{Ranged, per-footer-low, footers-cover}
+use Rattle.law_basic.specs.Ranges.{and-both}
+use Rattle.proof_tables.specs.Bounds.{blocks-at}
+use Rattle.proof_tables.specs.Laid.{record-stripe, getD-footer}
+use Rattle.proof_tables.specs.Puts.{putAll, puts-pointer, puts-old, puts-new}
+use Rattle.proof_tables.specs.Range.{capacity-is, capacity-over}
+use Rattle.proof_tables.specs.Sealing.{sparesIn, footerChunks, spares-long, spares-count, spare-at, footers-count, footer-chunk, footer-rooms}
+use Rattle.proof_tables.specs.Segs.{data-low, low-data}
+use Rattle.proof_tables.specs.Zones.{ZoneOk, room-ok}
 use Rattle.proof_layout.specs.Laid.{ZoneLaid}
 
 -- no footers behind the data, or before them

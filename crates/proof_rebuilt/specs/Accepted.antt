@@ -8,26 +8,27 @@ use borrow.Author.Tests.{lt-ltb, le-ltb, eq-eqb, ne-eqb, not-true}
 use native.Mathlib.Omega.{arith}
 use lib.Dec.{leb, ltb, eqb}
 use lib.ListN.{length, getD, length-map}
-use Rattle.defs.specs.declared.Params.{Params}
-use Rattle.defs.specs.Drives.{mkChunk, noChunk, Zone, noZone, View, zoneAt, pointerAt, segmentNumbers, zoneOn, blocksOf, footersOf, zeroSpare}
-use Rattle.defs.specs.Faults.{pointerFaults, sameChunk, headerFault, serialFault, outside, twice, stripeFault, badRec, storedBad, decodedBad, addressFault, footersStored, sameBlocks, footerFaultIn}
-use Rattle.defs.specs.Faults.{footerFault, clashes, segmentFault, segmentFaults}
-use Rattle.defs.specs.Layout.{isData, group, inGroupOf, headerBlock, headerSerial, headerCopied, Rec, mkRec}
-use Rattle.defs.specs.Lists.{upFrom, below, all, any, keep, sameList, tally, isIn}
-use Rattle.defs.specs.Params.{capacity, named, drivesOf, present, absent}
-use Rattle.defs.specs.Segments.{lowDrive, headerAt, leftBy1, isCopy, remaining, Segment, segmentOf, segments, recsOn, counts, counted, recOf, unsealed}
-use Rattle.laws.specs.Geometry.{Ranged}
-use Rattle.laws.specs.Mask.{isIn-empty}
-use Rattle.laws.specs.Ranges.{Test, test, and-left, and-right, and-both, map-map, getD-map, sameList-refl}
-use Rattle.laws.specs.Ranges.Test.{yes!, no! }
-use Rattle.tablesay.specs.Accept.{Accepted, pointer-ok, faults-apart}
-use Rattle.tablesay.specs.Frame.{any-map}
-use Rattle.tablesay.specs.Members.{In, map-in, in-keep, keep-in, all-in, in-all, none-in, in-none, any-in, in-any, keep-cong, map-cong, keep-nothing, keep-map, in-below, below-in, in-getD, getD-in}
-use Rattle.tablesay.specs.Rebuilding.{counted-low, counted-in}
-use Rattle.tablesay.specs.Segs.{present-in, in-present, remaining-low, zone-by, seg-is, serial-is, copied-is}
-use Rattle.tablesay.specs.Settled.{present-all, low-first}
-use Rattle.tablesay.specs.Tables.{remains, remaining-is, in-remaining, remaining-in}
-use Rattle.tablesay.specs.Tests.{clash, and-false-left, and-false-right, or-neither, or-left, or-right, not-so, same-test}
+use Rattle.spec.specs.declared.Params.{Params}
+use Rattle.spec.specs.Drives.{mkChunk, noChunk, Zone, noZone, View, zoneAt, pointerAt, segmentNumbers, zoneOn, blocksOf, footersOf, zeroSpare}
+use Rattle.spec.specs.Faults.{pointerFaults, sameChunk, headerFault, serialFault, outside, twice, stripeFault, badRec, storedBad, decodedBad, addressFault, footersStored, sameBlocks, footerFaultIn}
+use Rattle.spec.specs.Faults.{footerFault, clashes, segmentFault, segmentFaults}
+use Rattle.spec.specs.Layout.{isData, group, inGroupOf, headerBlock, headerSerial, headerCopied, Rec, mkRec}
+use Rattle.spec.specs.Lists.{upFrom, below, all, any, keep, sameList, tally, isIn}
+use Rattle.spec.specs.Params.{capacity, named, drivesOf, present, absent}
+use Rattle.spec.specs.Segments.{lowDrive, headerAt, leftBy1, isCopy, remaining, Segment, segmentOf, segments, recsOn, counts, counted, recOf, unsealed}
+use Rattle.law_basic.specs.Geometry.{Ranged}
+use Rattle.law_basic.specs.Mask.{isIn-empty}
+use Rattle.law_basic.specs.Ranges.{Test, test, and-left, and-right, and-both, map-map, getD-map, sameList-refl}
+use Rattle.law_basic.specs.Ranges.Test.{yes!, no! }
+use Rattle.proof_tables.specs.Accept.{Accepted, pointer-ok, faults-apart}
+use Rattle.proof_tables.specs.Frame.{any-map}
+use Rattle.proof_tables.specs.Members.{In, map-in, in-keep, keep-in, all-in, in-all, none-in, in-none, any-in, in-any, keep-cong, map-cong, keep-nothing}
+use Rattle.proof_tables.specs.Members.{keep-map, in-below, below-in, in-getD, getD-in}
+use Rattle.proof_tables.specs.Rebuilding.{counted-low, counted-in}
+use Rattle.proof_tables.specs.Segs.{present-in, in-present, remaining-low, zone-by, seg-is, serial-is, copied-is}
+use Rattle.proof_tables.specs.Settled.{present-all, low-first}
+use Rattle.proof_tables.specs.Tables.{remains, remaining-is, in-remaining, remaining-in}
+use Rattle.proof_tables.specs.Tests.{clash, and-false-left, and-false-right, or-neither, or-left, or-right, not-so, same-test}
 use Rattle.proof_rebuilt.specs.Groups.{rank-group}
 use Rattle.proof_rebuilt.specs.Numbers.{rank-of}
 use Rattle.proof_rebuilt.specs.Segment.{decoded-stripe, same-full, recs-rebuilt, recs-other, header-of, head-serial, head-copied, same-serial, same-copied}

@@ -6,12 +6,12 @@ use mathlib.Core.Logic.{inl, inr}
 use Prim.Native.Nat.{ℕ}
 use borrow.Author.Tests.{eqb-true}
 use lib.Dec.{ltb, eqb}
-use Rattle.defs.specs.Lists.{Opt, consIf, keep, flat}
-use Rattle.defs.specs.Lists.Opt.{none, some}
-use Rattle.defs.specs.Rank.{Cand, beats, better, best, candsOf}
-use Rattle.laws.specs.Ranges.{Test, test}
-use Rattle.laws.specs.Ranges.Test.{yes!, no! }
-use Rattle.tablesay.specs.Members.{In}
+use Rattle.spec.specs.Lists.{Opt, consIf, keep, flat}
+use Rattle.spec.specs.Lists.Opt.{none, some}
+use Rattle.spec.specs.Rank.{Cand, beats, better, best, candsOf}
+use Rattle.law_basic.specs.Ranges.{Test, test}
+use Rattle.law_basic.specs.Ranges.Test.{yes!, no! }
+use Rattle.proof_tables.specs.Members.{In}
 
 -- one for one
 abbrev pub Alike : (Cand → Cand → Type 0) → List Cand → List Cand → Type 0

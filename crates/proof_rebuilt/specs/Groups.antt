@@ -10,20 +10,20 @@ use lib.Dec.{ltb, eqb}
 use lib.ListN.{length, getD, take, length-map}
 use lib.Seq.{length-take-le, getD-take}
 use lib.Arith.{digits-div}
-use Rattle.defs.specs.declared.Params.{Params}
-use Rattle.defs.specs.Drives.{Zone, View, zoneAt, pointerAt, zoneOn, sealedIn, dataStored, recordIn}
-use Rattle.defs.specs.Layout.{group, inGroupOf, Rec, mkRec}
-use Rattle.defs.specs.Lists.{below, tally, isIn}
-use Rattle.defs.specs.Params.{capacity, present}
-use Rattle.defs.specs.Segments.{remaining, Segment, recordsIn, segmentOf, offsetOn, hasChunk, counts, counted}
-use Rattle.laws.specs.Geometry.{Ranged}
-use Rattle.laws.specs.Ranges.{and-left, and-right, getD-map, length-below, tally-le}
-use Rattle.tablesay.specs.Accept.{Accepted, zone-stripes, in-groups}
-use Rattle.tablesay.specs.Counting.{stripes-different}
-use Rattle.tablesay.specs.Members.{In, in-all, all-in, keep-all, below-in, getD-in}
-use Rattle.tablesay.specs.Range.{capacity-is}
-use Rattle.tablesay.specs.Reads.{counts-in}
-use Rattle.tablesay.specs.Segs.{present-in, in-present, length-records, record-at, chunk-at, has-chunk}
+use Rattle.spec.specs.declared.Params.{Params}
+use Rattle.spec.specs.Drives.{Zone, View, zoneAt, pointerAt, zoneOn, sealedIn, dataStored, recordIn}
+use Rattle.spec.specs.Layout.{group, inGroupOf, Rec, mkRec}
+use Rattle.spec.specs.Lists.{below, tally, isIn}
+use Rattle.spec.specs.Params.{capacity, present}
+use Rattle.spec.specs.Segments.{remaining, Segment, recordsIn, segmentOf, offsetOn, hasChunk, counts, counted}
+use Rattle.law_basic.specs.Geometry.{Ranged}
+use Rattle.law_basic.specs.Ranges.{and-left, and-right, getD-map, length-below, tally-le}
+use Rattle.proof_tables.specs.Accept.{Accepted, zone-stripes, in-groups}
+use Rattle.proof_tables.specs.Counting.{stripes-different}
+use Rattle.proof_tables.specs.Members.{In, in-all, all-in, keep-all, below-in, getD-in}
+use Rattle.proof_tables.specs.Range.{capacity-is}
+use Rattle.proof_tables.specs.Reads.{counts-in}
+use Rattle.proof_tables.specs.Segs.{present-in, in-present, length-records, record-at, chunk-at, has-chunk}
 use Rattle.proof_rebuilt.specs.Numbers.{rank-high, different-take, all-there}
 
 module _ (p : Params) (r : Ranged p) (v : View) (gone : ℕ) (acc : Accepted p v gone) (g : ℕ) (m : In g (remaining p v gone)) where

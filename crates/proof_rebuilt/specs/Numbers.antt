@@ -11,13 +11,13 @@ use native.Mathlib.Omega.{arith}
 use lib.Dec.{ltb}
 use lib.ListN.{length, getD, take, length-append, List·getD-append}
 use lib.Seq.{getD-append-add}
-use Rattle.defs.specs.Lists.{upFrom, below, isMember, consIf, keep, tally}
-use Rattle.laws.specs.Ranges.{Test, test, upFrom-add, keep-append, keep-hit, keep-none, keep-below-snoc, below-none, length-below}
-use Rattle.laws.specs.Ranges.Test.{yes!, no! }
-use Rattle.tablesay.specs.Counting.{Different, different-few}
-use Rattle.tablesay.specs.Laid.{in-take}
-use Rattle.tablesay.specs.Members.{In, keep-all, below-in, is-member, member-is}
-use Rattle.tablesay.specs.Tests.{clash, same-test}
+use Rattle.spec.specs.Lists.{upFrom, below, isMember, consIf, keep, tally}
+use Rattle.law_basic.specs.Ranges.{Test, test, upFrom-add, keep-append, keep-hit, keep-none, keep-below-snoc, below-none, length-below}
+use Rattle.law_basic.specs.Ranges.Test.{yes!, no! }
+use Rattle.proof_tables.specs.Counting.{Different, different-few}
+use Rattle.proof_tables.specs.Laid.{in-take}
+use Rattle.proof_tables.specs.Members.{In, keep-all, below-in, is-member, member-is}
+use Rattle.proof_tables.specs.Tests.{clash, same-test}
 
 -- ---- the place of a number that is kept
 

@@ -5,28 +5,28 @@ use mathlib.Core.Bool.{true, false, cond}
 use Prim.Native.Nat.{ℕ, _<_}
 use native.Mathlib.Decide.{ℕ-discrete}
 use lib.Dec.{ltb}
-use Rattle.defs.specs.declared.Params.{Params}
-use Rattle.defs.specs.Demands.{saidBlock, saidAt}
-use Rattle.defs.specs.Drives.{View, zoneAt, zoneOn, placeSegment, sealedIn, recordIn, recordAt}
-use Rattle.defs.specs.History.Seen.{got}
-use Rattle.defs.specs.Layout.{dataDrive, dataDrives, Rec}
-use Rattle.defs.specs.Lists.{Opt, below, flat, isIn}
-use Rattle.defs.specs.Lists.Opt.{none, some}
-use Rattle.defs.specs.Params.{dataCount, named}
-use Rattle.defs.specs.Parity.{Piece}
-use Rattle.defs.specs.Rank.{Cand, beats, best, candsOf}
-use Rattle.defs.specs.Segments.{remaining, Segment, segmentOf, segments, offsetOn, counts, counted, pieceOf, offsetOf, candOf, segmentCands, candidates}
-use Rattle.laws.specs.Geometry.{Ranged, data-drive-lt}
-use Rattle.laws.specs.Mask.{isIn-empty}
-use Rattle.laws.specs.Ranges.{Test, test}
-use Rattle.laws.specs.Ranges.Test.{yes!, no! }
-use Rattle.tablesay.specs.Accept.{Accepted, serials-differ}
-use Rattle.tablesay.specs.Base.{cand-zone, offset-here, offset-away, its-chunk}
-use Rattle.tablesay.specs.Members.{In, map-in, flat-map, below-in}
-use Rattle.tablesay.specs.Reads.{Spot, spot-of}
-use Rattle.tablesay.specs.Rebuilding.{counted-in}
-use Rattle.tablesay.specs.Segs.{CandAt}
-use Rattle.tablesay.specs.Tests.{cond-true, cond-false}
+use Rattle.spec.specs.declared.Params.{Params}
+use Rattle.spec.specs.Demands.{saidBlock, saidAt}
+use Rattle.spec.specs.Drives.{View, zoneAt, zoneOn, placeSegment, sealedIn, recordIn, recordAt}
+use Rattle.spec.specs.History.Seen.{got}
+use Rattle.spec.specs.Layout.{dataDrive, dataDrives, Rec}
+use Rattle.spec.specs.Lists.{Opt, below, flat, isIn}
+use Rattle.spec.specs.Lists.Opt.{none, some}
+use Rattle.spec.specs.Params.{dataCount, named}
+use Rattle.spec.specs.Parity.{Piece}
+use Rattle.spec.specs.Rank.{Cand, beats, best, candsOf}
+use Rattle.spec.specs.Segments.{remaining, Segment, segmentOf, segments, offsetOn, counts, counted, pieceOf, offsetOf, candOf, segmentCands, candidates}
+use Rattle.law_basic.specs.Geometry.{Ranged, data-drive-lt}
+use Rattle.law_basic.specs.Mask.{isIn-empty}
+use Rattle.law_basic.specs.Ranges.{Test, test}
+use Rattle.law_basic.specs.Ranges.Test.{yes!, no! }
+use Rattle.proof_tables.specs.Accept.{Accepted, serials-differ}
+use Rattle.proof_tables.specs.Base.{cand-zone, offset-here, offset-away, its-chunk}
+use Rattle.proof_tables.specs.Members.{In, map-in, flat-map, below-in}
+use Rattle.proof_tables.specs.Reads.{Spot, spot-of}
+use Rattle.proof_tables.specs.Rebuilding.{counted-in}
+use Rattle.proof_tables.specs.Segs.{CandAt}
+use Rattle.proof_tables.specs.Tests.{cond-true, cond-false}
 use Rattle.proof_rebuilt.specs.Accepted.{same-remaining}
 use Rattle.proof_rebuilt.specs.Alike.{Alike, AlikeOr, alike-map, alike-flat, alike-best, beats-same}
 use Rattle.proof_rebuilt.specs.Numbers.{rank-order}

@@ -10,32 +10,32 @@ use native.Mathlib.Omega.{arith}
 use lib.Dec.{eqb}
 use lib.ListN.{length, getD, drop, length-map}
 use lib.Seq.{ext-getD, getD-drop}
-use Rattle.defs.specs.declared.Params.{Params}
-use Rattle.defs.specs.Bytes.{part, xorAll}
-use Rattle.defs.specs.Drives.{Chunk, mkChunk, noChunk, Zone, noZone, View, zoneAt, pointerAt, chunkAt, zoneOn, sealedIn, dataStored, blocksOf, recordIn, zeroSpare}
-use Rattle.defs.specs.Faults.{sameChunk, headerFault}
-use Rattle.defs.specs.Layout.{headerWidths, headerBlock, headerSerial, headerCopied, Rec, mkRec, recordBytes, recordOf, footerBlock, footerRecord}
-use Rattle.defs.specs.Lists.{below, any, indexOf, sameList, tally, isIn}
-use Rattle.defs.specs.Params.{spareLen, perFooter, footers, capacity, named, present}
-use Rattle.defs.specs.Parity.{Piece, parityRec, parityPiece}
-use Rattle.defs.specs.Segments.{lowDrive, headerAt, remaining, Segment, recordsIn, segmentOf, recsOn, offsetOn, hasChunk, counts, counted, storedPiece, pieceOf, storedRec, recOf}
-use Rattle.laws.specs.Geometry.{Ranged, per-footer-low, footers-cover}
-use Rattle.laws.specs.Mask.{isIn-empty}
-use Rattle.laws.specs.Ranges.{and-left, and-right, map-map, getD-map, getD-map-below, sameList-true}
-use Rattle.laws.specs.Xor.{xorAll-lt}
-use Rattle.tablesay.specs.Accept.{Accepted, faults-apart}
-use Rattle.tablesay.specs.Bounds.{blocks-at, record-low}
-use Rattle.tablesay.specs.Laid.{length-record, Long, getD-footer, field-low, serial-low, header-serial, header-copied, record-back}
-use Rattle.tablesay.specs.Losing.{low-present}
-use Rattle.tablesay.specs.Members.{In, map-in, in-map, in-keep, all-in, in-all, none-in, in-any, keep-cong, in-below, below-in, in-getD, index-is}
-use Rattle.tablesay.specs.Range.{capacity-is, capacity-over}
-use Rattle.tablesay.specs.Reads.{counts-in}
-use Rattle.tablesay.specs.Rebuilding.{counted-in, pieceChunk}
-use Rattle.tablesay.specs.Segs.{present-in, in-present, zone-by, recs-here, seg-is, serial-is, copied-is, full-is, chunk-at, length-records}
-use Rattle.tablesay.specs.Settled.{present-all, low-first}
-use Rattle.tablesay.specs.Tables.{remains, remaining-in}
-use Rattle.tablesay.specs.Tests.{same-test}
-use Rattle.tablesay.specs.Zones.{Bytes}
+use Rattle.spec.specs.declared.Params.{Params}
+use Rattle.spec.specs.Bytes.{part, xorAll}
+use Rattle.spec.specs.Drives.{Chunk, mkChunk, noChunk, Zone, noZone, View, zoneAt, pointerAt, chunkAt, zoneOn, sealedIn, dataStored, blocksOf, recordIn, zeroSpare}
+use Rattle.spec.specs.Faults.{sameChunk, headerFault}
+use Rattle.spec.specs.Layout.{headerWidths, headerBlock, headerSerial, headerCopied, Rec, mkRec, recordBytes, recordOf, footerBlock, footerRecord}
+use Rattle.spec.specs.Lists.{below, any, indexOf, sameList, tally, isIn}
+use Rattle.spec.specs.Params.{spareLen, perFooter, footers, capacity, named, present}
+use Rattle.spec.specs.Parity.{Piece, parityRec, parityPiece}
+use Rattle.spec.specs.Segments.{lowDrive, headerAt, remaining, Segment, recordsIn, segmentOf, recsOn, offsetOn, hasChunk, counts, counted, storedPiece, pieceOf, storedRec, recOf}
+use Rattle.law_basic.specs.Geometry.{Ranged, per-footer-low, footers-cover}
+use Rattle.law_basic.specs.Mask.{isIn-empty}
+use Rattle.law_basic.specs.Ranges.{and-left, and-right, map-map, getD-map, getD-map-below, sameList-true}
+use Rattle.law_basic.specs.Xor.{xorAll-lt}
+use Rattle.proof_tables.specs.Accept.{Accepted, faults-apart}
+use Rattle.proof_tables.specs.Bounds.{blocks-at, record-low}
+use Rattle.proof_tables.specs.Laid.{length-record, Long, getD-footer, field-low, serial-low, header-serial, header-copied, record-back}
+use Rattle.proof_tables.specs.Losing.{low-present}
+use Rattle.proof_tables.specs.Members.{In, map-in, in-map, in-keep, all-in, in-all, none-in, in-any, keep-cong, in-below, below-in, in-getD, index-is}
+use Rattle.proof_tables.specs.Range.{capacity-is, capacity-over}
+use Rattle.proof_tables.specs.Reads.{counts-in}
+use Rattle.proof_tables.specs.Rebuilding.{counted-in, pieceChunk}
+use Rattle.proof_tables.specs.Segs.{present-in, in-present, zone-by, recs-here, seg-is, serial-is, copied-is, full-is, chunk-at, length-records}
+use Rattle.proof_tables.specs.Settled.{present-all, low-first}
+use Rattle.proof_tables.specs.Tables.{remains, remaining-in}
+use Rattle.proof_tables.specs.Tests.{same-test}
+use Rattle.proof_tables.specs.Zones.{Bytes}
 use Rattle.proof_rebuilt.specs.Groups.{sealed-all}
 use Rattle.proof_rebuilt.specs.Numbers.{rank-low, rank-at, rank-of}
 use Rattle.proof_rebuilt.specs.Zone.{rebuiltView, Loss, lost, by-drive, zone-other, rebuilt-full, rebuilt-header, rebuilt-piece, rebuilt-foot, rebuilt-stored}

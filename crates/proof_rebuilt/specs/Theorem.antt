@@ -7,41 +7,41 @@ use Prim.Native.Nat.{ℕ, _<_}
 use borrow.Author.Tests.{eq-eqb, ltb-true, leb-true, eqb-true, not-false}
 use native.Mathlib.Omega.{arith}
 use lib.Dec.{ltb, eqb, lit≤}
-use Rattle.defs.specs.declared.Params.{Params}
-use Rattle.defs.specs.declared.Answer.{Answer}
-use Rattle.defs.specs.declared.Answer.the-variants.{Cut, Restarted, Rebuilt}
-use Rattle.defs.specs.declared.Report.{Report}
-use Rattle.defs.specs.Answers.{kind, isRefused, isRefusedAs}
-use Rattle.defs.specs.Calls.{Check, firstRefusal, Plan, mkPlan, decided, outcome}
-use Rattle.defs.specs.Calls.Check.{rule}
-use Rattle.defs.specs.Demands.{saidAt}
-use Rattle.defs.specs.Drives.{View, Disk, storeDisk, storeAll}
-use Rattle.defs.specs.Engine.Call.{restart, rebuild}
-use Rattle.defs.specs.Engine.{storeCount, lentBlock, verdict, lentOk, callOn, callDisk}
-use Rattle.defs.specs.Faults.{imageChecks}
-use Rattle.defs.specs.History.{mkWorld}
-use Rattle.defs.specs.Memory.{Memory}
-use Rattle.defs.specs.Params.{inRange, noDrive, named}
-use Rattle.defs.specs.Rebuild.{namesMissing, rebuildChecks, rebuildStores, rebuildVerdict}
-use Rattle.defs.specs.Restart.{reportOf, restartChecks, restartPlan, restartVerdict}
-use Rattle.defs.specs.Segments.{segments}
-use Rattle.laws.specs.Geometry.{Ranged, ranged}
-use Rattle.laws.specs.Mask.{only-none}
-use Rattle.laws.specs.Ranges.{and-left, and-right}
+use Rattle.spec.specs.declared.Params.{Params}
+use Rattle.spec.specs.declared.Answer.{Answer}
+use Rattle.spec.specs.declared.Answer.the-variants.{Cut, Restarted, Rebuilt}
+use Rattle.spec.specs.declared.Report.{Report}
+use Rattle.spec.specs.Answers.{kind, isRefused, isRefusedAs}
+use Rattle.spec.specs.Calls.{Check, firstRefusal, Plan, mkPlan, decided, outcome}
+use Rattle.spec.specs.Calls.Check.{rule}
+use Rattle.spec.specs.Demands.{saidAt}
+use Rattle.spec.specs.Drives.{View, Disk, storeDisk, storeAll}
+use Rattle.spec.specs.Engine.Call.{restart, rebuild}
+use Rattle.spec.specs.Engine.{storeCount, lentBlock, verdict, lentOk, callOn, callDisk}
+use Rattle.spec.specs.Faults.{imageChecks}
+use Rattle.spec.specs.History.{mkWorld}
+use Rattle.spec.specs.Memory.{Memory}
+use Rattle.spec.specs.Params.{inRange, noDrive, named}
+use Rattle.spec.specs.Rebuild.{namesMissing, rebuildChecks, rebuildStores, rebuildVerdict}
+use Rattle.spec.specs.Restart.{reportOf, restartChecks, restartPlan, restartVerdict}
+use Rattle.spec.specs.Segments.{segments}
+use Rattle.law_basic.specs.Geometry.{Ranged, ranged}
+use Rattle.law_basic.specs.Mask.{only-none}
+use Rattle.law_basic.specs.Ranges.{and-left, and-right}
 use Rattle.spec_demands.specs.Engines.{callWorld, onValues, viewIn}
 use Rattle.spec_demands.specs.Tables.{Rebuilds}
-use Rattle.views.specs.Views.{seen, view-stores}
-use Rattle.tablesay.specs.Accept.{Accepted, checks-of}
-use Rattle.tablesay.specs.Checks.{Clear, clear}
-use Rattle.tablesay.specs.Idle.{whole-of}
-use Rattle.tablesay.specs.Losing.{named-some}
-use Rattle.tablesay.specs.Outcomes.{Ended, ended, refusal-kind, cut-mild}
-use Rattle.tablesay.specs.Outcomes.Ended.{ended-refused, ended-done, ended-cut}
-use Rattle.tablesay.specs.Range.{capacity-word}
-use Rattle.tablesay.specs.Rebuilding.{rebuild-roomy, rebuild-within}
-use Rattle.tablesay.specs.Run.{Lost, Well, Run}
-use Rattle.tablesay.specs.Tests.{clash, false-true, or-right}
-use Rattle.tablesay.specs.Zones.{all-fit}
+use Rattle.law_views.specs.Views.{seen, view-stores}
+use Rattle.proof_tables.specs.Accept.{Accepted, checks-of}
+use Rattle.proof_tables.specs.Checks.{Clear, clear}
+use Rattle.proof_tables.specs.Idle.{whole-of}
+use Rattle.proof_tables.specs.Losing.{named-some}
+use Rattle.proof_tables.specs.Outcomes.{Ended, ended, refusal-kind, cut-mild}
+use Rattle.proof_tables.specs.Outcomes.Ended.{ended-refused, ended-done, ended-cut}
+use Rattle.proof_tables.specs.Range.{capacity-word}
+use Rattle.proof_tables.specs.Rebuilding.{rebuild-roomy, rebuild-within}
+use Rattle.proof_tables.specs.Run.{Lost, Well, Run}
+use Rattle.proof_tables.specs.Tests.{clash, false-true, or-right}
+use Rattle.proof_tables.specs.Zones.{all-fit}
 use Rattle.proof_rebuilt.specs.Accepted.{rebuilt-accepted}
 use Rattle.proof_rebuilt.specs.Said.{rebuilt-said}
 use Rattle.proof_rebuilt.specs.Zone.{rebuiltView, Loss, lost}

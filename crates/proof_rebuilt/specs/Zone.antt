@@ -9,26 +9,26 @@ use borrow.Author.Tests.{ne-eqb}
 use native.Mathlib.Omega.{arith}
 use lib.ListN.{length, getD, length-append, length-map, List·getD-append}
 use lib.Seq.{getD-append-add}
-use Rattle.defs.specs.declared.Params.{Params}
-use Rattle.defs.specs.Drives.{Chunk, mkChunk, noChunk, Zone, View, zoneAt, pointerAt, Store, resetZone, storeView, storeAll, dataStored, zeroSpare}
-use Rattle.defs.specs.Drives.Store.{reset}
-use Rattle.defs.specs.Layout.{headerBlock, mkRec, recordBytes, footerBlock}
-use Rattle.defs.specs.Lists.{below, isIn}
-use Rattle.defs.specs.Params.{footers, capacity, named}
-use Rattle.defs.specs.Parity.{Piece, mkPiece}
-use Rattle.defs.specs.Rebuild.{rebuiltZone, rebuildStores}
-use Rattle.defs.specs.Segments.{Segment, segmentOf, segments, counted, pieceOf}
-use Rattle.laws.specs.Geometry.{Ranged}
-use Rattle.laws.specs.Mask.{isIn-only}
-use Rattle.laws.specs.Ranges.{length-below, getD-map, getD-map-below}
-use Rattle.tablesay.specs.Accept.{Accepted}
-use Rattle.tablesay.specs.Losing.{named-in}
-use Rattle.tablesay.specs.Puts.{putAll, puts-pointer, puts-new}
-use Rattle.tablesay.specs.Range.{capacity-is, capacity-over}
-use Rattle.tablesay.specs.Rebuilding.{counted-low, pieceChunk, rebuilt-chunks, rebuilt-is, hits-here, rebuild-agrees}
-use Rattle.tablesay.specs.Segs.{full-is}
-use Rattle.tablesay.specs.Tables.{remains, in-remaining}
-use Rattle.tablesay.specs.Zones.{Shaped, zoneStore, zone-after}
+use Rattle.spec.specs.declared.Params.{Params}
+use Rattle.spec.specs.Drives.{Chunk, mkChunk, noChunk, Zone, View, zoneAt, pointerAt, Store, resetZone, storeView, storeAll, dataStored, zeroSpare}
+use Rattle.spec.specs.Drives.Store.{reset}
+use Rattle.spec.specs.Layout.{headerBlock, mkRec, recordBytes, footerBlock}
+use Rattle.spec.specs.Lists.{below, isIn}
+use Rattle.spec.specs.Params.{footers, capacity, named}
+use Rattle.spec.specs.Parity.{Piece, mkPiece}
+use Rattle.spec.specs.Rebuild.{rebuiltZone, rebuildStores}
+use Rattle.spec.specs.Segments.{Segment, segmentOf, segments, counted, pieceOf}
+use Rattle.law_basic.specs.Geometry.{Ranged}
+use Rattle.law_basic.specs.Mask.{isIn-only}
+use Rattle.law_basic.specs.Ranges.{length-below, getD-map, getD-map-below}
+use Rattle.proof_tables.specs.Accept.{Accepted}
+use Rattle.proof_tables.specs.Losing.{named-in}
+use Rattle.proof_tables.specs.Puts.{putAll, puts-pointer, puts-new}
+use Rattle.proof_tables.specs.Range.{capacity-is, capacity-over}
+use Rattle.proof_tables.specs.Rebuilding.{counted-low, pieceChunk, rebuilt-chunks, rebuilt-is, hits-here, rebuild-agrees}
+use Rattle.proof_tables.specs.Segs.{full-is}
+use Rattle.proof_tables.specs.Tables.{remains, in-remaining}
+use Rattle.proof_tables.specs.Zones.{Shaped, zoneStore, zone-after}
 use Rattle.proof_rebuilt.specs.Groups.{sealed-all}
 
 -- the view that a rebuild of drive d leaves

@@ -4,16 +4,16 @@ use mathlib.Core.List.{List, [], _∷_}
 use mathlib.Core.Bool.{Bool, true, false}
 use Prim.Native.Nat.{ℕ, _≤_, _<_}
 use lib.ListN.{length, getD, take, replicate}
-use Rattle.defs.specs.declared.Params.{Params}
-use Rattle.defs.specs.declared.Answer.{Answer}
-use Rattle.defs.specs.declared.Answer.the-variants.{Cut}
-use Rattle.defs.specs.Answers.{kind, values, isRefused, isCut}
-use Rattle.defs.specs.Drives.{Store, storeDisk, storeAll}
-use Rattle.defs.specs.Engine.{Call, lentBlock, Lent, Left, lentDisk, callBytes}
-use Rattle.defs.specs.Engine.Call.{write, land, close, reclaim, read, fill, restart, rebuild}
-use Rattle.defs.specs.Lists.{isMember}
-use Rattle.defs.specs.Memory.{stateLen}
-use Rattle.defs.specs.Params.{addressesLen, compactLen}
+use Rattle.spec.specs.declared.Params.{Params}
+use Rattle.spec.specs.declared.Answer.{Answer}
+use Rattle.spec.specs.declared.Answer.the-variants.{Cut}
+use Rattle.spec.specs.Answers.{kind, values, isRefused, isCut}
+use Rattle.spec.specs.Drives.{Store, storeDisk, storeAll}
+use Rattle.spec.specs.Engine.{Call, lentBlock, Lent, Left, lentDisk, callBytes}
+use Rattle.spec.specs.Engine.Call.{write, land, close, reclaim, read, fill, restart, rebuild}
+use Rattle.spec.specs.Lists.{isMember}
+use Rattle.spec.specs.Memory.{stateLen}
+use Rattle.spec.specs.Params.{addressesLen, compactLen}
 
 -- 01, Refusals: the numbers that the table gives a call
 unfoldable pub refusalsOf : Call → List ℕ

@@ -4,15 +4,15 @@ use mathlib.Core.Bool.{cond}
 use Prim.Native.Nat.{ℕ}
 use lib.Dec.{eqb}
 use lib.ListN.{replicate}
-use Rattle.defs.specs.declared.Params.{Params}
-use Rattle.defs.specs.declared.Answer.{Answer}
-use Rattle.defs.specs.Answers.{kind}
-use Rattle.defs.specs.Drives.{View, viewOf, Disk}
-use Rattle.defs.specs.Engine.{Call, callDisk, Lent, lentDisk, lentMemory, callBytes}
-use Rattle.defs.specs.Engine.Call.{read, fill}
-use Rattle.defs.specs.History.{World, mkWorld, Seen}
-use Rattle.defs.specs.History.Seen.{unwritten, got, failed}
-use Rattle.defs.specs.Memory.{Memory}
+use Rattle.spec.specs.declared.Params.{Params}
+use Rattle.spec.specs.declared.Answer.{Answer}
+use Rattle.spec.specs.Answers.{kind}
+use Rattle.spec.specs.Drives.{View, viewOf, Disk}
+use Rattle.spec.specs.Engine.{Call, callDisk, Lent, lentDisk, lentMemory, callBytes}
+use Rattle.spec.specs.Engine.Call.{read, fill}
+use Rattle.spec.specs.History.{World, mkWorld, Seen}
+use Rattle.spec.specs.History.Seen.{unwritten, got, failed}
+use Rattle.spec.specs.Memory.{Memory}
 
 -- what a call gives: its answer, what it leaves, and the lent block
 pub record Reply (W : Type 0) : Type 0 where

@@ -5,19 +5,19 @@ use mathlib.Core.Bool.{Bool, true, false, cond, not, _&&_}
 use Prim.Native.Nat.{ℕ, _<_}
 use lib.Dec.{eqb}
 use lib.ListN.{length, replicate}
-use Rattle.defs.specs.declared.Params.{Params}
-use Rattle.defs.specs.declared.Answer.{Answer}
-use Rattle.defs.specs.Answers.{isRefused, isRefusedAs, finished}
-use Rattle.defs.specs.Demands.{areBytes, ReadOk}
-use Rattle.defs.specs.Drives.{Disk}
-use Rattle.defs.specs.Engine.{Call, lentBlock, lentOk, Lent, Left, lentDisk, lentMemory, callBytes}
-use Rattle.defs.specs.Engine.Call.{restart}
-use Rattle.defs.specs.History.{restartOf, swapped, onlyIf, Send, sentAfter, untrustedAfter, emptyDisk, namesAll}
-use Rattle.defs.specs.Lists.{Opt}
-use Rattle.defs.specs.Lists.Opt.{none, some}
-use Rattle.defs.specs.Memory.{stateLen}
-use Rattle.defs.specs.Params.{inRange, addressesLen, compactLen, inflightLen}
-use Rattle.defs.specs.Restart.{namesDrive}
+use Rattle.spec.specs.declared.Params.{Params}
+use Rattle.spec.specs.declared.Answer.{Answer}
+use Rattle.spec.specs.Answers.{isRefused, isRefusedAs, finished}
+use Rattle.spec.specs.Demands.{areBytes, ReadOk}
+use Rattle.spec.specs.Drives.{Disk}
+use Rattle.spec.specs.Engine.{Call, lentBlock, lentOk, Lent, Left, lentDisk, lentMemory, callBytes}
+use Rattle.spec.specs.Engine.Call.{restart}
+use Rattle.spec.specs.History.{restartOf, swapped, onlyIf, Send, sentAfter, untrustedAfter, emptyDisk, namesAll}
+use Rattle.spec.specs.Lists.{Opt}
+use Rattle.spec.specs.Lists.Opt.{none, some}
+use Rattle.spec.specs.Memory.{stateLen}
+use Rattle.spec.specs.Params.{inRange, addressesLen, compactLen, inflightLen}
+use Rattle.spec.specs.Restart.{namesDrive}
 use Rattle.spec_demands.specs.Engines.{onBytes, readsAs}
 
 -- ---- events

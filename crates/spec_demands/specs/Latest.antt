@@ -2,17 +2,17 @@
 use mathlib.Core.Path.{_≡_}
 use mathlib.Core.Bool.{true, false}
 use Prim.Native.Nat.{ℕ, _<_}
-use Rattle.defs.specs.declared.Params.{Params}
-use Rattle.defs.specs.Demands.{saidAt}
-use Rattle.defs.specs.Drives.{View}
-use Rattle.defs.specs.History.{Seen}
-use Rattle.defs.specs.History.Seen.{unwritten, got}
-use Rattle.defs.specs.Layout.{isData}
-use Rattle.defs.specs.Lists.{Opt}
-use Rattle.defs.specs.Lists.Opt.{none, some}
-use Rattle.defs.specs.Params.{inRange}
-use Rattle.defs.specs.Rank.{Cand, beats, best, candsOf}
-use Rattle.defs.specs.Segments.{segmentOf, segments, counts, pieceOf, candOf, candidates}
+use Rattle.spec.specs.declared.Params.{Params}
+use Rattle.spec.specs.Demands.{saidAt}
+use Rattle.spec.specs.Drives.{View}
+use Rattle.spec.specs.History.{Seen}
+use Rattle.spec.specs.History.Seen.{unwritten, got}
+use Rattle.spec.specs.Layout.{isData}
+use Rattle.spec.specs.Lists.{Opt}
+use Rattle.spec.specs.Lists.Opt.{none, some}
+use Rattle.spec.specs.Params.{inRange}
+use Rattle.spec.specs.Rank.{Cand, beats, best, candsOf}
+use Rattle.spec.specs.Segments.{segmentOf, segments, counts, pieceOf, candOf, candidates}
 use Rattle.spec_demands.specs.Layouts.{Remains}
 
 -- 01, The calls: c is a record of address a, of a data drive of a counted stripe of a remaining segment

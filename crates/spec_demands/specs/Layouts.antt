@@ -5,14 +5,14 @@ use mathlib.Core.Bool.{Bool, true, false, _&&_}
 use Prim.Native.Nat.{ℕ, _+_, _≤_, _<_}
 use lib.Dec.{eqb}
 use lib.ListN.{take, drop}
-use Rattle.defs.specs.declared.Params.{Params}
-use Rattle.defs.specs.Drives.{mkChunk, View, zoneAt, pointerAt, chunkAt, zoneOn, dataStored, sparesOf, recordAt, zeroSpare}
-use Rattle.defs.specs.Faults.{footersStored}
-use Rattle.defs.specs.Layout.{parityDrive, dataDrives, inGroupOf, headerBlock, footerBlock}
-use Rattle.defs.specs.Lists.{any, isMember, isIn}
-use Rattle.defs.specs.Params.{capacity}
-use Rattle.defs.specs.Parity.{parityPiece}
-use Rattle.defs.specs.Segments.{remaining, Segment, segmentOf, counts, storedPiece}
+use Rattle.spec.specs.declared.Params.{Params}
+use Rattle.spec.specs.Drives.{mkChunk, View, zoneAt, pointerAt, chunkAt, zoneOn, dataStored, sparesOf, recordAt, zeroSpare}
+use Rattle.spec.specs.Faults.{footersStored}
+use Rattle.spec.specs.Layout.{parityDrive, dataDrives, inGroupOf, headerBlock, footerBlock}
+use Rattle.spec.specs.Lists.{any, isMember, isIn}
+use Rattle.spec.specs.Params.{capacity}
+use Rattle.spec.specs.Parity.{parityPiece}
+use Rattle.spec.specs.Segments.{remaining, Segment, segmentOf, counts, storedPiece}
 
 -- a drive that is present
 abbrev pub Here : Params → ℕ → ℕ → Type 0

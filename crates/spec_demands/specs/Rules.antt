@@ -3,11 +3,11 @@ use mathlib.Core.Path.{_≡_}
 use mathlib.Core.List.{List, [], _∷_}
 use Prim.Native.Nat.{_<_}
 use lib.ListN.{length}
-use Rattle.defs.specs.declared.Params.{Params}
-use Rattle.defs.specs.Drives.{Disk, pointerOf, Store, storeDisk, storeAll}
-use Rattle.defs.specs.Drives.Store.{put, reset}
-use Rattle.defs.specs.Engine.{Call, Lent, lentDisk, callBytes}
-use Rattle.defs.specs.Params.{spareLen, capacity}
+use Rattle.spec.specs.declared.Params.{Params}
+use Rattle.spec.specs.Drives.{Disk, pointerOf, Store, storeDisk, storeAll}
+use Rattle.spec.specs.Drives.Store.{put, reset}
+use Rattle.spec.specs.Engine.{Call, Lent, lentDisk, callBytes}
+use Rattle.spec.specs.Params.{spareLen, capacity}
 
 -- 01, The array: one block with its spare at the zone's pointer, below the capacity; or the reset of a zone
 abbrev pub Obeys : Params → Disk → Store → Type 0

@@ -5,22 +5,22 @@ use mathlib.Core.Bool.{Bool, true, false, cond, not, _&&_}
 use Prim.Native.Nat.{ℕ, _<_}
 use lib.Dec.{ltb, eqb}
 use lib.ListN.{length, getD}
-use Rattle.defs.specs.declared.Params.{Params}
-use Rattle.defs.specs.declared.Answer.{Answer}
-use Rattle.defs.specs.declared.Answer.the-variants.{Landed, Restarted}
-use Rattle.defs.specs.Answers.{kind, values, isRefused, isRefusedAs, isCut, finished}
-use Rattle.defs.specs.Demands.{areBytes, saidAt, NotNinth}
-use Rattle.defs.specs.Drives.{View, Store, storeView, storeAll, zoneOn, sealedIn}
-use Rattle.defs.specs.Drives.Store.{put}
-use Rattle.defs.specs.Engine.{Call, Lent, lentDisk, callBytes}
-use Rattle.defs.specs.Engine.Call.{write, land, close, reclaim, read, fill, restart, rebuild}
-use Rattle.defs.specs.History.{restartOf, endsRun, emptyDisk}
-use Rattle.defs.specs.Landing.{sealStores}
-use Rattle.defs.specs.Layout.{Rec, recordBytes}
-use Rattle.defs.specs.Lists.{below, all, any, consIf, keep, tally, total}
-use Rattle.defs.specs.Memory.{openSegment}
-use Rattle.defs.specs.Params.{noDrive, named, present}
-use Rattle.defs.specs.Segments.{remaining, Segment, segmentOf, segments, hasChunk, counts, candidates, addressTable, compactTable}
+use Rattle.spec.specs.declared.Params.{Params}
+use Rattle.spec.specs.declared.Answer.{Answer}
+use Rattle.spec.specs.declared.Answer.the-variants.{Landed, Restarted}
+use Rattle.spec.specs.Answers.{kind, values, isRefused, isRefusedAs, isCut, finished}
+use Rattle.spec.specs.Demands.{areBytes, saidAt, NotNinth}
+use Rattle.spec.specs.Drives.{View, Store, storeView, storeAll, zoneOn, sealedIn}
+use Rattle.spec.specs.Drives.Store.{put}
+use Rattle.spec.specs.Engine.{Call, Lent, lentDisk, callBytes}
+use Rattle.spec.specs.Engine.Call.{write, land, close, reclaim, read, fill, restart, rebuild}
+use Rattle.spec.specs.History.{restartOf, endsRun, emptyDisk}
+use Rattle.spec.specs.Landing.{sealStores}
+use Rattle.spec.specs.Layout.{Rec, recordBytes}
+use Rattle.spec.specs.Lists.{below, all, any, consIf, keep, tally, total}
+use Rattle.spec.specs.Memory.{openSegment}
+use Rattle.spec.specs.Params.{noDrive, named, present}
+use Rattle.spec.specs.Segments.{remaining, Segment, segmentOf, segments, hasChunk, counts, candidates, addressTable, compactTable}
 use Rattle.spec_demands.specs.Engines.{Reply, Engine, onValues, onBytes, viewIn, readsAs}
 use Rattle.spec_demands.specs.Histories.{lentInOrder}
 use Rattle.spec_demands.specs.Latest.{SaidIsLatest}

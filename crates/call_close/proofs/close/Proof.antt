@@ -1,0 +1,145 @@
+-- `close`: the front and the filling stripe's eighth are the state's; then refused or done. Assumes nothing.
+use Prim.Native.Nat.{ℕ, _≤_, _<_}
+use Rattle.mem_calls.specs.Left.{checked}
+use Rattle.call_close.specs.Ends.{close-refused, close-done}
+use Rattle.call_close.specs.Order.{refusal}
+use Rattle.call_close.specs.Ready.{ready, slot-low, slot-open}
+use Rattle.spec.specs.Drives.{Disk, mkDisk}
+use Rattle.spec.specs.Lists.Opt.{none, some}
+use Rattle.spec.specs.Memory.{Memory, mkMemory, filledIn, fillingSlot}
+use Rattle.spec.specs.Params.{dataCount}
+use Rattle.call_filling.specs.Aims.{front-filling}
+use Rattle.call_filling.specs.Entries.{row-filled}
+use Rattle.law_basic.specs.Geometry.{ranged, data-count-high}
+use Rattle.mem_rows.specs.Rows.{Sized}
+use Rattle.mem_rows.specs.declared.Change.{Change}
+use Rattle.mem_rows.specs.declared.Row.{Row}
+use borrow.Author.Needs.{needs}
+use mathlib.Core.Path.{_≡_, refl, sym, ap, _∙_}
+use native.Mathlib.Omega.{arith}
+use Rattle.call_close.proofs.close.Statement.{statement}
+use Rattle.call_close.proofs.close.Tie as tie
+
+-- the arrays have their lengths
+sized : (c : tie.Start) → Sized (c .args .state)
+sized c = record {
+  numbers = search needs;
+  filled = search needs;
+  writes = search needs;
+  landed = search needs;
+  addresses = search needs;
+  stamps = search (needs, c .good .1 .1 .1 .1 .1 .1 .0 .1 .1 .1 .1 .1 .1 .1 .1 .1);
+  offsets = search (needs, c .good .1 .1 .1 .1 .1 .1 .0 .1 .1 .1 .1 .1 .1 .1 .1 .1);
+}
+
+abbrev disk : (c : tie.Start) → Disk
+disk c = mkDisk (c .args .image .now) (c .args .pointers .now)
+
+abbrev memory : (c : tie.Start) → Memory
+memory c = mkMemory (c .args .state) (c .args .addresses .now) (c .args .compact .now) (c .args .inflight .now)
+
+-- the eighth is the state's
+slot-of :
+    (c : tie.After-filling-slot)
+    → c .filling-slot .result ≡ fillingSlot (c .before .before .before .before .before .before .before .args .p)
+    (c .before .before .before .before .before .before .before .args .state)
+slot-of c =
+    let args = c .before .before .before .before .before .before .before .args in
+    c .filling-slot .ensures ∙ front-filling (args .p) (args .state) (c .before .front-of .result) (c .before .front-of .ensures)
+
+front-of-requires : tie.Need-front-of-requires
+front-of-requires c κs = search needs
+
+filling-slot-requires : tie.Need-filling-slot-requires
+filling-slot-requires c κs = search needs
+
+checks-requires : tie.Need-checks-requires
+checks-requires c κs = slot-of (c .before)
+
+enum-known-c : tie.Need-enum-known-c
+enum-known-c c = search needs
+
+kept-requires : tie.Need-kept-requires
+kept-requires c κs = search needs
+
+same-length : tie.Need-same-length
+same-length c = search needs
+
+returns : tie.Need-returns
+returns c =
+    let s = c .before .before .before .before .before .before .before .before .before .before .before .before .before in
+    let checks = c .before .before .before .before .checks in
+    let q = c .before .before .c .given in
+    λ n. close-refused (s .args .p) (disk s) (memory s) (c .kept .result) (sym (checks .ensures) ∙ ap checked (q .1) ∙ ap (λ (x : Change). some (x .answer)) (sym (c .kept .ensures))) n
+
+enum-told : tie.Need-enum-told
+enum-told c = search needs
+
+row-of-requires : tie.Need-row-of-requires
+row-of-requires c κs =
+    let s = c .before .before .before .before .before .before .before .before .before .before .before in
+    let checks = c .before .before .checks in
+    let at = c .before .before .before .before in
+    let filling-slot = c .before .before .before .before .filling-slot in
+    let none! : refusal (s .args .p) (disk s) (memory s) ≡ none = sym (checks .ensures) ∙ ap checked (c .enum-told .given .1) in
+    slot-low (s .args .p) (s .args .state) (filling-slot .result) (slot-of (at)) (ready (s .args .p) (disk s) (memory s) none! .filling)
+
+pad-all-requires : tie.Need-pad-all-requires
+pad-all-requires c κs =
+    let s = c .before .before .before .before .before .before .before .before .before .before .before .before .before in
+    let enum-told = c .before .before .enum-told in
+    let checks = c .before .before .before .before .checks in
+    let at = c .before .before .before .before .before .before in
+    let filling-slot = c .before .before .before .before .before .before .filling-slot in
+    let none! : refusal (s .args .p) (disk s) (memory s) ≡ none = sym (checks .ensures) ∙ ap checked (enum-told .given .1) in
+    let r = ready (s .args .p) (disk s) (memory s) none! in
+    let i = filling-slot .result in
+    let e : c .before .row-of .result .filled ≡ filledIn (s .args .state) i = ap (λ (x : Row). x .filled) (c .before .row-of .ensures) ∙ row-filled (s .args .state) i in (
+      r .ranged,
+      (slot-low (s .args .p) (s .args .state) i (slot-of (at)) (r .filling), omega (arith, e, slot-open (s .args .p) (s .args .state) i (slot-of (at)) (r .filling)), r .inflight-long),
+    )
+
+cast-t20 : tie.Need-cast-t20
+cast-t20 c = search needs
+
+same-length-2 : tie.Need-same-length-2
+same-length-2 c = search needs
+
+returns-2 : tie.Need-returns-2
+returns-2 c =
+    let s = c .before .before .before .before .before .before .before .before .before .before .before .before .before .before .before .before .before .before .before in
+    let pad-all = c .before .before .before .before .before .pad-all in
+    let row-of = c .before .before .before .before .before .before .before .row-of in
+    let enum-told = c .before .before .before .before .before .before .before .before .enum-told in
+    let checks = c .before .before .before .before .before .before .before .before .before .before .checks in
+    let at′ = c .before .before .before .before .before .before .before .before .before .before .before .before in
+    let filling-slot = c .before .before .before .before .before .before .before .before .before .before .before .before .filling-slot in
+    let front-of = c .before .before .before .before .before .before .before .before .before .before .before .before .before .front-of in
+    let a = s .args in
+    let none! : refusal (a .p) (disk s) (memory s) ≡ none = sym (checks .ensures) ∙ ap checked (enum-told .given .1) in
+    let r = ready (a .p) (disk s) (memory s) none! in
+    let at = fillingSlot (a .p) (a .state) in
+    let f = front-of in
+    let g = filling-slot in
+    let q = pad-all in
+    let few : dataCount (a .p) ≤ 8 = omega (arith, data-count-high (a .p) (ranged (a .p) (r .ranged))) in
+    λ n. close-done (a .p) (disk s) (memory s) none! (sized s) (slot-low (a .p) (a .state) at refl (r .filling)) few (slot-open (a .p) (a .state) at refl (r .filling)) (f .result) (f .ensures)
+    (g .result) (slot-of (at′)) (row-of .result) (row-of .ensures) (q .result) (q .last .1 .0) (q .ensures .0) (q .ensures .1) n
+
+pub close-spec : {M : Type 1} → statement M
+close-spec =
+    tie.close
+    (tie.spec
+    front-of-requires
+    filling-slot-requires
+    checks-requires
+    enum-known-c
+    kept-requires
+    same-length
+    returns
+    enum-told
+    row-of-requires
+    pad-all-requires
+    cast-t20
+    same-length-2
+    returns-2)

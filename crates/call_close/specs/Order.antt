@@ -1,0 +1,132 @@
+-- The checks of a closing one after the other: each refuses, or leaves it to the next (01, Refusals). Assumes nothing.
+use mathlib.Core.Path.{_≡_, refl, sym, ap, _∙_}
+use mathlib.Core.List.{List, [], _∷_, _++_}
+use mathlib.Core.Bool.{Bool, true, false, cond, not, _&&_, _||_}
+use Prim.Native.Nat.{ℕ, suc}
+use borrow.Author.Tests.{eq-eqb, ne-eqb}
+use lib.Dec.{leb, eqb}
+use lib.ListN.{drop}
+use Rattle.spec.specs.declared.Params.{Params}
+use Rattle.spec.specs.declared.State.{State}
+use Rattle.spec.specs.declared.Answer.{Answer}
+use Rattle.spec.specs.declared.Answer.the-variants.{Refused, BadZone}
+use Rattle.spec.specs.Calls.Check.{rule, zones}
+use Rattle.spec.specs.Calls.{ninth, firstRefusal, Check}
+use Rattle.spec.specs.Closing.{closeChecks}
+use Rattle.spec.specs.Drives.{Disk}
+use Rattle.spec.specs.Engine.{lentOk}
+use Rattle.spec.specs.Lists.{Opt, any, consIf, isNil, least}
+use Rattle.spec.specs.Lists.Opt.{none, some}
+use Rattle.spec.specs.Memory.{Memory, hasFilling, stateOk, stateFaults}
+use Rattle.spec.specs.Params.{inRange, placeDrive}
+use Rattle.spec.specs.Reclaim.{placesIn, tableFaults, victim, idle}
+use Rattle.spec.specs.Write.{scarce}
+use Rattle.law_views.specs.Views.{seen}
+use Rattle.law_calls.specs.Refusals.{zone-fails, zones-pass, none-left, state-fault, state-fine, rule-fails, rule-passes}
+
+module _ (p : Params) (k : Disk) (m : Memory) where
+  -- 01, Refusals: the first check of a closing that holds, on what it is lent
+  abbrev pub refusal : Opt Answer
+  refusal = firstRefusal (closeChecks p (lentOk p k m) (seen p k) m)
+
+  -- 01, Refusals, 5: the segment that reclaim would take has a live block not in flight
+  abbrev pub isLeft : Bool
+  isLeft = not (isNil (idle p (seen p k) (m .state) (victim p (seen p k) (m .addresses))))
+
+  -- the first refusal among the checks from the i-th on, counted from 0
+  abbrev pub from : ℕ → Opt Answer
+  from i = firstRefusal (drop i (closeChecks p (lentOk p k m) (seen p k) m))
+
+  -- the checks after the i-th
+  abbrev rest : ℕ → List Check
+  rest i = drop (suc i) (closeChecks p (lentOk p k m) (seen p k) m)
+
+  pub range-fails : inRange p ≡ false → some (Refused 1) ≡ from 0
+  unfolding closeChecks
+  range-fails e = sym (rule-fails 1 (not (inRange p)) (rest 0) (ap not e))
+
+  pub range-passes : inRange p ≡ true → from 1 ≡ from 0
+  unfolding closeChecks
+  range-passes e = sym (rule-passes 1 (not (inRange p)) (rest 0) (ap not e))
+
+  pub lengths-fail : lentOk p k m ≡ false → some (Refused 2) ≡ from 1
+  unfolding closeChecks
+  lengths-fail e = sym (rule-fails 2 (not (lentOk p k m)) (rest 1) (ap not e))
+
+  pub lengths-pass : lentOk p k m ≡ true → from 2 ≡ from 1
+  unfolding closeChecks
+  lengths-pass e = sym (rule-passes 2 (not (lentOk p k m)) (rest 1) (ap not e))
+
+  pub missing-fails : (m .state .missing ≡ 0 → ⊥) → some (Refused 3) ≡ from 2
+  unfolding closeChecks
+  missing-fails f = sym (rule-fails 3 (not (eqb (m .state .missing) 0)) (rest 2) (ap not (ne-eqb (m .state .missing) 0 f)))
+
+  pub missing-passes : m .state .missing ≡ 0 → from 3 ≡ from 2
+  unfolding closeChecks
+  missing-passes f = sym (rule-passes 3 (not (eqb (m .state .missing) 0)) (rest 2) (ap not (eq-eqb (m .state .missing) 0 f)))
+
+  pub filling-fails : hasFilling p (m .state) ≡ false → some (Refused 5) ≡ from 3
+  unfolding closeChecks
+  filling-fails e =
+      sym (rule-fails 5 (not (hasFilling p (m .state)) || (scarce p (seen p k) 1 && isLeft)) (rest 3) (ap (λ (x : Bool). not x || (scarce p (seen p k) 1 && isLeft)) e))
+
+  -- the last two checks where zones are scarce
+  pub scarce-last : hasFilling p (m .state) ≡ true → scarce p (seen p k) 1 ≡ true
+      → firstRefusal (rule 5 isLeft ∷ zones (stateFaults p (m .state) ++ tableFaults p (m .addresses)) ∷ []) ≡ from 3
+  unfolding closeChecks
+  scarce-last e f =
+      sym (λ j. firstRefusal (rule 5 (not (e j) || (f j && isLeft)) ∷ zones (stateFaults p (m .state) ++ cond (f j) (tableFaults p (m .addresses)) []) ∷ []))
+
+  -- and where they are not
+  ample-last : hasFilling p (m .state) ≡ true → scarce p (seen p k) 1 ≡ false → firstRefusal (zones (stateFaults p (m .state) ++ []) ∷ []) ≡ from 3
+  unfolding closeChecks
+  ample-last e f =
+      sym ((λ j. firstRefusal (rule 5 (not (e j) || (f j && isLeft)) ∷ zones (stateFaults p (m .state) ++ cond (f j) (tableFaults p (m .addresses)) []) ∷ []))
+      ∙ rule-passes 5 false (zones (stateFaults p (m .state) ++ []) ∷ []) refl)
+
+  pub state-fails : hasFilling p (m .state) ≡ true → scarce p (seen p k) 1 ≡ false → stateOk p (m .state) ≡ false → some (BadZone 0) ≡ from 3
+  state-fails e f g = sym (zone-fails 0 []) ∙ ap (λ (zs : List ℕ). firstRefusal (zones (zs ++ []) ∷ [])) (sym (state-fault p (m .state) g)) ∙ ample-last e f
+
+  pub state-passes : hasFilling p (m .state) ≡ true → scarce p (seen p k) 1 ≡ false → stateOk p (m .state) ≡ true → none ≡ from 3
+  state-passes e f g =
+      sym (zones-pass [] [] refl ∙ none-left) ∙ ap (λ (zs : List ℕ). firstRefusal (zones (zs ++ []) ∷ [])) (sym (state-fine p (m .state) g)) ∙ ample-last e f
+
+-- ---- the last two checks where zones are scarce
+
+one-zero : consIf {A = ℕ} true 0 [] ≡ 0 ∷ []
+unfolding consIf
+one-zero = refl
+
+no-zero : consIf {A = ℕ} false 0 [] ≡ []
+unfolding consIf
+no-zero = refl
+
+two-zeros : some (BadZone 0) ≡ firstRefusal (zones (0 ∷ 0 ∷ []) ∷ [])
+unfolding firstRefusal ninth least
+two-zeros = refl
+
+module _ (p : Params) (st : State) (tb : List ℕ) (left : Bool) where
+  -- 01, Refusals, 5 and 9
+  abbrev pub lasts : Opt Answer
+  lasts = firstRefusal (rule 5 left ∷ zones (stateFaults p st ++ tableFaults p tb) ∷ [])
+
+  pub left-fails : left ≡ true → some (Refused 5) ≡ lasts
+  left-fails e = sym (rule-fails 5 left (zones (stateFaults p st ++ tableFaults p tb) ∷ []) e)
+
+  left-passes : left ≡ false → (ss ts : List ℕ) → stateFaults p st ≡ ss → tableFaults p tb ≡ ts → firstRefusal (zones (ss ++ ts) ∷ []) ≡ lasts
+  left-passes e ss ts f g =
+      sym (rule-passes 5 left (zones (stateFaults p st ++ tableFaults p tb) ∷ []) e ∙ (λ j. firstRefusal (zones (f j ++ g j) ∷ [])))
+
+  pub numbers-fail : left ≡ false → stateOk p st ≡ false → some (BadZone 0) ≡ lasts
+  unfolding tableFaults
+  numbers-fail e f = go (any (λ q. leb (p .N) (placeDrive p q)) (placesIn p tb)) refl
+    where
+      go : (b : Bool) → any (λ q. leb (p .N) (placeDrive p q)) (placesIn p tb) ≡ b → some (BadZone 0) ≡ lasts
+      go true g = two-zeros ∙ left-passes e (0 ∷ []) (0 ∷ []) (state-fault p st f) (ap (λ (x : Bool). consIf x 0 []) g ∙ one-zero)
+      go false g = sym (zone-fails 0 []) ∙ left-passes e (0 ∷ []) [] (state-fault p st f) (ap (λ (x : Bool). consIf x 0 []) g ∙ no-zero)
+
+  pub table-fails : left ≡ false → stateOk p st ≡ true → tableFaults p tb ≡ consIf true 0 [] → some (BadZone 0) ≡ lasts
+  table-fails e f g = sym (zone-fails 0 []) ∙ left-passes e [] (0 ∷ []) (state-fine p st f) (g ∙ one-zero)
+
+  pub table-passes : left ≡ false → stateOk p st ≡ true → tableFaults p tb ≡ consIf false 0 [] → none ≡ lasts
+  table-passes e f g = sym (zones-pass [] [] refl ∙ none-left) ∙ left-passes e [] [] (state-fine p st f) (g ∙ no-zero)

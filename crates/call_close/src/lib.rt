@@ -1,0 +1,181 @@
+// Closing (01, Closing). It makes no store, so it is never cut.
+ghost use mathlib.Core.Path.{_≡_};
+ghost use mathlib.Core.Bool.{true, not};
+ghost use mathlib.Core.List.{[], _∷_, _++_};
+ghost use Prim.Native.Nat.{ℕ, _-_, _≤_, _<_};
+ghost use lib.Dec.{ltb};
+ghost use lib.ListN.{length};
+ghost use Rattle.mem_calls.specs.Left.{checked};
+ghost use Rattle.call_close.specs.Order.{refusal};
+ghost use Rattle.call_close.specs.Pads.{padOne, paddedRow};
+ghost use Rattle.spec.specs.Calls.{firstRefusal};
+ghost use Rattle.spec.specs.Calls.Check.{rule, zones};
+ghost use Rattle.spec.specs.Drives.{viewOf, mkDisk};
+ghost use Rattle.spec.specs.Engine.{callDisk};
+ghost use Rattle.spec.specs.Engine.Call.{close};
+ghost use Rattle.spec.specs.Lists.{isNil};
+ghost use Rattle.spec.specs.Memory.{mkMemory, fillingSlot, stateFaults};
+ghost use Rattle.spec.specs.Params.{inRange, dataCount, addressesLen, inflightLen};
+ghost use Rattle.spec.specs.Reclaim.{tableFaults, victim, idle};
+ghost use Rattle.mem_rows.specs.Rows.{afterChange};
+ghost use Rattle.law_views.specs.Views.{Whole};
+use mem_calls::Check;
+use mem_rows::Change;
+use mem_rows::Row;
+use spec::Address;
+use spec::Answer;
+use spec::Params;
+use spec::Place;
+use spec::Stamp;
+use spec::State;
+
+// 01, Refusals, 5: whether the segment that reclaim would take has a live block not in flight.
+fn is_left(p: Params, image: &[u8], pointers: &[u8], addresses: &[u8], state: State) -> bool
+    requires { ⌜ inRange p ≡ true ⌝ }
+    requires { ⌜ Whole p (mkDisk (now image) (now pointers)) ⌝ }
+    requires { ⌜ length (now addresses) ≡ addressesLen p ⌝ }
+    ensures { λ r. ⌜
+        r
+        ≡ not (isNil (idle p (viewOf p (now (image .entry)) (now (pointers .entry))) state
+        (victim p (viewOf p (now (image .entry)) (now (pointers .entry))) (now (addresses .entry))))) ⌝ }
+{
+    let v = call_reclaim_victim::look(p, image, pointers, addresses, state);
+    v.first.0 != Place::NEVER.0
+}
+
+// 01, Refusals, 5 and 9: the last checks where 1 or fewer zones are empty on all drives.
+fn scarce_checks(p: Params, image: &[u8], pointers: &[u8], addresses: &[u8], state: State) -> Check
+    requires { ⌜ inRange p ≡ true ⌝ }
+    requires { ⌜ Whole p (mkDisk (now image) (now pointers)) ⌝ }
+    requires { ⌜ length (now addresses) ≡ addressesLen p ⌝ }
+    ensures { λ r. ⌜
+        checked r
+        ≡ firstRefusal (rule 5 (not (isNil (idle p (viewOf p (now (image .entry)) (now (pointers .entry))) state
+        (victim p (viewOf p (now (image .entry)) (now (pointers .entry))) (now (addresses .entry)))))) ∷ zones
+        (stateFaults p state ++ tableFaults p (now (addresses .entry))) ∷ []) ⌝ }
+{
+    if is_left(p, image, pointers, addresses, state) {
+        return Check::Fail(Answer::Refused(5));
+    }
+    if !mem_state::state_ok(p, state) {
+        return Check::Fail(Answer::BadZone(0));
+    }
+    if call_reclaim_victim::any_outside(p, addresses) {
+        return Check::Fail(Answer::BadZone(0));
+    }
+    Check::Pass
+}
+
+fn is_slot(slot: usize) -> bool
+    ensures { λ r. ⌜ r ≡ ltb slot 8 ⌝ }
+{
+    slot < 8
+}
+
+// 01, Refusals: the checks of a closing, in order; slot: the filling stripe's eighth.
+fn checks(
+    p: Params,
+    image: &[u8],
+    pointers: &[u8],
+    addresses: &[u8],
+    compact: &[u8],
+    inflight: &[u8],
+    state: State,
+    slot: usize,
+) -> Check
+    requires { ⌜ slot ≡ fillingSlot p state ⌝ }
+    ensures { λ r. ⌜ checked r ≡ refusal p (mkDisk (now (image .entry)) (now (pointers .entry))) (mkMemory state (now (addresses .entry)) (now (compact .entry)) (now (inflight .entry))) ⌝ }
+{
+    if !disk_shape::in_range(p) {
+        return Check::Fail(Answer::Refused(1));
+    }
+    if !mem_calls::lent_ok(p, image, pointers, addresses, compact, inflight) {
+        return Check::Fail(Answer::Refused(2));
+    }
+    if state.missing != 0 {
+        return Check::Fail(Answer::Refused(3));
+    }
+    if !is_slot(slot) {
+        return Check::Fail(Answer::Refused(5));
+    }
+    if call_filling::scarce(p, pointers, 1) {
+        return scarce_checks(p, image, pointers, addresses, state);
+    }
+    if !mem_state::state_ok(p, state) {
+        return Check::Fail(Answer::BadZone(0));
+    }
+    Check::Pass
+}
+
+// 01, Closing: the next open position filled with a zero block at the padding address, stamp 0.
+fn pad(p: Params, inflight: &mut [u8], row: Row, i: usize) -> Row
+    requires { ⌜ inRange p ≡ true ⌝ }
+    requires { ⌜ (i < 8) × (row .filled < dataCount p) × (length (now inflight) ≡ inflightLen p) ⌝ }
+    ensures { λ r. ⌜ r ≡ padOne p i row (now (inflight .entry)) .row ⌝ }
+    ensures { λ _. ⌜ now (inflight .exit) ≡ padOne p i row (now (inflight .entry)) .inflight ⌝ }
+{
+    let drive = call_filling::next_drive(p, row);
+    let at = disk_shape::slot_byte(p, i, drive);
+    disk_blocks::clear_part(inflight, at, p.B);
+    call_filling::enter(p, inflight, row, i, Address::PADDING, Stamp(0), false)
+}
+
+fn wide(b: u8) -> usize
+    ensures { λ r. ⌜ r ≡ b ⌝ }
+{
+    b as usize
+}
+
+// 01, Closing: all open positions of an eighth.
+fn pad_all(p: Params, inflight: &mut [u8], row: Row, i: usize) -> Row
+    requires { ⌜ inRange p ≡ true ⌝ }
+    requires { ⌜ (i < 8) × (row .filled ≤ dataCount p) × (length (now inflight) ≡ inflightLen p) ⌝ }
+    ensures { λ r. ⌜ r ≡ paddedRow p i (dataCount p - row .filled) row (now (inflight .entry)) .row ⌝ }
+    ensures { λ _. ⌜ now (inflight .exit) ≡ paddedRow p i (dataCount p - row .filled) row (now (inflight .entry)) .inflight ⌝ }
+{
+    let n = disk_shape::data_count(p);
+    let mut next = row;
+    let mut k = wide(row.filled);
+    while k < n {
+        next = pad(p, inflight, next, i);
+        k += 1;
+    }
+    next
+}
+
+// A closing: refused or done, it leaves what the definition says, whatever the store count.
+pub fn close(
+    p: Params,
+    image: &[u8],
+    pointers: &[u8],
+    addresses: &[u8],
+    compact: &[u8],
+    inflight: &mut [u8],
+    state: State,
+) -> Change
+    ensures { λ r. ⌜
+        ((n : ℕ)
+        → afterChange state r (now (image .entry)) (now (pointers .entry)) (now (addresses .entry)) (now (compact .entry)) (now (inflight .exit))
+        [] ≡ callDisk p (mkDisk (now (image .entry)) (now (pointers .entry)))
+        (mkMemory state (now (addresses .entry)) (now (compact .entry)) (now (inflight .entry))) (close n)) ⌝ }
+{
+    let f = mem_rows::front_of(state);
+    let i = call_filling::filling_slot(p, f);
+    let c = checks(p, image, pointers, addresses, compact, inflight, state, i);
+    if let Check::Fail(answer) = c {
+        return mem_rows::kept(answer, f);
+    }
+    let row = mem_rows::row_of(state, i);
+    let next = pad_all(p, inflight, row, i);
+    let stamp = f.stamp;
+    let serial = f.serial;
+    Change {
+        answer: Answer::Closed(row.number as u64),
+        stamp,
+        serial,
+        opened: f.opened,
+        next: f.next,
+        slot: i,
+        row: next,
+    }
+}

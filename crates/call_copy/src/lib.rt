@@ -1,0 +1,121 @@
+// A live block copied into the filling stripe (01, Reclaim).
+ghost use mathlib.Core.Path.{_≡_};
+ghost use mathlib.Core.Bool.{true, false};
+ghost use mathlib.Core.List.{[]};
+ghost use Prim.Native.Nat.{_*_, _≤_, _<_};
+ghost use lib.ListN.{length};
+ghost use Rattle.call_copy.specs.Copying.{sentPlan, CopyReady};
+ghost use Rattle.spec.specs.Bytes.{part};
+ghost use Rattle.spec.specs.Calls.{outcome};
+ghost use Rattle.spec.specs.Calls.Verdict.{due};
+ghost use Rattle.spec.specs.Drives.{viewOf, mkDisk, storeDisk};
+ghost use Rattle.spec.specs.Memory.{mkMemory};
+ghost use Rattle.spec.specs.Params.{inRange, capacity, imageLen, placeByte};
+ghost use Rattle.spec.specs.Reclaim.{copyPlan};
+ghost use Rattle.mem_rows.specs.Rows.{afterChange};
+ghost use Rattle.call_reclaim_victim.specs.Waiting.{isOdd};
+use mem_rows::Change;
+use spec::Address;
+use spec::Answer;
+use spec::Params;
+use spec::Place;
+use spec::Stamp;
+use spec::State;
+
+// 01, Reclaim: the block goes into the filling stripe with its old stamp, once a segment is open for it.
+fn send_copy(
+    p: Params,
+    image: &mut [u8],
+    pointers: &mut [u8],
+    addresses: &mut [u8],
+    compact: &mut [u8],
+    inflight: &mut [u8],
+    state: State,
+    address: Address,
+    stamp: Stamp,
+    block: &[u8],
+    count: u64,
+) -> Change
+    requires { ⌜ CopyReady p (mkDisk (now image) (now pointers)) (mkMemory state (now addresses) (now compact) (now inflight)) ⌝ }
+    requires { ⌜ length (now block) ≡ p .B ⌝ }
+    ensures { λ r. ⌜
+        afterChange state r (now (image .exit)) (now (pointers .exit)) (now (addresses .exit)) (now (compact .exit)) (now (inflight .exit)) []
+        ≡ outcome p (storeDisk p) count (mkDisk (now (image .entry)) (now (pointers .entry)))
+        (mkMemory state (now (addresses .entry)) (now (compact .entry)) (now (inflight .entry))) []
+        (due (sentPlan p (viewOf p (now (image .entry)) (now (pointers .entry)))
+        (mkMemory state (now (addresses .entry)) (now (compact .entry)) (now (inflight .entry))) (address .0) (stamp .0) (now (block .entry)))) ⌝ }
+{
+    let f = mem_rows::front_of(state);
+    let a = call_filling::aim_of(p, f);
+    let o = call_filling::open(p, image, pointers, f, a, count);
+    if o.cut {
+        return call_filling::cut(addresses, compact, f);
+    }
+    let row = mem_rows::row_of(state, a.slot);
+    let w = call_filling::send(p, inflight, row, a, o.next, address, stamp, false, block);
+    let last = w.row;
+    let serial = o.serial;
+    let old = f.stamp;
+    Change {
+        answer: Answer::Copied(stamp, last.number as u64, w.drive as u64),
+        stamp: old,
+        serial,
+        opened: o.opened,
+        next: w.next,
+        slot: a.slot,
+        row: last,
+    }
+}
+
+// The block at place q, at the front of a buffer.
+fn take_block(p: Params, image: &[u8], q: Place, block: &mut [u8])
+    requires { ⌜ inRange p ≡ true ⌝ }
+    requires { ⌜ (length (now image) ≡ imageLen p) × (q .0 < p .N * p .Z * capacity p) × (p .B ≤ length (now block)) ⌝ }
+    ensures { λ _. ⌜ part 0 (p .B) (now (block .exit)) ≡ part (placeByte p (q .0)) (p .B) (now (image .entry)) ⌝ }
+{
+    let at = disk_shape::place_byte(p, q);
+    let end = at + p.B;
+    disk_blocks::copy_part(block, 0, &image[at..end]);
+}
+
+// 01, Reclaim: the copy of the block at place q. It is read before a segment is opened, so headers cannot touch it.
+pub fn copy_block(
+    p: Params,
+    image: &mut [u8],
+    pointers: &mut [u8],
+    addresses: &mut [u8],
+    compact: &mut [u8],
+    inflight: &mut [u8],
+    state: State,
+    q: Place,
+    count: u64,
+) -> Change
+    requires { ⌜ CopyReady p (mkDisk (now image) (now pointers)) (mkMemory state (now addresses) (now compact) (now inflight)) ⌝ }
+    requires { ⌜ (q .0 < p .N * p .Z * capacity p) × (isOdd p (q .0) ≡ false) ⌝ }
+    ensures { λ r. ⌜
+        afterChange state r (now (image .exit)) (now (pointers .exit)) (now (addresses .exit)) (now (compact .exit)) (now (inflight .exit)) []
+        ≡ outcome p (storeDisk p) count (mkDisk (now (image .entry)) (now (pointers .entry)))
+        (mkMemory state (now (addresses .entry)) (now (compact .entry)) (now (inflight .entry))) []
+        (due (copyPlan p (viewOf p (now (image .entry)) (now (pointers .entry)))
+        (mkMemory state (now (addresses .entry)) (now (compact .entry)) (now (inflight .entry))) (q .0))) ⌝ }
+{
+    let r = call_reclaim_victim::record_of(p, image, pointers, q);
+    let address = r.address;
+    let stamp = r.stamp;
+    let mut block = [0u8; 4096];
+    take_block(p, image, q, &mut block);
+    let b = p.B;
+    send_copy(
+        p,
+        image,
+        pointers,
+        addresses,
+        compact,
+        inflight,
+        state,
+        address,
+        stamp,
+        &block[..b],
+        count,
+    )
+}

@@ -1,0 +1,93 @@
+use Prim.Native.Nat.{ℕ, _+_, _<_}
+use Rattle.spec.specs.Drives.{viewOf, mkDisk, pointerOf, zoneOn, emptyZones}
+use Rattle.spec.specs.Lists.{firstOr}
+use Rattle.spec.specs.Params.{capacity}
+use Rattle.call_filling.specs.Left.{opening-none, opening-made, lowest-room}
+use Rattle.law_basic.specs.Geometry.{ranged}
+use Rattle.mem_rows.specs.Rows.{behind}
+use Rattle.law_views.specs.Views.{seen}
+use borrow.Author.Tests.{not-true, not-false}
+use mathlib.Core.Bool.{true}
+use mathlib.Core.Path.{_≡_, sym, _∙_, subst}
+use native.Mathlib.Numerals.{add-one}
+use native.Mathlib.Omega.{arith}
+use borrow.Author.Needs.{needs}
+use Rattle.call_filling.proofs.open.Statement.{statement}
+use Rattle.call_filling.proofs.open.Tie as tie
+
+returns : tie.Need-returns
+returns c =
+    let s = c .before .before .before .before .before in
+    let a = s .args in
+    opening-none (a .p) (behind (a .f)) (a .count) (mkDisk (a .image .now) (a .pointers .now)) (sym (s .pre .1 .1 .0) ∙ not-true (a .a .opens) (c .if1 .taken))
+
+lowest-empty-requires : tie.Need-lowest-empty-requires
+lowest-empty-requires c κs = search needs
+
+add-t14 : tie.Need-add-t14
+add-t14 c =
+    let s = c .before .before .before .before .before .before .before .before in
+    omega (arith, s .pre .1 .1 .1 .0 (not-false (s .args .a .opens) (c .before .before .before .if1 .left)))
+
+header-stores-requires : tie.Need-header-stores-requires
+header-stores-requires c κs =
+    let s = c .before .before .before .before .before .before .before .before .before .before in
+    let if1 = c .before .before .before .before .before .if1 in
+    let a = s .args in
+    let e : a .a .opens ≡ true = not-false (a .a .opens) (if1 .left) in
+    let l = c .before .before .before .lowest-empty in
+    let g : l .result ≡ firstOr 0 (emptyZones (a .p) (viewOf (a .p) (a .image .now) (a .pointers .now))) = l .ensures .0 (a .image .now) (s .pre .1 .0 .image-long) in (
+      s .pre .0,
+      (
+        s .pre .1 .0,
+        (
+          l .ensures .1,
+          λ d h.
+              subst (λ (x : ℕ). pointerOf (a .p) (a .pointers .now) d (zoneOn x d) < capacity (a .p)) (sym g)
+              (lowest-room (a .p) (a .image .now) (a .pointers .now) (s .pre .0) (s .pre .1 .0 .image-long) (s .pre .1 .0 .pointers-long) (s .pre .1 .1 .1 .1 e) d h),
+        ),
+      ),
+    )
+
+add-t20 : tie.Need-add-t20
+add-t20 c = search needs
+
+cast-t21 : tie.Need-cast-t21
+cast-t21 c =
+    let s = c .before .before .before .before .before .before .before .before .before .before .before .before .before .before .before in
+    let lowest-empty = c .before .before .before .before .before .before .before .before .lowest-empty in
+    omega (arith, lowest-empty .ensures .1, ranged (s .args .p) (s .pre .0) .zones-high)
+
+same-length : tie.Need-same-length
+same-length c = search needs
+
+same-length-2 : tie.Need-same-length-2
+same-length-2 c = search needs
+
+returns-2 : tie.Need-returns-2
+returns-2 c =
+    let s = c .before .before .before .before .before .before .before .before .before .before .before .before .before .before .before in
+    let header-stores = c .before .before .before .before .header-stores in
+    let lowest-empty = c .before .before .before .before .before .before .before .before .lowest-empty in
+    let if1 = c .before .before .before .before .before .before .before .before .before .before .if1 in
+    let a = s .args in
+    let k = mkDisk (a .image .now) (a .pointers .now) in
+    let l = lowest-empty in
+    let m = header-stores in
+    let g : l .result ≡ firstOr 0 (emptyZones (a .p) (seen (a .p) k)) = l .ensures .0 (a .image .now) (s .pre .1 .0 .image-long) in
+    opening-made (a .p) (behind (a .f)) (a .count) k (sym (s .pre .1 .1 .0) ∙ not-false (a .a .opens) (if1 .left)) (l .result) (a .f .serial .0 + 1) g (add-one (a .f .serial .0))
+    (m .result) (mkDisk (m .last .1 .0) (m .last .1 .1 .0)) (m .ensures)
+
+pub open-spec : {M : Type 1} → statement M
+open-spec =
+    tie.close
+    (tie.spec
+    returns
+    lowest-empty-requires
+    add-t14
+    header-stores-requires
+    add-t20
+    cast-t21
+    same-length
+    same-length-2
+    returns-2)

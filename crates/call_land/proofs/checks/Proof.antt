@@ -1,0 +1,210 @@
+use Prim.Native.Nat.{ℕ, _<_}
+use Rattle.mem_rows.specs.declared.Row.{Row}
+use Rattle.law_views.specs.Views.{seen}
+use Rattle.call_land_chunk.specs.Alone.{alone, row-filled}
+use Rattle.spec.specs.Drives.{Disk, mkDisk}
+use Rattle.spec.specs.Engine.{lentOk}
+use Rattle.spec.specs.Landing.{slotOf, waiting}
+use Rattle.spec.specs.Memory.{Memory, mkMemory, filledIn, stateOk}
+use Rattle.spec.specs.Params.{inRange}
+use Rattle.call_land.specs.Order.{range-fails, range-passes, lengths-fail, lengths-pass, missing-fails, missing-passes, waiting-fails, waiting-passes}
+use Rattle.call_land.specs.Order.{state-fails, faults-refused, waits-row, faults-seen}
+use Rattle.call_land.specs.Ready.{waits-low, segment-low, filled-low}
+use Rattle.law_basic.specs.Geometry.{ranged, data-count-high}
+use Rattle.call_write.specs.Ready.{lent-long}
+use borrow.Author.Needs.{needs}
+use borrow.Author.Tests.{not-true, not-false}
+use mathlib.Core.Bool.{true, false}
+use mathlib.Core.Path.{_≡_, sym, ap, _∙_, subst}
+use native.Mathlib.Omega.{arith}
+use Rattle.call_land.proofs.checks.Statement.{statement}
+use Rattle.call_land.proofs.checks.Tie as tie
+
+in-range-requires : tie.Need-in-range-requires
+in-range-requires c κs = search needs
+
+-- 01, Refusals, 5: what the row says is what the definition says
+waits-is :
+    (c : tie.After-waiting)
+    → c .waiting .result ≡ waiting
+    (c .before .before .before .before .before .before .before .before .before .before .before .before .before .args .p)
+    (c .before .before .before .before .before .before .before .before .before .before .before .before .before .args .state)
+    (c .before .before .before .before .before .before .before .before .before .before .before .before .before .args .drive)
+    (c .before .before .before .before .before .before .before .before .before .before .before .before .before .args .stripe)
+waits-is c =
+    let entry = c .before .before .before .before .before .before .before .before .before .before .before .before .before in
+    let args = entry .args in
+    let pre = entry .pre in
+    c .waiting .ensures ∙ waits-row (args .p) (args .state) (args .drive) (args .stripe) (args .seen) (pre)
+
+returns : tie.Need-returns
+returns c =
+    let a = c .before .before .before .before .before .before .before .args in
+    let st = a .state in
+    let k : Disk = mkDisk (a .image .now) (a .pointers .now) in
+    let m : Memory = mkMemory st (a .addresses .now) (a .compact .now) (a .inflight .now) in
+    let er : inRange (a .p) ≡ false = sym (c .before .in-range .ensures) ∙ not-true (c .before .in-range .result) (c .if1 .taken) in
+    range-fails (a .p) k m (a .drive) (a .stripe) er
+
+lent-ok-requires : tie.Need-lent-ok-requires
+lent-ok-requires c κs = sym (c .before .in-range .ensures) ∙ not-false (c .before .in-range .result) (c .if1 .left)
+
+returns-2 : tie.Need-returns-2
+returns-2 c =
+    let a = c .before .before .before .before .before .before .before .before .before .args in
+    let if1 = c .before .before .if1 in
+    let in-range = c .before .before .before .in-range in
+    let st = a .state in
+    let k : Disk = mkDisk (a .image .now) (a .pointers .now) in
+    let m : Memory = mkMemory st (a .addresses .now) (a .compact .now) (a .inflight .now) in
+    let er : inRange (a .p) ≡ true = sym (in-range .ensures) ∙ not-false (in-range .result) (if1 .left) in
+    let el : lentOk (a .p) k m ≡ false = sym (c .before .lent-ok .ensures st) ∙ not-true (c .before .lent-ok .result) (c .if2 .taken) in
+    lengths-fail (a .p) k m (a .drive) (a .stripe) el ∙ range-passes (a .p) k m (a .drive) (a .stripe) er
+
+returns-3 : tie.Need-returns-3
+returns-3 c =
+    let a = c .before .before .before .before .before .before .before .before .before .before .before .args in
+    let if2 = c .before .before .if2 in
+    let lent-ok = c .before .before .before .lent-ok in
+    let if1 = c .before .before .before .before .if1 in
+    let in-range = c .before .before .before .before .before .in-range in
+    let st = a .state in
+    let k : Disk = mkDisk (a .image .now) (a .pointers .now) in
+    let m : Memory = mkMemory st (a .addresses .now) (a .compact .now) (a .inflight .now) in
+    let er : inRange (a .p) ≡ true = sym (in-range .ensures) ∙ not-false (in-range .result) (if1 .left) in
+    let el : lentOk (a .p) k m ≡ true = sym (lent-ok .ensures st) ∙ not-false (lent-ok .result) (if2 .left) in
+    missing-fails (a .p) k m (a .drive) (a .stripe) (c .if3 .taken)
+    ∙ lengths-pass (a .p) k m (a .drive) (a .stripe) el
+    ∙ range-passes (a .p) k m (a .drive) (a .stripe) er
+
+waiting-requires : tie.Need-waiting-requires
+waiting-requires c κs =
+    let if1 = c .before .before .before .before .before .if1 in
+    let in-range = c .before .before .before .before .before .before .in-range in
+    sym (in-range .ensures) ∙ not-false (in-range .result) (if1 .left)
+
+returns-4 : tie.Need-returns-4
+returns-4 c =
+    let a = c .before .before .before .before .before .before .before .before .before .before .before .before .before .before .args in
+    let if3 = c .before .before .before .if3 in
+    let if2 = c .before .before .before .before .before .if2 in
+    let lent-ok = c .before .before .before .before .before .before .lent-ok in
+    let if1 = c .before .before .before .before .before .before .before .if1 in
+    let in-range = c .before .before .before .before .before .before .before .before .in-range in
+    let st = a .state in
+    let k : Disk = mkDisk (a .image .now) (a .pointers .now) in
+    let m : Memory = mkMemory st (a .addresses .now) (a .compact .now) (a .inflight .now) in
+    let er : inRange (a .p) ≡ true = sym (in-range .ensures) ∙ not-false (in-range .result) (if1 .left) in
+    let el : lentOk (a .p) k m ≡ true = sym (lent-ok .ensures st) ∙ not-false (lent-ok .result) (if2 .left) in
+    let ew : waiting (a .p) st (a .drive) (a .stripe) ≡ false = sym (waits-is (c .before)) ∙ not-true (c .before .waiting .result) (c .if4 .taken) in
+    waiting-fails (a .p) k m (a .drive) (a .stripe) ew
+    ∙ missing-passes (a .p) k m (a .drive) (a .stripe) (if3 .left)
+    ∙ lengths-pass (a .p) k m (a .drive) (a .stripe) el
+    ∙ range-passes (a .p) k m (a .drive) (a .stripe) er
+
+state-ok-requires : tie.Need-state-ok-requires
+state-ok-requires c κs = search needs
+
+returns-5 : tie.Need-returns-5
+returns-5 c =
+    let a = c .before .before .before .before .before .before .before .before .before .before .before .before .before .before .before .before .args in
+    let if4 = c .before .before .if4 in
+    let at = c .before .before .before in
+    let waiting′ = c .before .before .before .waiting in
+    let if3 = c .before .before .before .before .before .if3 in
+    let if2 = c .before .before .before .before .before .before .before .if2 in
+    let lent-ok = c .before .before .before .before .before .before .before .before .lent-ok in
+    let if1 = c .before .before .before .before .before .before .before .before .before .if1 in
+    let in-range = c .before .before .before .before .before .before .before .before .before .before .in-range in
+    let st = a .state in
+    let k : Disk = mkDisk (a .image .now) (a .pointers .now) in
+    let m : Memory = mkMemory st (a .addresses .now) (a .compact .now) (a .inflight .now) in
+    let er : inRange (a .p) ≡ true = sym (in-range .ensures) ∙ not-false (in-range .result) (if1 .left) in
+    let el : lentOk (a .p) k m ≡ true = sym (lent-ok .ensures st) ∙ not-false (lent-ok .result) (if2 .left) in
+    let ew : waiting (a .p) st (a .drive) (a .stripe) ≡ true = sym (waits-is (at)) ∙ not-false (waiting′ .result) (if4 .left) in
+    let eo : stateOk (a .p) st ≡ false = sym (c .before .state-ok .ensures) ∙ not-true (c .before .state-ok .result) (c .if5 .taken) in
+    state-fails (a .p) k m (a .drive) (a .stripe) eo
+    ∙ waiting-passes (a .p) k m (a .drive) (a .stripe) ew
+    ∙ missing-passes (a .p) k m (a .drive) (a .stripe) (if3 .left)
+    ∙ lengths-pass (a .p) k m (a .drive) (a .stripe) el
+    ∙ range-passes (a .p) k m (a .drive) (a .stripe) er
+
+land-fault-requires : tie.Need-land-fault-requires
+land-fault-requires c κs =
+    let a = c .before .before .before .before .before .before .before .before .before .before .before .before .before .before .before .before .args in
+    let if4 = c .before .before .if4 in
+    let at = c .before .before .before in
+    let waiting′ = c .before .before .before .waiting in
+    let if2 = c .before .before .before .before .before .before .before .if2 in
+    let lent-ok = c .before .before .before .before .before .before .before .before .lent-ok in
+    let if1 = c .before .before .before .before .before .before .before .before .before .if1 in
+    let in-range = c .before .before .before .before .before .before .before .before .before .before .in-range in
+    let pre = c .before .before .before .before .before .before .before .before .before .before .before .before .before .before .before .before .pre in
+    let st = a .state in
+    let k : Disk = mkDisk (a .image .now) (a .pointers .now) in
+    let m : Memory = mkMemory st (a .addresses .now) (a .compact .now) (a .inflight .now) in
+    let er : inRange (a .p) ≡ true = sym (in-range .ensures) ∙ not-false (in-range .result) (if1 .left) in
+    let el : lentOk (a .p) k m ≡ true = sym (lent-ok .ensures st) ∙ not-false (lent-ok .result) (if2 .left) in
+    let ew : waiting (a .p) st (a .drive) (a .stripe) ≡ true = sym (waits-is (at)) ∙ not-false (waiting′ .result) (if4 .left) in
+    let eo : stateOk (a .p) st ≡ true = sym (c .before .state-ok .ensures) ∙ not-false (c .before .state-ok .result) (c .if5 .left) in
+    let r = ranged (a .p) er in
+    let long = lent-long (a .p) k m el in
+    let w = waits-low (a .p) st (a .drive) (a .stripe) ew in
+    let f = filled-low (a .p) st eo (slotOf st (a .stripe)) (w .1) in
+    let sn = pre in
+    let g = segment-low (a .p) st eo (omega (arith, r .zones-low)) in
+    let e : filledIn (alone (a .seen .row)) 0 ≡ filledIn st (slotOf st (a .stripe)) = ap (λ (x : Row). filledIn (alone x) 0) (sn .row (w .1)) ∙ row-filled st (slotOf st (a .stripe)) in
+    (er, ((long .1, long .2, w .0), (subst (λ (x : ℕ). x < a .p .Z) (sym (sn .segment)) g, omega (arith, e, f, data-count-high (a .p) r))))
+
+zone-check-requires : tie.Need-zone-check-requires
+zone-check-requires c κs = search needs
+
+returns-6 : tie.Need-returns-6
+returns-6 c =
+    let a = c .before .before .before .before .before .before .before .before .before .before .before .before .before .before .before .before .before .before .args in
+    let if5 = c .before .before .if5 in
+    let state-ok = c .before .before .before .state-ok in
+    let if4 = c .before .before .before .before .if4 in
+    let at = c .before .before .before .before .before in
+    let waiting′ = c .before .before .before .before .before .waiting in
+    let if3 = c .before .before .before .before .before .before .before .if3 in
+    let if2 = c .before .before .before .before .before .before .before .before .before .if2 in
+    let lent-ok = c .before .before .before .before .before .before .before .before .before .before .lent-ok in
+    let if1 = c .before .before .before .before .before .before .before .before .before .before .before .if1 in
+    let in-range = c .before .before .before .before .before .before .before .before .before .before .before .before .in-range in
+    let pre = c .before .before .before .before .before .before .before .before .before .before .before .before .before .before .before .before .before .before .pre in
+    let st = a .state in
+    let k : Disk = mkDisk (a .image .now) (a .pointers .now) in
+    let m : Memory = mkMemory st (a .addresses .now) (a .compact .now) (a .inflight .now) in
+    let er : inRange (a .p) ≡ true = sym (in-range .ensures) ∙ not-false (in-range .result) (if1 .left) in
+    let el : lentOk (a .p) k m ≡ true = sym (lent-ok .ensures st) ∙ not-false (lent-ok .result) (if2 .left) in
+    let ew : waiting (a .p) st (a .drive) (a .stripe) ≡ true = sym (waits-is (at)) ∙ not-false (waiting′ .result) (if4 .left) in
+    let eo : stateOk (a .p) st ≡ true = sym (state-ok .ensures) ∙ not-false (state-ok .result) (if5 .left) in
+    let long = lent-long (a .p) k m el in
+    let r = ranged (a .p) er in
+    c .zone-check .ensures
+    ∙ faults-refused (a .p) k m (a .drive) (a .stripe) eo er (segment-low (a .p) st eo (omega (arith, r .zones-low))) (c .before .land-fault .result)
+    (c .before .land-fault .ensures (a .image .now) (long .0)
+    ∙ faults-seen (a .p) (seen (a .p) k) m (a .drive) (a .stripe) (a .seen) (pre) (waits-low (a .p) st (a .drive) (a .stripe) ew .1)
+    (filled-low (a .p) st eo (slotOf st (a .stripe)) (waits-low (a .p) st (a .drive) (a .stripe) ew .1)) er)
+    ∙ waiting-passes (a .p) k m (a .drive) (a .stripe) ew
+    ∙ missing-passes (a .p) k m (a .drive) (a .stripe) (if3 .left)
+    ∙ lengths-pass (a .p) k m (a .drive) (a .stripe) el
+    ∙ range-passes (a .p) k m (a .drive) (a .stripe) er
+
+pub checks-spec : {M : Type 1} → statement M
+checks-spec =
+    tie.close
+    (tie.spec
+    in-range-requires
+    returns
+    lent-ok-requires
+    returns-2
+    returns-3
+    waiting-requires
+    returns-4
+    state-ok-requires
+    returns-5
+    land-fault-requires
+    zone-check-requires
+    returns-6)

@@ -1,0 +1,124 @@
+use Rattle.mem_calls.specs.Left.{checked}
+use Rattle.spec.specs.Drives.{Disk, mkDisk}
+use Rattle.spec.specs.Lists.Opt.{none, some}
+use Rattle.spec.specs.Memory.{Memory, mkMemory}
+use Rattle.call_land.specs.Ends.{Chosen, land-refused}
+use Rattle.call_land.specs.Ready.{refusal}
+use Rattle.mem_rows.specs.declared.Change.{Change}
+use Rattle.mem_rows.specs.Rows.{Sized}
+use borrow.Author.Needs.{needs}
+use mathlib.Core.Path.{_≡_, sym, ap, _∙_}
+use Rattle.call_land.proofs.land.Statement.{statement}
+use Rattle.call_land.proofs.land.Tie as tie
+
+look-at-requires : tie.Need-look-at-requires
+look-at-requires c κs = search needs
+
+front-of-requires : tie.Need-front-of-requires
+front-of-requires c κs = search needs
+
+checks-requires : tie.Need-checks-requires
+checks-requires c κs = search needs
+
+enum-known-c : tie.Need-enum-known-c
+enum-known-c c = search needs
+
+kept-requires : tie.Need-kept-requires
+kept-requires c κs = search needs
+
+same-length : tie.Need-same-length
+same-length c = search needs
+
+same-length-2 : tie.Need-same-length-2
+same-length-2 c = search needs
+
+same-length-3 : tie.Need-same-length-3
+same-length-3 c = search needs
+
+same-length-4 : tie.Need-same-length-4
+same-length-4 c = search needs
+
+returns : tie.Need-returns
+returns c =
+    let a = c .before .before .before .before .before .before .before .before .before .before .before .before .before .before .before .before .args in
+    let checks = c .before .before .before .before .checks in
+    let st = a .state in
+    let k : Disk = mkDisk (a .image .now) (a .pointers .now) in
+    let m : Memory = mkMemory st (a .addresses .now) (a .compact .now) (a .inflight .now) in
+    let q = c .before .before .c .given in
+    let e = sym (ap (λ (x : Change). x .answer) (c .kept .ensures)) in
+    land-refused (a .p) k m (a .drive) (a .stripe) (a .count) (c .kept .result) (sym (checks .ensures) ∙ ap checked (q .1) ∙ ap some e)
+
+enum-told : tie.Need-enum-told
+enum-told c = search needs
+
+-- the arrays have their lengths
+sized : (c : tie.Start) → Sized (c .args .state)
+sized c = record {
+  numbers = search needs;
+  filled = search needs;
+  writes = search needs;
+  landed = search needs;
+  addresses = search needs;
+  stamps = search needs;
+  offsets = search needs;
+}
+
+-- the state, looked at and not refused
+chosen :
+    (c : tie.After-enum-told)
+    → Chosen (c .before .before .before .before .before .before .before .before .before .before .before .before .before .before .args .p)
+    (mkDisk (c .before .before .before .before .before .before .before .before .before .before .before .before .before .before .args .image .now)
+    (c .before .before .before .before .before .before .before .before .before .before .before .before .before .before .args .pointers .now))
+    (c .before .before .before .before .before .before .before .before .before .before .before .before .before .before .args .addresses .now)
+    (c .before .before .before .before .before .before .before .before .before .before .before .before .before .before .args .compact .now)
+    (c .before .before .before .before .before .before .before .before .before .before .before .before .before .before .args .inflight .now)
+    (c .before .before .before .before .before .before .before .before .before .before .before .before .before .before .args .drive)
+    (c .before .before .before .before .before .before .before .before .before .before .before .before .before .before .args .stripe)
+    (c .before .before .before .before .before .before .before .before .look-at .result)
+    (c .before .before .before .before .before .before .before .front-of .result)
+    (c .before .before .before .before .before .before .before .before .before .before .before .before .before .before .args .state)
+chosen c =
+    let checks = c .before .before .checks in
+    let front-of = c .before .before .before .before .before .before .before .front-of in
+    let look-at = c .before .before .before .before .before .before .before .before .look-at in
+    let at′ = c .before .before .before .before .before .before .before .before .before .before .before .before .before .before in
+    record {
+      sized = sized (at′);
+      front = front-of .ensures;
+      looks = look-at .ensures;
+      none! = sym (checks .ensures) ∙ ap checked (c .enum-told .given .1);
+    }
+
+plan-requires : tie.Need-plan-requires
+plan-requires c κs =
+    let at = c .before .before .before .before in
+    let args = c .before .before .before .before .before .before .before .before .before .before .before .before .before .before .before .before .before .before .args in
+    (args .state, chosen (at))
+
+same-length-5 : tie.Need-same-length-5
+same-length-5 c = search needs
+
+same-length-6 : tie.Need-same-length-6
+same-length-6 c = search needs
+
+same-length-7 : tie.Need-same-length-7
+same-length-7 c = search needs
+
+same-length-8 : tie.Need-same-length-8
+same-length-8 c = search needs
+
+returns-2 : tie.Need-returns-2
+returns-2 c =
+    let plan = c .before .before .before .before .before .before .before .before .plan in
+    let at = c .before .before .before .before .before .before .before .before .before .before .before .before .before in
+    let at′ = c .before .before .before .before .before .before .before .before .before .before .before .before .before .before .before .before .before in
+    let args =
+    at′
+    .before .before .before .before .before .before .before .before .before .before .args in
+    plan .ensures (args .state) (chosen (at))
+
+pub land-spec : {M : Type 1} → statement M
+land-spec =
+    tie.close (tie.spec look-at-requires front-of-requires checks-requires enum-known-c kept-requires same-length same-length-2 same-length-3
+    same-length-4 returns enum-told plan-requires same-length-5 same-length-6 same-length-7 same-length-8 returns-2)

@@ -1,0 +1,53 @@
+use Prim.Native.Nat.{ℕ, _<_}
+use Rattle.spec.specs.Landing.{slotOf}
+use Rattle.spec.specs.Memory.{inFlight}
+use Rattle.mem_rows.specs.Rows.{rowOf}
+use borrow.Author.Needs.{needs}
+use lib.Dec.{eqb}
+use lib.ListN.{length}
+use mathlib.Core.Bool.{Bool, _&&_}
+use mathlib.Core.Path.{_≡_, sym, ap, _∙_, subst}
+use Rattle.call_land.proofs.look_at.Statement.{statement}
+use Rattle.call_land.proofs.look_at.Tie as tie
+
+slot-of-requires : tie.Need-slot-of-requires
+slot-of-requires c κs = search needs
+
+within-requires : tie.Need-within-requires
+within-requires c κs = search needs
+
+row-of-requires : tie.Need-row-of-requires
+row-of-requires c κs = c .within .ensures .0
+
+open-segment-requires : tie.Need-open-segment-requires
+open-segment-requires c κs = search needs
+
+completes-requires : tie.Need-completes-requires
+completes-requires c κs = search needs
+
+in-flight-requires : tie.Need-in-flight-requires
+in-flight-requires c κs = search needs
+
+is-last-requires : tie.Need-is-last-requires
+is-last-requires c κs = search needs
+
+returns : tie.Need-returns
+returns c =
+    let a = c .before .before .before .before .before .before .before .args in
+    let completes = c .before .before .completes in
+    let open-segment = c .before .before .before .open-segment in
+    let row-of = c .before .before .before .before .row-of in
+    let within = c .before .before .before .before .before .within in
+    let slot-of = c .before .before .before .before .before .before .slot-of in
+    let e = slot-of .ensures in
+    let d = completes .result in
+    record {
+      slot = e;
+      row = λ h. row-of .ensures ∙ ap (rowOf (a .state)) (within .ensures .1 (subst (λ (x : ℕ). x < 8) (sym e) h) ∙ e);
+      segment = open-segment .ensures;
+      done = completes .ensures;
+      seals = c .is-last .ensures ∙ ap (λ (x : ℕ). d && eqb (a .state .next) (a .p .S) && eqb x 1) (c .before .in-flight .ensures);
+    }
+
+pub look-at-spec : {M : Type 1} → statement M
+look-at-spec = tie.close (tie.spec slot-of-requires within-requires row-of-requires open-segment-requires completes-requires in-flight-requires is-last-requires returns)

@@ -1,0 +1,261 @@
+-- What is so where no check of a landing holds (01, Landing; Refusals). Assumes nothing.
+use mathlib.Core.Path.{_≡_, refl, sym, ap, _∙_, subst}
+use mathlib.Core.List.{List, [], _∷_, _++_, map}
+use mathlib.Core.Bool.{Bool, true, false, cond, not, _&&_, _||_}
+use Prim.Native.Nat.{ℕ, zero, suc, _+_, _-_, _^_, _≤_, _<_}
+use lib.Arith.{lt-of-le-ne}
+use native.Mathlib.Decide.{decLt, ℕ-discrete}
+use borrow.Author.Tests.{leb-true, leb-false, ltb-true, ltb-false}
+use native.Mathlib.Omega.{arith}
+use lib.Dec.{leb, ltb, eqb}
+use lib.ListN.{length, getD, set, List·getD-eq-default}
+use lib.Count.{ones}
+use Rattle.spec.specs.declared.Params.{Params}
+use Rattle.spec.specs.declared.State.{State}
+use Rattle.spec.specs.declared.Answer.{Answer}
+use Rattle.spec.specs.Calls.Check.{rule, zones}
+use Rattle.spec.specs.Calls.{Check, firstRefusal}
+use Rattle.spec.specs.Drives.{View, pointerAt, Disk, pointerOf, zoneOn}
+use Rattle.spec.specs.Engine.{lentOk}
+use Rattle.spec.specs.Landing.{slotOf, ready as isReady, waiting, completes, seals, misplaced, overfull, entryFaults, landFaults, landChecks}
+use Rattle.spec.specs.Layout.{group, Rec}
+use Rattle.spec.specs.Lists.{Opt, upFrom, below, all, any, consIf, flat, isIn}
+use Rattle.spec.specs.Lists.Opt.{none}
+use Rattle.spec.specs.Memory.{Memory, slotCount, slots, cell, stripeIn, filledIn, landedIn, entryIn, entriesIn, offsetIn, openSegment, slotOk, stateOk, stateFaults, markLanded, placeAt}
+use Rattle.spec.specs.Params.{between, dataCount, inRange, footers, capacity, addressesLen, compactLen, inflightLen, placeBlock, placeZone, placeDrive, drivesOf}
+use Rattle.spec.specs.Read.{placeFaults}
+use Rattle.law_basic.specs.Geometry.{between-low, between-high, ranged as rangedIn, zone-on-lt}
+use Rattle.law_basic.specs.Ranges.{Test, test, and-left, and-right, not-both, all-getD, all-in-below}
+use Rattle.law_basic.specs.Ranges.Test.{yes!, no! }
+use Rattle.law_views.specs.Views.{Whole, pointer-view, seen}
+use Rattle.law_calls.specs.Refusals.{rule-free, zones-free, state-free}
+use Rattle.call_land_faults.specs.Lowest.{entry-placed}
+use Rattle.call_land_table.specs.Winners.{IsData, Sane, Sound}
+use Rattle.call_write.specs.Ready.{lent-long}
+
+-- 01, Refusals: the first check of a landing that holds, on what it is lent
+abbrev pub refusal : Params → Disk → Memory → ℕ → ℕ → Opt Answer
+refusal p k m d s = firstRefusal (landChecks p (lentOk p k m) (seen p k) m d s)
+
+pub record Ready (p : Params) (k : Disk) (m : Memory) (d s : ℕ) : Type 0 where
+  pub ranged : inRange p ≡ true
+  pub whole : Whole p k
+  pub addresses-long : length (m .addresses) ≡ addressesLen p
+  pub compact-long : length (m .compact) ≡ compactLen p
+  pub inflight-long : length (m .inflight) ≡ inflightLen p
+  pub drive-low : d < p .N
+  pub slot-low : slotOf (m .state) s < 8
+  pub fine : stateOk p (m .state) ≡ true
+  pub faultless : landFaults p (seen p k) m d s ≡ []
+
+not-false! : (a : Bool) → not a ≡ false → a ≡ true
+not-false! true h = refl
+not-false! false h = absurd (not-both true refl h)
+
+append-none : (xs ys : List ℕ) → (xs ++ ys) ≡ [] → (xs ≡ []) × (ys ≡ [])
+append-none [] ys e = (refl, e)
+append-none (x ∷ xs) ys e = absurd (let z : _≡_ {A = ℕ} (suc (length (xs ++ ys))) 0 = ap length e in let w : ⊥ = omega arith in w)
+
+-- 01, Refusals, 5: what a chunk that waits says
+pub waits-low : (p : Params) (st : State) (d s : ℕ) → waiting p st d s ≡ true → (d < p .N) × (slotOf st s < 8)
+unfolding waiting slotCount
+waits-low p st d s e =
+    let i = slotOf st s in
+    let w = and-left (ltb d (p .N) && ltb i 8) (isReady p st i d) e in
+    (ltb-true d (p .N) (and-left (ltb d (p .N)) (ltb i 8) w), ltb-true i 8 (and-right (ltb d (p .N)) (ltb i 8) w))
+
+pub ready : (p : Params) (k : Disk) (m : Memory) (d s : ℕ) → refusal p k m d s ≡ none → Ready p k m d s
+unfolding landChecks
+ready p k m d s e =
+    let st = m .state in
+    let long = lentOk p k m in
+    let zs = landFaults p (seen p k) m d s in
+    let r₉ : List Check = zones (stateFaults p st ++ zs) ∷ [] in
+    let r₅ : List Check = rule 5 (not (waiting p st d s)) ∷ r₉ in
+    let r₃ : List Check = rule 3 (not (eqb (st .missing) 0)) ∷ r₅ in
+    let r₂ : List Check = rule 2 (not long) ∷ r₃ in
+    let f₁ = rule-free 1 (not (inRange p)) r₂ e in
+    let f₂ = rule-free 2 (not long) r₃ (f₁ .1) in
+    let f₃ = rule-free 3 (not (eqb (st .missing) 0)) r₅ (f₂ .1) in
+    let f₅ = rule-free 5 (not (waiting p st d s)) r₉ (f₃ .1) in
+    let f₉ = zones-free (stateFaults p st ++ zs) [] (f₅ .1) in
+    let n = append-none (stateFaults p st) zs (f₉ .0) in
+    let l = lent-long p k m (not-false! long (f₂ .0)) in
+    let w = waits-low p st d s (not-false! (waiting p st d s) (f₅ .0)) in
+    record {
+      ranged = not-false! (inRange p) (f₁ .0);
+      whole = record { image-long = l .0; pointers-long = l .1 };
+      addresses-long = l .2;
+      compact-long = l .3;
+      inflight-long = l .4;
+      drive-low = w .0;
+      slot-low = w .1;
+      fine = state-free p st (n .0);
+      faultless = n .1;
+    }
+
+-- ---- what a state in range says
+
+module _ (p : Params) (st : State) (fine : stateOk p st ≡ true) where
+  abbrev lives : Bool
+  lives = eqb (st .live) 1 && ltb (st .missing) (2 ^ p .N) && leb (ones (st .missing)) 1
+
+  parts : (leb (st .opened) (p .Z) ≡ true) × (all (slotOk p st) slots ≡ true) × (all (λ o. ltb o (p .S)) (st .offsets) ≡ true)
+  unfolding stateOk
+  parts =
+      let a = leb (st .opened) (p .Z) in
+      let b = leb (st .next) (p .S) in
+      let c = all (slotOk p st) slots in
+      let d = all (λ o. ltb o (p .S)) (st .offsets) in
+      let h = and-left (lives && a && b && c) d fine in
+      let h₁ = and-left (lives && a && b) c h in
+      let h₂ = and-left (lives && a) b h₁ in
+      (and-right lives a h₂, and-right (lives && a && b) c h, and-right (lives && a && b && c) d fine)
+
+  pub segment-low : 0 < p .Z → openSegment st < p .Z
+  unfolding openSegment
+  segment-low h = omega (arith, leb-true (st .opened) (p .Z) (parts .0))
+
+  pub filled-low : (i : ℕ) → i < 8 → filledIn st i ≤ dataCount p
+  unfolding slots slotCount slotOk
+  filled-low i h =
+      let a = ltb (stripeIn st i) (p .S) in
+      let b = leb (filledIn st i) (dataCount p) in
+      let c = ltb (getD (st .writes) i 0) (2 ^ dataCount p) in
+      let d = ltb (landedIn st i) (2 ^ p .N) in
+      leb-true (filledIn st i) (dataCount p) (and-right a b (and-left (a && b) c (and-left (a && b && c) d (all-in-below (slotOk p st) 8 i (parts .1) h))))
+
+  low-in : (l : List ℕ) → all (λ o. ltb o (p .S)) l ≡ true → 0 < p .S → (j : ℕ) → getD l j 0 < p .S
+  low-in l e h j = go (decLt j (length l))
+    where
+      go : Dec (j < length l) → getD l j 0 < p .S
+      go (yes x) = ltb-true (getD l j 0) (p .S) (all-getD (λ o. ltb o (p .S)) l j 0 e x)
+      go (no x) = subst (λ (y : ℕ). y < p .S) (sym (List·getD-eq-default l 0 (omega arith))) h
+
+  set-low : (l : List ℕ) (i v : ℕ) → ((j : ℕ) → getD l j 0 < p .S) → v < p .S → (j : ℕ) → getD (set l i v) j 0 < p .S
+  set-low [] i v f h j = f j
+  set-low (x ∷ l) zero v f h zero = h
+  set-low (x ∷ l) zero v f h (suc j) = f (suc j)
+  set-low (x ∷ l) (suc i) v f h zero = f 0
+  set-low (x ∷ l) (suc i) v f h (suc j) = set-low l i v (λ y. f (suc y)) h j
+
+  -- 01, Landing: the offsets that are remembered, with one more
+  pub offsets-low : (i d o e : ℕ) → o < p .S → offsetIn (markLanded st i d o) i e < p .S
+  unfolding offsetIn markLanded
+  offsets-low i d o e h = set-low (st .offsets) (cell i d) o (low-in (st .offsets) (parts .2) (omega arith)) h (cell i e)
+
+-- ---- what no bad zone says
+
+if-none : (b : Bool) (g : ℕ) (zs : List ℕ) → consIf b g zs ≡ [] → (b ≡ false) × (zs ≡ [])
+unfolding consIf
+if-none true g zs e = absurd (let z : _≡_ {A = ℕ} (suc (length zs)) 0 = ap length e in let w : ⊥ = omega arith in w)
+if-none false g zs e = (refl, e)
+
+flat-nothing : {A : Type 0} (f : A → List ℕ) (g : ℕ → A) (i n k : ℕ) → flat f (map g (upFrom i n)) ≡ [] → i ≤ k → k < i + n → f (g k) ≡ []
+unfolding upFrom flat
+flat-nothing f g i zero k e h l = absurd (let w : ⊥ = omega arith in w)
+flat-nothing {A} f g i (suc n) k e h l =
+    let w = append-none (f (g i)) (flat f (map g (upFrom (suc i) n))) e in
+    go (ℕ-discrete i k) (w .0) (λ x. flat-nothing f g (suc i) n k (w .1) x (omega arith))
+  where
+    go : Dec (i ≡ k) → f (g i) ≡ [] → (suc i ≤ k → f (g k) ≡ []) → f (g k) ≡ []
+    go (yes q) a b = ap (λ (x : ℕ). f (g x)) (sym q) ∙ a
+    go (no q) a b = b (lt-of-le-ne h q)
+
+or-false : (x y : Bool) → (x || y) ≡ false → (x ≡ false) × (y ≡ false)
+or-false true y q = absurd (not-both true refl q)
+or-false false y q = (refl, q)
+
+-- 01, Refusals, 9: a place that can be read is one of a data block
+place-data : (p : Params) (v : View) (q : ℕ) → placeFaults p v 0 q ≡ [] → IsData p q
+unfolding placeFaults
+place-data p v q e = go (test (leb (p .N) (placeDrive p q)))
+  where
+    d : ℕ
+    d = placeDrive p q
+
+    b : ℕ
+    b = placeBlock p q
+
+    bad : Bool
+    bad = not (between 1 (p .S) b) || (not (isIn 0 d) && leb (pointerAt v d (placeZone p q)) b)
+
+    go : Test (leb (p .N) d) → IsData p q
+    go (yes! t) =
+        absurd (let f : cond {A = List ℕ} true (0 ∷ []) (consIf bad (placeZone p q) [])
+        ≡ [] = subst (λ (x : Bool). cond {A = List ℕ} x (0 ∷ []) (consIf bad (placeZone p q) []) ≡ []) t e in let z : _≡_ {A = ℕ} 1 0 = ap length
+        f in let w : ⊥ = omega arith in w)
+    go (no! t) =
+        let f : consIf bad (placeZone p q) [] ≡ [] = subst (λ (x : Bool). cond {A = List ℕ} x (0 ∷ []) (consIf bad (placeZone p q) []) ≡ []) t e in
+        let h = if-none bad (placeZone p q) [] f in
+        let c = not-false! (between 1 (p .S) b) (or-false (not (between 1 (p .S) b)) (not (isIn 0 d) && leb (pointerAt v d (placeZone p q)) b) (h .0) .0) in
+        (leb-false (p .N) d t, between-low 1 (p .S) b c, between-high 1 (p .S) b c)
+
+entry-sane : (p : Params) (v : View) (tb : List ℕ) (e : Rec) → entryFaults p v tb e ≡ [] → e .address < p .L → Sane p (placeAt tb (e .address))
+entry-sane p v tb e f h n = place-data p v (placeAt tb (e .address)) (sym (entry-placed p v tb e h n) ∙ f)
+
+any-false : (f : ℕ → Bool) (i n k : ℕ) → any f (upFrom i n) ≡ false → i ≤ k → k < i + n → f k ≡ false
+unfolding any upFrom
+any-false f i zero k e h l = absurd (let w : ⊥ = omega arith in w)
+any-false f i (suc n) k e h l =
+    let w = or-false (f i) (any f (upFrom (suc i) n)) e in
+    go (ℕ-discrete i k) (w .0) (λ x. any-false f (suc i) n k (w .1) x (omega arith))
+  where
+    go : Dec (i ≡ k) → f i ≡ false → (suc i ≤ k → f k ≡ false) → f k ≡ false
+    go (yes q) a b = ap f (sym q) ∙ a
+    go (no q) a b = b (lt-of-le-ne h q)
+
+module _ (p : Params) (k : Disk) (m : Memory) (d s : ℕ) (r : Ready p k m d s) where
+  abbrev slot : ℕ
+  slot = slotOf (m .state) s
+
+  abbrev segment : ℕ
+  segment = openSegment (m .state)
+
+  abbrev entries : List ℕ
+  entries = flat (entryFaults p (seen p k) (m .addresses)) (entriesIn (m .state) slot)
+
+  faults : (misplaced p (seen p k) d (zoneOn segment d) s ≡ false) × ((seals p (m .state) slot d && overfull p (seen p k) d segment) ≡ false) × (cond (completes p (m .state) slot d) entries [] ≡ [])
+  unfolding landFaults
+  faults =
+      let b = seals p (m .state) slot d && overfull p (seen p k) d segment in
+      let ws : List ℕ = cond (completes p (m .state) slot d) entries [] in
+      let x = if-none (misplaced p (seen p k) d (zoneOn segment d) s) segment (consIf b segment ws) (r .faultless) in
+      let y = if-none b segment ws (x .1) in
+      (x .0, y .0, y .1)
+
+  pub open-low : openSegment (m .state) < p .Z
+  open-low = segment-low p (m .state) (r .fine) (omega (arith, rangedIn p (r .ranged) .zones-low))
+
+  pub zone-low : zoneOn (openSegment (m .state)) d < p .Z
+  zone-low = zone-on-lt p segment d open-low
+
+  pub slot-filled : filledIn (m .state) (slotOf (m .state) s) ≤ dataCount p
+  slot-filled = filled-low p (m .state) (r .fine) slot (r .slot-low)
+
+  -- 01, Refusals, 9: the pointer is at a data block
+  pub pointer-data : (1 ≤ pointerOf p (k .pointers) d (zoneOn (openSegment (m .state)) d)) × (pointerOf p (k .pointers) d (zoneOn (openSegment (m .state)) d) ≤ p .S)
+  unfolding misplaced
+  pointer-data =
+      let n = pointerAt (seen p k) d (zoneOn segment d) in
+      let c = and-left (between 1 (p .S) n) (eqb (group p (n - 1)) (group p s)) (not-false! (between 1 (p .S) n && eqb (group p (n - 1)) (group p s)) (faults .0)) in
+      let q = pointer-view p k d (zoneOn segment d) (r .drive-low) zone-low (r .whole) in
+      (omega (arith, q, between-low 1 (p .S) n c), omega (arith, q, between-high 1 (p .S) n c))
+
+  -- the places that the table holds of the stripe's addresses are those of data blocks
+  pub table-sound : completes p (m .state) (slotOf (m .state) s) d ≡ true → (o : ℕ) → Sound p (markLanded (m .state) (slotOf (m .state) s) d o) (slotOf (m .state) s) (m .addresses)
+  unfolding entryIn entriesIn filledIn markLanded below stripeIn
+  table-sound c o h l a =
+      let e : entries ≡ [] = subst (λ (x : Bool). cond {A = List ℕ} x entries [] ≡ []) c (faults .2) in
+      entry-sane p (seen p k) (m .addresses) (entryIn (m .state) slot h)
+      (flat-nothing (entryFaults p (seen p k) (m .addresses)) (entryIn (m .state) slot) 0 (filledIn (m .state) slot) h e (omega arith) (omega arith)) a
+
+  -- 01, Refusals, 9: room for the footers on every drive, once the chunk is stored
+  pub feet-room : seals p (m .state) (slotOf (m .state) s) d ≡ true → (e : ℕ) → e < p .N → pointerOf p (k .pointers) e (zoneOn (openSegment (m .state)) e) + cond (eqb e d) 1 0 + footers p ≤ capacity p
+  unfolding overfull drivesOf below
+  feet-room c e he =
+      let f : ℕ → Bool = λ x. ltb (capacity p) (pointerAt (seen p k) x (zoneOn segment x) + cond (eqb x d) 1 0 + footers p) in
+      let o : any f (upFrom 0 (p .N)) ≡ false = subst (λ (x : Bool). (x && overfull p (seen p k) d segment) ≡ false) c (faults .1) in
+      let q = pointer-view p k e (zoneOn segment e) he (zone-on-lt p segment e open-low) (r .whole) in
+      let u = ltb-false (capacity p) (pointerAt (seen p k) e (zoneOn segment e) + cond (eqb e d) 1 0 + footers p) (any-false f 0 (p .N) e o (omega arith) (omega arith)) in
+      subst (λ (x : ℕ). x + cond (eqb e d) 1 0 + footers p ≤ capacity p) q u

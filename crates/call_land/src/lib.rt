@@ -1,0 +1,406 @@
+// The landing call (01, Landing).
+ghost use mathlib.Core.Path.{_≡_};
+ghost use mathlib.Core.Bool.{true};
+ghost use mathlib.Core.List.{[]};
+ghost use Prim.Native.Nat.{ℕ, _+_, _-_, _≤_, _<_};
+ghost use lib.ListN.{length, set, replicate};
+ghost use Rattle.mem_calls.specs.Left.{checked};
+ghost use Rattle.spec.specs.declared.Answer.the-variants.{Cut};
+ghost use Rattle.spec.specs.declared.State.{State as StateOf};
+ghost use Rattle.spec.specs.Drives.{viewOf, mkDisk, pointerOf, storeDisk, zoneOn};
+ghost use Rattle.spec.specs.Drives.Store.{put};
+ghost use Rattle.spec.specs.Engine.{callDisk};
+ghost use Rattle.spec.specs.Engine.Call.{land};
+ghost use Rattle.spec.specs.Landing.{flightRec};
+ghost use Rattle.spec.specs.Layout.{compactEntry, recordBytes};
+ghost use Rattle.spec.specs.Memory.{mkMemory, filledIn, offsetIn, compactAt, slotBlock};
+ghost use Rattle.spec.specs.Params.{inRange, dataCount, footers, capacity, addressesLen, compactLen, inflightLen};
+ghost use Rattle.call_land.specs.Ends.{Chosen};
+ghost use Rattle.call_land.specs.Marked.{changeTo};
+ghost use Rattle.call_land.specs.Plan.{Looks, sealsOf, Completing};
+ghost use Rattle.call_land.specs.Ready.{refusal};
+ghost use Rattle.call_land_table.specs.Winners.{Sound};
+ghost use Rattle.mem_rows.specs.Rows.{afterChange};
+ghost use Rattle.law_views.specs.Views.{Whole};
+ghost use Rattle.call_land_chunk.specs.Alone.{alone, markRow};
+ghost use Rattle.disk_zones.specs.Made.{Storing};
+use disk_zones::Made;
+use mem_calls::Check;
+use mem_rows::Change;
+use mem_rows::Front;
+use mem_rows::Row;
+use spec::Answer;
+use spec::Params;
+use spec::State;
+
+// What a landing asks of the state, once: the stripe's eighth (8: not in flight) and its row, the open segment, whether the chunk completes the stripe, and
+// whether it seals the segment.
+pub struct Look {
+    pub slot: usize,
+    pub segment: usize,
+    pub done: bool,
+    pub seals: bool,
+    pub row: Row,
+}
+
+// An eighth as it is, 0 for none.
+fn within(slot: usize) -> usize
+    ensures { λ r. ⌜ (r < 8) × (slot < 8 → r ≡ slot) ⌝ }
+{
+    if slot < 8 {
+        return slot;
+    }
+    0
+}
+
+// 01, Landing: looks at the state.
+fn look_at(p: Params, state: State, drive: usize, stripe: usize) -> Look
+    ensures { λ r. ⌜ Looks p state drive stripe r ⌝ }
+{
+    let slot = mem_state::slot_of(state, stripe);
+    let row = mem_rows::row_of(state, within(slot));
+    let segment = mem_state::open_segment(state);
+    let done = call_land_chunk::completes(p, row, drive);
+    let flying = mem_state::in_flight(state);
+    let seals = call_land_chunk::is_last(p, done, state.next, flying);
+    Look {
+        slot,
+        segment,
+        done,
+        seals,
+        row,
+    }
+}
+
+// 01, Refusals: the checks of a landing, in order.
+fn checks(
+    p: Params,
+    image: &[u8],
+    pointers: &[u8],
+    addresses: &[u8],
+    compact: &[u8],
+    inflight: &[u8],
+    state: State,
+    seen: Look,
+    drive: usize,
+    stripe: usize,
+) -> Check
+    requires { ⌜ Looks p state drive stripe seen ⌝ }
+    ensures { λ r. ⌜
+        checked r
+        ≡ refusal p (mkDisk (now (image .entry)) (now (pointers .entry)))
+        (mkMemory state (now (addresses .entry)) (now (compact .entry)) (now (inflight .entry))) drive stripe ⌝ }
+{
+    if !disk_shape::in_range(p) {
+        return Check::Fail(Answer::Refused(1));
+    }
+    if !mem_calls::lent_ok(p, image, pointers, addresses, compact, inflight) {
+        return Check::Fail(Answer::Refused(2));
+    }
+    if state.missing != 0 {
+        return Check::Fail(Answer::Refused(3));
+    }
+    let row = seen.row;
+    if !call_land_chunk::waiting(p, seen.slot, row, drive) {
+        return Check::Fail(Answer::Refused(5));
+    }
+    if !mem_state::state_ok(p, state) {
+        return Check::Fail(Answer::BadZone(0));
+    }
+    let z = call_land_faults::land_fault(
+        p,
+        pointers,
+        addresses,
+        row,
+        drive,
+        seen.segment,
+        stripe,
+        seen.done,
+        seen.seals,
+    );
+    mem_lookup::zone_check(p, z)
+}
+
+// 01, Landing: the chunk of a drive goes to the zone's write pointer, its record in its spare.
+fn put_chunk(
+    p: Params,
+    image: &mut [u8],
+    pointers: &mut [u8],
+    inflight: &[u8],
+    row: Row,
+    i: usize,
+    drive: usize,
+    zone: usize,
+)
+    requires { ⌜ inRange p ≡ true ⌝ }
+    requires { ⌜ Whole p (mkDisk (now image) (now pointers)) ⌝ }
+    requires { ⌜ (length (now inflight) ≡ inflightLen p) × (i < 8) × (filledIn (alone row) 0 ≤ 8) ⌝ }
+    requires { ⌜ (drive < p .N) × (zone < p .Z) × (pointerOf p (now pointers) drive zone < capacity p) ⌝ }
+    ensures { λ _. ⌜
+        mkDisk (now (image .exit)) (now (pointers .exit))
+        ≡ storeDisk p (put drive zone (slotBlock p (now (inflight .entry)) i drive) (recordBytes (flightRec p (alone row) 0 drive)))
+        (mkDisk (now (image .entry)) (now (pointers .entry))) ⌝ }
+{
+    let mut spare = [0u8; 20];
+    disk_records::write_record(&mut spare, call_land_chunk::flight_record(p, row, drive));
+    let a = disk_shape::slot_byte(p, i, drive);
+    let e = a + p.B;
+    disk_zones::put(p, image, pointers, drive, zone, &inflight[a..e], &spare);
+}
+
+// 01, What a zone holds: the compact table's entry of the chunk.
+fn show_chunk(
+    p: Params,
+    compact: &mut [u8],
+    drive: usize,
+    zone: usize,
+    offset: usize,
+    stripe: usize,
+)
+    requires { ⌜ inRange p ≡ true ⌝ }
+    requires { ⌜ (length (now compact) ≡ compactLen p) × (drive < p .N) × (zone < p .Z) × (offset < p .S) ⌝ }
+    ensures { λ _. ⌜ now (compact .exit) ≡ set (now (compact .entry)) (compactAt p drive zone offset) (compactEntry p stripe) ⌝ }
+{
+    let c = disk_shape::compact_at(p, drive, zone, offset);
+    let b = disk_shape::compact_entry(p, stripe);
+    compact[c] = b;
+}
+
+// 01, Landing: the chunk is stored, shown in the compact table, and remembered with its offset.
+fn store_chunk(
+    p: Params,
+    image: &mut [u8],
+    pointers: &mut [u8],
+    compact: &mut [u8],
+    inflight: &[u8],
+    row: Row,
+    i: usize,
+    segment: usize,
+    drive: usize,
+    stripe: usize,
+) -> Row
+    requires { ⌜ inRange p ≡ true ⌝ }
+    requires { ⌜ Whole p (mkDisk (now image) (now pointers)) ⌝ }
+    requires { ⌜ (length (now compact) ≡ compactLen p) × (length (now inflight) ≡ inflightLen p) × (i < 8) × (filledIn (alone row) 0 ≤ 8) ⌝ }
+    requires { ⌜ (drive < p .N) × (segment < p .Z) × (1 ≤ pointerOf p (now pointers) drive (zoneOn segment drive)) × (pointerOf p (now pointers) drive (zoneOn segment drive) ≤ p .S) ⌝ }
+    ensures { λ _. ⌜
+        mkDisk (now (image .exit)) (now (pointers .exit))
+        ≡ storeDisk p
+        (put drive (zoneOn segment drive) (slotBlock p (now (inflight .entry)) i drive) (recordBytes (flightRec p (alone row) 0 drive)))
+        (mkDisk (now (image .entry)) (now (pointers .entry))) ⌝ }
+    ensures { λ r. ⌜
+        (now (compact .exit)
+        ≡ set (now (compact .entry))
+        (compactAt p drive (zoneOn segment drive) (pointerOf p (now (pointers .entry)) drive (zoneOn segment drive) - 1))
+        (compactEntry p stripe))
+        × (r ≡ markRow row drive (pointerOf p (now (pointers .entry)) drive (zoneOn segment drive) - 1)) ⌝ }
+{
+    let zone = disk_shape::zone_on(segment, drive);
+    let offset = disk_zones::pointer(p, pointers, drive, zone) as usize - 1;
+    put_chunk(p, image, pointers, inflight, row, i, drive, zone);
+    show_chunk(p, compact, drive, zone, offset, stripe);
+    call_land_chunk::mark_landed(row, drive, offset)
+}
+
+// 01, Landing: the landing after which all S stripes are complete also stores the footers.
+fn seal(
+    p: Params,
+    image: &mut [u8],
+    pointers: &mut [u8],
+    segment: usize,
+    seals: bool,
+    count: u64,
+) -> Made
+    requires { ⌜ inRange p ≡ true ⌝ }
+    requires { ⌜ Whole p (mkDisk (now image) (now pointers)) ⌝ }
+    requires { ⌜ (segment < p .Z) × (seals ≡ true → (d : ℕ) → d < p .N → pointerOf p (now pointers) d (zoneOn segment d) + footers p ≤ capacity p) ⌝ }
+    ensures { λ r. ⌜
+        Storing p count (sealsOf p (mkDisk (now (image .entry)) (now (pointers .entry))) segment seals)
+        (mkDisk (now (image .entry)) (now (pointers .entry))) r (mkDisk (now (image .exit)) (now (pointers .exit))) ⌝ }
+{
+    if !seals {
+        return Made {
+            left: count,
+            cut: false,
+        };
+    }
+    call_land_seal::seal_stores(p, image, pointers, segment, count)
+}
+
+// 01, Store count: a cut leaves the tables all zeros.
+fn cut(addresses: &mut [u8], compact: &mut [u8]) -> Answer
+    ensures { λ r. ⌜ (r ≡ Cut) × (now (addresses .exit) ≡ replicate (length (now (addresses .entry))) 0) × (now (compact .exit) ≡ replicate (length (now (compact .entry))) 0) ⌝ }
+{
+    disk_blocks::clear(addresses);
+    disk_blocks::clear(compact);
+    Answer::Cut
+}
+
+// 01, Landing: the stripe is complete: the table points at what holds, its writes are acknowledged, and the last one's landing seals.
+fn complete(
+    p: Params,
+    image: &mut [u8],
+    pointers: &mut [u8],
+    addresses: &mut [u8],
+    compact: &mut [u8],
+    row: Row,
+    segment: usize,
+    seals: bool,
+    count: u64,
+) -> Answer
+    requires { ⌜ inRange p ≡ true ⌝ }
+    requires { ⌜ Whole p (mkDisk (now image) (now pointers)) ⌝ }
+    requires { ⌜ (length (now addresses) ≡ addressesLen p) × Sound p (alone row) 0 (now addresses) ⌝ }
+    requires { ⌜ (filledIn (alone row) 0 ≤ dataCount p) × ((d : ℕ) → d < p .N → offsetIn (alone row) 0 d < p .S) ⌝ }
+    requires { ⌜ (segment < p .Z) × (seals ≡ true → (d : ℕ) → d < p .N → pointerOf p (now pointers) d (zoneOn segment d) + footers p ≤ capacity p) ⌝ }
+    ensures { λ r. ⌜
+        Completing p count row segment seals (mkDisk (now (image .entry)) (now (pointers .entry))) (now (addresses .entry)) (now (compact .entry)) r
+        (mkDisk (now (image .exit)) (now (pointers .exit))) (now (addresses .exit)) (now (compact .exit)) ⌝ }
+{
+    call_land_table::point(p, image, pointers, addresses, segment, row);
+    let made = seal(p, image, pointers, segment, seals, count);
+    if made.cut {
+        return cut(addresses, compact);
+    }
+    let n = call_land_chunk::writes_in(row);
+    Answer::Landed(n as u64)
+}
+
+// 01, Landing: what changes in the state: the stripe's eighth, and, at the end of a segment, that none is open.
+fn change_to(answer: Answer, front: Front, i: usize, row: Row, closes: bool) -> Change
+    ensures { λ r. ⌜ r ≡ changeTo answer front i row closes ⌝ }
+{
+    let stamp = front.stamp;
+    let serial = front.serial;
+    let mut opened = front.opened;
+    let mut next = front.next;
+    if closes {
+        opened = 0;
+        next = 0;
+    }
+    Change {
+        answer,
+        stamp,
+        serial,
+        opened,
+        next,
+        slot: i,
+        row,
+    }
+}
+
+// 01, Landing; Store count: where no check holds.
+fn plan(
+    p: Params,
+    image: &mut [u8],
+    pointers: &mut [u8],
+    addresses: &mut [u8],
+    compact: &mut [u8],
+    inflight: &[u8],
+    front: Front,
+    seen: Look,
+    drive: usize,
+    stripe: usize,
+    count: u64,
+) -> Change
+    requires { ⌜ ((st : StateOf) × Chosen p (mkDisk (now image) (now pointers)) (now addresses) (now compact) (now inflight) drive stripe seen front st) ⌝ }
+    ensures { λ r. ⌜
+        ((st : StateOf)
+        → Chosen p (mkDisk (now (image .entry)) (now (pointers .entry))) (now (addresses .entry)) (now (compact .entry)) (now (inflight .entry))
+        drive stripe seen front st
+        → afterChange st r (now (image .exit)) (now (pointers .exit)) (now (addresses .exit)) (now (compact .exit)) (now (inflight .entry)) [] ≡
+        callDisk p (mkDisk (now (image .entry)) (now (pointers .entry)))
+        (mkMemory st (now (addresses .entry)) (now (compact .entry)) (now (inflight .entry))) (land drive stripe count)) ⌝ }
+{
+    if count == 0 {
+        let answer = cut(addresses, compact);
+        return mem_rows::kept(answer, front);
+    }
+    let i = seen.slot;
+    let segment = seen.segment;
+    let row = seen.row;
+    let marked = store_chunk(
+        p,
+        image,
+        pointers,
+        compact,
+        inflight,
+        row,
+        i,
+        segment,
+        drive,
+        stripe,
+    );
+    if !seen.done {
+        return change_to(Answer::Landed(0), front, i, marked, false);
+    }
+    let seals = seen.seals;
+    let answer = complete(
+        p,
+        image,
+        pointers,
+        addresses,
+        compact,
+        marked,
+        segment,
+        seals,
+        count - 1,
+    );
+    change_to(
+        answer,
+        front,
+        i,
+        call_land_chunk::free_stripe(marked),
+        seals,
+    )
+}
+
+// A landing: refused, cut or done, with the change made it leaves what the definition says.
+pub fn land(
+    p: Params,
+    image: &mut [u8],
+    pointers: &mut [u8],
+    addresses: &mut [u8],
+    compact: &mut [u8],
+    inflight: &[u8],
+    state: State,
+    drive: usize,
+    stripe: usize,
+    count: u64,
+) -> Change
+    ensures { λ r. ⌜
+        afterChange state r (now (image .exit)) (now (pointers .exit)) (now (addresses .exit)) (now (compact .exit)) (now (inflight .entry)) []
+        ≡ callDisk p (mkDisk (now (image .entry)) (now (pointers .entry)))
+        (mkMemory state (now (addresses .entry)) (now (compact .entry)) (now (inflight .entry))) (land drive stripe count) ⌝ }
+{
+    let seen = look_at(p, state, drive, stripe);
+    let front = mem_rows::front_of(state);
+    let c = checks(
+        p,
+        image,
+        pointers,
+        addresses,
+        compact,
+        inflight,
+        state,
+        seen,
+        drive,
+        stripe,
+    );
+    if let Check::Fail(answer) = c {
+        return mem_rows::kept(answer, front);
+    }
+    plan(
+        p,
+        image,
+        pointers,
+        addresses,
+        compact,
+        inflight,
+        front,
+        seen,
+        drive,
+        stripe,
+        count,
+    )
+}

@@ -1,0 +1,240 @@
+use Prim.Native.Nat.{ℕ}
+use Rattle.spec.specs.Drives.{Disk, mkDisk, viewOf}
+use Rattle.spec.specs.Engine.{lentOk}
+use Rattle.spec.specs.Lists.{consIf}
+use Rattle.spec.specs.Memory.{Memory, mkMemory, stateOf, stateOk}
+use Rattle.spec.specs.Params.{inRange}
+use Rattle.spec.specs.Read.{lookup, foundFaults}
+use Rattle.mem_lookup.specs.Lies.{foundOf}
+use Rattle.call_read.specs.Order.{found, range-fails, range-passes, lengths-fail, block-fails, lengths-pass, address-fails, address-passes, state-fails, state-passes}
+use Rattle.call_read.specs.Sought.{liesAt}
+use Rattle.call_write.specs.Ready.{lent-long}
+use borrow.Author.Tests.{not-true, not-false}
+use lib.Dec.{ltb}
+use mathlib.Core.Bool.{true, false}
+use mathlib.Core.List.{[]}
+use mathlib.Core.Path.{_≡_, sym, ap, _∙_, subst}
+use native.Mathlib.Omega.{arith}
+use borrow.Author.Needs.{needs}
+use Rattle.call_read.proofs.seek.Statement.{statement}
+use Rattle.call_read.proofs.seek.Tie as tie
+
+abbrev disk : tie.Start → Disk
+disk s = mkDisk (s .args .image .now) (s .args .pointers .now)
+
+abbrev memory : tie.Start → Memory
+memory s = mkMemory (stateOf (s .args .state .now)) (s .args .addresses .now) (s .args .compact .now) (s .args .inflight .now)
+
+in-range-requires : tie.Need-in-range-requires
+in-range-requires c κs = search needs
+
+returns : tie.Need-returns
+returns c =
+    let one = c in
+    let range = one .before in
+    let s = range .before .before .before .before .before .before .before in
+    let p = s .args .p in
+    let k = disk s in
+    let m = memory s in
+    let a = s .args .address .0 in
+    let n = s .args .len in
+    let er : inRange p ≡ false = sym (range .in-range .ensures) ∙ not-true (range .in-range .result) (one .if1 .taken) in
+    (range-fails p k m a n er, tt)
+
+lent-ok-requires : tie.Need-lent-ok-requires
+lent-ok-requires c κs = sym (c .before .in-range .ensures) ∙ not-false (c .before .in-range .result) (c .if1 .left)
+
+returns-2 : tie.Need-returns-2
+returns-2 c =
+    let two = c in
+    let lent = two .before in
+    let one = lent .before in
+    let range = one .before in
+    let s = range .before .before .before .before .before .before .before in
+    let p = s .args .p in
+    let k = disk s in
+    let m = memory s in
+    let a = s .args .address .0 in
+    let n = s .args .len in
+    let er : inRange p ≡ true = sym (range .in-range .ensures) ∙ not-false (range .in-range .result) (one .if1 .left) in
+    let el : lentOk p k m ≡ false = sym (lent .lent-ok .ensures (m .state)) ∙ not-true (lent .lent-ok .result) (two .if2 .taken) in
+    (lengths-fail p k m a n el ∙ range-passes p k m a n er, tt)
+
+returns-3 : tie.Need-returns-3
+returns-3 c =
+    let three = c in
+    let two = three .before .before in
+    let lent = two .before in
+    let one = lent .before in
+    let range = one .before in
+    let s = range .before .before .before .before .before .before .before in
+    let p = s .args .p in
+    let k = disk s in
+    let m = memory s in
+    let a = s .args .address .0 in
+    let n = s .args .len in
+    let er : inRange p ≡ true = sym (range .in-range .ensures) ∙ not-false (range .in-range .result) (one .if1 .left) in
+    let el : lentOk p k m ≡ true = sym (lent .lent-ok .ensures (m .state)) ∙ not-false (lent .lent-ok .result) (two .if2 .left) in
+    (block-fails p k m a n el (three .if3 .taken) ∙ range-passes p k m a n er, tt)
+
+returns-4 : tie.Need-returns-4
+returns-4 c =
+    let four = c in
+    let three = four .before .before in
+    let two = three .before .before in
+    let lent = two .before in
+    let one = lent .before in
+    let range = one .before in
+    let s = range .before .before .before .before .before .before .before in
+    let p = s .args .p in
+    let k = disk s in
+    let m = memory s in
+    let a = s .args .address .0 in
+    let n = s .args .len in
+    let er : inRange p ≡ true = sym (range .in-range .ensures) ∙ not-false (range .in-range .result) (one .if1 .left) in
+    let el : lentOk p k m ≡ true = sym (lent .lent-ok .ensures (m .state)) ∙ not-false (lent .lent-ok .result) (two .if2 .left) in
+    (address-fails p k m a n (omega (arith, four .if4 .taken)) ∙ lengths-pass p k m a n el (three .if3 .left) ∙ range-passes p k m a n er, tt)
+
+state-ok-requires : tie.Need-state-ok-requires
+state-ok-requires c κs =
+    let four = c in
+    let three = four .before .before in
+    let two = three .before .before in
+    let lent = two .before in
+    let one = lent .before in
+    let range = one .before in
+    let s = range .before .before .before .before .before .before .before in
+    let p = s .args .p in
+    let er : inRange p ≡ true = sym (range .in-range .ensures) ∙ not-false (range .in-range .result) (one .if1 .left) in
+    (er, s .pre)
+
+returns-5 : tie.Need-returns-5
+returns-5 c =
+    let five = c in
+    let state = five .before in
+    let four = state .before in
+    let three = four .before .before in
+    let two = three .before .before in
+    let lent = two .before in
+    let one = lent .before in
+    let range = one .before in
+    let s = range .before .before .before .before .before .before .before in
+    let p = s .args .p in
+    let k = disk s in
+    let m = memory s in
+    let a = s .args .address .0 in
+    let n = s .args .len in
+    let er : inRange p ≡ true = sym (range .in-range .ensures) ∙ not-false (range .in-range .result) (one .if1 .left) in
+    let el : lentOk p k m ≡ true = sym (lent .lent-ok .ensures (m .state)) ∙ not-false (lent .lent-ok .result) (two .if2 .left) in
+    let es : stateOk p (m .state) ≡ false = sym (state .state-ok .ensures) ∙ not-true (state .state-ok .result) (five .if5 .taken) in (
+      state-fails p k m a n es ∙ address-passes p k m a n (omega (arith, four .if4 .left))
+          ∙ lengths-pass p k m a n el (three .if3 .left) ∙ range-passes p k m a n er,
+      tt,
+    )
+
+missing-requires : tie.Need-missing-requires
+missing-requires c κs =
+    let five = c in
+    let state = five .before in
+    let four = state .before in
+    let three = four .before .before in
+    let two = three .before .before in
+    let lent = two .before in
+    let one = lent .before in
+    let range = one .before in
+    let s = range .before .before .before .before .before .before .before in
+    s .pre
+
+lookup-requires : tie.Need-lookup-requires
+lookup-requires c κs =
+    let gone = c in
+    let five = gone .before in
+    let state = five .before in
+    let four = state .before in
+    let three = four .before .before in
+    let two = three .before .before in
+    let lent = two .before in
+    let one = lent .before in
+    let range = one .before in
+    let s = range .before .before .before .before .before .before .before in
+    let p = s .args .p in
+    let k = disk s in
+    let m = memory s in
+    let er : inRange p ≡ true = sym (range .in-range .ensures) ∙ not-false (range .in-range .result) (one .if1 .left) in
+    let el : lentOk p k m ≡ true = sym (lent .lent-ok .ensures (m .state)) ∙ not-false (lent .lent-ok .result) (two .if2 .left) in
+    (er, (lent-long p k m el .2, omega (arith, four .if4 .left)))
+
+found-fault-requires : tie.Need-found-fault-requires
+found-fault-requires c κs =
+    let looked = c in
+    let gone = looked .before in
+    let five = gone .before in
+    let state = five .before in
+    let four = state .before in
+    let three = four .before .before in
+    let two = three .before .before in
+    let lent = two .before in
+    let one = lent .before in
+    let range = one .before in
+    let s = range .before .before .before .before .before .before .before in
+    let p = s .args .p in
+    let k = disk s in
+    let m = memory s in
+    let er : inRange p ≡ true = sym (range .in-range .ensures) ∙ not-false (range .in-range .result) (one .if1 .left) in
+    let el : lentOk p k m ≡ true = sym (lent .lent-ok .ensures (m .state)) ∙ not-false (lent .lent-ok .result) (two .if2 .left) in
+    (er, lent-long p k m el .1)
+
+judged-requires : tie.Need-judged-requires
+judged-requires c κs = search needs
+
+returns-6 : tie.Need-returns-6
+returns-6 c =
+    let zone = c .before in
+    let looked = zone .before in
+    let gone = looked .before in
+    let five = gone .before in
+    let state = five .before in
+    let four = state .before in
+    let three = four .before .before in
+    let two = three .before .before in
+    let lent = two .before in
+    let one = lent .before in
+    let range = one .before in
+    let s = range .before .before .before .before .before .before .before in
+    let p = s .args .p in
+    let k = disk s in
+    let m = memory s in
+    let a = s .args .address .0 in
+    let n = s .args .len in
+    let er : inRange p ≡ true = sym (range .in-range .ensures) ∙ not-false (range .in-range .result) (one .if1 .left) in
+    let el : lentOk p k m ≡ true = sym (lent .lent-ok .ensures (m .state)) ∙ not-false (lent .lent-ok .result) (two .if2 .left) in
+    let es : stateOk p (m .state) ≡ true = sym (state .state-ok .ensures) ∙ not-false (state .state-ok .result) (five .if5 .left) in
+    let z = zone .found-fault .result in
+    let v = viewOf p (k .image) (k .pointers) in
+    let g : gone .missing .result ≡ m .state .missing = gone .missing .ensures in
+    let e : foundOf (looked .lookup .result) ≡ found p k m a n = looked .lookup .ensures ∙ ap (λ (x : ℕ). lookup p x (m .addresses) a) g in
+    let ef : foundFaults p v (m .state .missing) (found p k m a n) ≡ consIf (ltb z (p .Z)) z [] =
+    (λ j. foundFaults p v (sym g j) (sym e j)) ∙ zone .found-fault .ensures (k .image) (lent-long p k m el .0) in (
+      c .judged .ensures .0 ∙ state-passes p k m a n es (consIf (ltb z (p .Z)) z []) ef
+          ∙ address-passes p k m a n (omega (arith, four .if4 .left)) ∙ lengths-pass p k m a n el (three .if3 .left)
+          ∙ range-passes p k m a n er,
+      subst (liesAt (c .judged .result)) e (c .judged .ensures .1),
+    )
+
+pub seek-spec : {M : Type 1} → statement M
+seek-spec =
+    tie.close
+    (tie.spec
+    in-range-requires
+    returns
+    lent-ok-requires
+    returns-2
+    returns-3
+    returns-4
+    state-ok-requires
+    returns-5
+    missing-requires
+    lookup-requires
+    found-fault-requires
+    judged-requires
+    returns-6)

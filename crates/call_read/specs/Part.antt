@@ -1,0 +1,54 @@
+-- The part of the lent image that the first read answers with, by its bytes and its place (01, Read; Which form to use where). Assumes nothing.
+use denote.Ref.{RefT}
+use mathlib.Core.Path.{_≡_, refl, sym, ap}
+use mathlib.Core.List.{List, [], _∷_}
+use mathlib.Core.Bool.{Bool, true, false, cond}
+use Prim.Native.Nat.{ℕ, _+_}
+use native.Mathlib.Omega.{arith}
+use lib.Dec.{leb, eqb}
+use lib.ListN.{getD}
+use Rattle.spec.specs.declared.Params.{Params}
+use Rattle.spec.specs.declared.Answer.{Answer}
+use Rattle.spec.specs.declared.Answer.the-variants.{Refused, BadZone, Part}
+use Rattle.spec.specs.Answers.{kind, values}
+use Rattle.spec.specs.Bytes.{part}
+use Rattle.spec.specs.Calls.Check.{rule, zones}
+use Rattle.spec.specs.Calls.{Check, ninth, ruled, firstRefusal}
+use Rattle.spec.specs.Lists.Opt.{some}
+use Rattle.spec.specs.Lists.{least}
+use Rattle.law_basic.specs.Ranges.{not-both}
+
+-- r is the n bytes of the lent slice s from index at: its bytes, and where it lies in memory
+pub record PartOf (s : RefT (List ℕ)) (at n : ℕ) (r : RefT (List ℕ)) : Type 0 where
+  pub bytes : r .now ≡ part at n (s .now)
+  pub object : r .ptr .0 ≡ s .ptr .0
+  pub offset : r .ptr .1 ≡ s .ptr .1 + at
+
+-- 01, Read: where the part of an answer begins; 0 where the answer is no part
+unfoldable pub partAt : Answer → ℕ
+partAt r = cond (eqb (kind r) 8) (getD (values r) 0 0) 0
+
+-- 01, Read: and its length; none where the answer is no part
+unfoldable pub partLen : Params → Answer → ℕ
+partLen p r = cond (eqb (kind r) 8) (p .B) 0
+
+pub part-here : (p : Params) (n : ℕ) → (partAt (Part n) ≡ n) × (partLen p (Part n) ≡ p .B)
+unfolding partAt partLen kind values
+part-here p n = (refl, refl)
+
+pub part-none : (p : Params) (r : Answer) → eqb (kind r) 8 ≡ false → (0 ≡ partAt r) × (0 ≡ partLen p r)
+unfolding partAt partLen
+part-none p r e = (sym (ap (λ (x : Bool). cond x (getD (values r) 0 0) 0) e), sym (ap (λ (x : Bool). cond x (p .B) 0) e))
+
+-- refusals are no parts
+refusal-kind : (cs : List Check) (r : Answer) → firstRefusal cs ≡ some r → leb (kind r) 1 ≡ true
+unfolding firstRefusal ruled ninth kind
+refusal-kind [] r e = absurd (let z : _≡_ {A = ℕ} 0 1 = cc in let w : ⊥ = omega arith in w)
+refusal-kind (rule n true ∷ cs) r e = let q : Refused n ≡ r = cc in ap (λ (x : Answer). leb (kind x) 1) (sym q)
+refusal-kind (rule n false ∷ cs) r e = refusal-kind cs r e
+refusal-kind (zones [] ∷ cs) r e = refusal-kind cs r e
+refusal-kind (zones (z ∷ zs) ∷ cs) r e = let q : BadZone (least z zs) ≡ r = cc in ap (λ (x : Answer). leb (kind x) 1) (sym q)
+
+pub not-refused : (cs : List Check) (at : ℕ) → firstRefusal cs ≡ some (Part at) → ⊥
+unfolding kind
+not-refused cs at e = not-both (leb (kind (Part at)) 1) (refusal-kind cs (Part at) e) refl

@@ -1,0 +1,275 @@
+-- The checks of reclaim one after the other, and what it then does (01, Refusals; Reclaim). Assumes nothing.
+use Prim.Native.Nat.{ℕ, suc, _*_, min, _<_}
+use Rattle.spec.specs.Calls.{Check, ninth, ruled, firstRefusal}
+use Rattle.spec.specs.Calls.Check.{rule, zones}
+use Rattle.spec.specs.Drives.{View, Disk}
+use Rattle.spec.specs.Engine.{lentOk}
+use Rattle.spec.specs.Lists.{Opt, any, consIf, keep, isNil, least, firstOr}
+use Rattle.spec.specs.Lists.Opt.{none, some}
+use Rattle.spec.specs.Memory.{Memory, stateOk, stateFaults}
+use Rattle.spec.specs.Params.{inRange, capacity}
+use Rattle.spec.specs.Reclaim.{tableFaults, Victim, victim, isNone, victimSegment, victimLive, idle, reclaimChecks}
+use Rattle.spec.specs.Write.{opens, noSerial, mustWait, scarce}
+use Rattle.spec.specs.declared.Answer.{Answer}
+use Rattle.spec.specs.declared.Answer.the-variants.{Refused, BadZone}
+use Rattle.spec.specs.declared.Params.{Params}
+use Rattle.spec.specs.declared.State.{State}
+use Rattle.law_basic.specs.Ranges.{not-both, keep-none}
+use Rattle.law_calls.specs.Refusals.{zones-pass, none-left, state-fault, state-fine, rule-fails, rule-passes}
+use Rattle.call_reclaim.specs.declared.Choice.{Choice}
+use Rattle.call_reclaim.specs.declared.Choice.the-variants.{Refuse, Clear, Copy}
+use Rattle.call_reclaim_victim.specs.Waiting.{isOdd}
+use Rattle.law_views.specs.Views.{seen}
+use borrow.Author.Tests.{eq-eqb, ne-eqb}
+use lib.Dec.{eqb}
+use lib.ListN.{length, drop}
+use mathlib.Core.Bool.{Bool, true, false, cond, not, _&&_, _||_}
+use mathlib.Core.List.{List, [], _∷_, _++_, map}
+use mathlib.Core.Path.{_≡_, refl, sym, ap, ap₂, _∙_}
+use native.Mathlib.Nat.{zero-min}
+use native.Mathlib.Omega.{arith}
+
+-- 01, Refusals: the first check of a reclaim that holds, on what it is lent
+abbrev pub refusal : Params → Disk → Memory → Opt Answer
+refusal p k m = firstRefusal (reclaimChecks p (lentOk p k m) (seen p k) m (victim p (seen p k) (m .addresses)))
+
+-- 01, Refusals, 6 to 8, of a copy
+unfoldable pub copyRules : Params → View → State → List Check
+copyRules p v st = rule 6 (noSerial p st) ∷ rule 7 (mustWait p st) ∷ rule 8 (opens p st && scarce p v 1) ∷ []
+
+-- 01, Refusals, 9: the bad zones of reclaim
+unfoldable pub badZones : Params → State → List ℕ → Opt Victim → List ℕ
+badZones p st tb w = stateFaults p st ++ tableFaults p tb ++ map (λ q. victimSegment w) (keep (isOdd p) (victimLive w))
+
+-- the checks from 5 on
+unfoldable pub laterChecks : Params → View → State → List ℕ → Opt Victim → List Check
+laterChecks p v st tb w =
+    let live = not (isNil (victimLive w)) in
+    rule 5 (isNone w || (live && isNil (idle p v st w)))
+    ∷ rule 6 (live && noSerial p st) ∷ rule 7 (live && mustWait p st) ∷ rule 8 (live && opens p st && scarce p v 1)
+    ∷ zones (badZones p st tb w) ∷ []
+
+-- what the code chooses, where r is the first refusal and w the segment: refuses so, resets it, or copies the first of its live blocks not in flight
+abbrev pub Chose : Params → View → State → Opt Victim → Opt Answer → Choice → Type 0
+Chose p v st w r (Refuse a) = r ≡ some a
+Chose p v st w r (Clear g) = (r ≡ none) × (isNil (victimLive w) ≡ true) × (victimSegment w ≡ g) × (g < p .Z)
+Chose p v st w r (Copy q) = (r ≡ none) × (isNil (victimLive w) ≡ false) × (firstOr 0 (idle p v st w) ≡ q .0) × (q .0 < p .N * p .Z * capacity p) × (isOdd p (q .0) ≡ false)
+
+-- ---- the first checks
+
+module _ (p : Params) (k : Disk) (m : Memory) where
+  -- the segment
+  abbrev pub taken : Opt Victim
+  taken = victim p (seen p k) (m .addresses)
+
+  -- the first refusal among the checks from the i-th on, counted from 0
+  abbrev pub from : ℕ → Opt Answer
+  from i = firstRefusal (drop i (reclaimChecks p (lentOk p k m) (seen p k) m taken))
+
+  abbrev rest : ℕ → List Check
+  rest i = drop (suc i) (reclaimChecks p (lentOk p k m) (seen p k) m taken)
+
+  pub range-fails : inRange p ≡ false → from 0 ≡ some (Refused 1)
+  unfolding reclaimChecks
+  range-fails e = rule-fails 1 (not (inRange p)) (rest 0) (ap not e)
+
+  pub range-passes : inRange p ≡ true → from 0 ≡ from 1
+  unfolding reclaimChecks
+  range-passes e = rule-passes 1 (not (inRange p)) (rest 0) (ap not e)
+
+  pub lengths-fail : lentOk p k m ≡ false → from 1 ≡ some (Refused 2)
+  unfolding reclaimChecks
+  lengths-fail e = rule-fails 2 (not (lentOk p k m)) (rest 1) (ap not e)
+
+  pub lengths-pass : lentOk p k m ≡ true → from 1 ≡ from 2
+  unfolding reclaimChecks
+  lengths-pass e = rule-passes 2 (not (lentOk p k m)) (rest 1) (ap not e)
+
+  pub missing-fails : (m .state .missing ≡ 0 → ⊥) → from 2 ≡ some (Refused 3)
+  unfolding reclaimChecks
+  missing-fails f = rule-fails 3 (not (eqb (m .state .missing) 0)) (rest 2) (ap not (ne-eqb (m .state .missing) 0 f))
+
+  pub missing-passes : m .state .missing ≡ 0 → from 2 ≡ from 3
+  unfolding reclaimChecks
+  missing-passes f = rule-passes 3 (not (eqb (m .state .missing) 0)) (rest 2) (ap not (eq-eqb (m .state .missing) 0 f))
+
+  -- the rest
+  pub from-later : from 3 ≡ firstRefusal (laterChecks p (seen p k) (m .state) (m .addresses) taken)
+  unfolding reclaimChecks laterChecks badZones isOdd
+  from-later = refl
+
+-- the first three pass
+pub front-passes : (p : Params) (k : Disk) (m : Memory) → inRange p ≡ true → lentOk p k m ≡ true → m .state .missing ≡ 0
+    → refusal p k m ≡ firstRefusal (laterChecks p (seen p k) (m .state) (m .addresses) (victim p (seen p k) (m .addresses)))
+front-passes p k m e f g = range-passes p k m e ∙ lengths-pass p k m f ∙ missing-passes p k m g ∙ from-later p k m
+
+-- ---- 6 to 8
+
+module _ (p : Params) (v : View) (st : State) where
+  pub rules-serial : noSerial p st ≡ true → some (Refused 6) ≡ firstRefusal (copyRules p v st)
+  unfolding copyRules firstRefusal ruled
+  rules-serial a = sym (λ j. firstRefusal (rule 6 (a j) ∷ rule 7 (mustWait p st) ∷ rule 8 (opens p st && scarce p v 1) ∷ []))
+
+  module _ (a : noSerial p st ≡ false) where
+    pub rules-wait : mustWait p st ≡ true → some (Refused 7) ≡ firstRefusal (copyRules p v st)
+    unfolding copyRules firstRefusal ruled
+    rules-wait b = sym (λ j. firstRefusal (rule 6 (a j) ∷ rule 7 (b j) ∷ rule 8 (opens p st && scarce p v 1) ∷ []))
+
+    module _ (b : mustWait p st ≡ false) where
+      pub rules-open : opens p st ≡ false → none ≡ firstRefusal (copyRules p v st)
+      unfolding copyRules firstRefusal ruled
+      rules-open o = sym (λ j. firstRefusal (rule 6 (a j) ∷ rule 7 (b j) ∷ rule 8 (o j && scarce p v 1) ∷ []))
+
+      pub rules-scarce : opens p st ≡ true → scarce p v 1 ≡ true → some (Refused 8) ≡ firstRefusal (copyRules p v st)
+      unfolding copyRules firstRefusal ruled
+      rules-scarce o c = sym (λ j. firstRefusal (rule 6 (a j) ∷ rule 7 (b j) ∷ rule 8 (o j && c j) ∷ []))
+
+      pub rules-pass : opens p st ≡ true → scarce p v 1 ≡ false → none ≡ firstRefusal (copyRules p v st)
+      unfolding copyRules firstRefusal ruled
+      rules-pass o c = sym (λ j. firstRefusal (rule 6 (a j) ∷ rule 7 (b j) ∷ rule 8 (o j && c j) ∷ []))
+
+-- ---- bad zones
+
+least-zero : (l : List ℕ) → least 0 l ≡ 0
+unfolding least
+least-zero [] = refl
+least-zero (n ∷ l) = ap (λ (x : ℕ). least x l) (zero-min n) ∙ least-zero l
+
+least-same : (g : ℕ) (l : List ℕ) → least g (map (λ q. g) l) ≡ g
+unfolding least
+least-same g [] = refl
+least-same g (n ∷ l) = ap (λ (x : ℕ). least x (map (λ q. g) l)) (let e : min g g ≡ g = omega arith in e) ∙ least-same g l
+
+zero-first : (l : List ℕ) → firstRefusal (zones (0 ∷ l) ∷ []) ≡ some (BadZone 0)
+unfolding firstRefusal ninth
+zero-first l = ap (λ (n : ℕ). some (BadZone n)) (least-zero l)
+
+module _ (p : Params) (st : State) (tb zs : List ℕ) where
+  pub fault-state : stateOk p st ≡ false → firstRefusal (zones (stateFaults p st ++ tableFaults p tb ++ zs) ∷ []) ≡ some (BadZone 0)
+  fault-state e = ap (λ (l : List ℕ). firstRefusal (zones (l ++ tableFaults p tb ++ zs) ∷ [])) (state-fault p st e) ∙ zero-first (tableFaults p tb ++ zs)
+
+  pub fault-table : stateOk p st ≡ true → (b : Bool) → tableFaults p tb ≡ consIf b 0 []
+      → firstRefusal (zones (stateFaults p st ++ tableFaults p tb ++ zs) ∷ []) ≡ cond b (some (BadZone 0)) (firstRefusal (zones zs ∷ []))
+  unfolding consIf
+  fault-table e b f = ap₂ (λ (l n : List ℕ). firstRefusal (zones (l ++ n ++ zs) ∷ [])) (state-fine p st e) f ∙ go b
+    where
+      go : (b : Bool) → firstRefusal (zones (consIf b 0 [] ++ zs) ∷ []) ≡ cond b (some (BadZone 0)) (firstRefusal (zones zs ∷ []))
+      go true = zero-first zs
+      go false = refl
+
+any-kept : {A : Type 0} (f : A → Bool) (l : List A) → any f l ≡ not (isNil (keep f l))
+unfolding any keep consIf isNil
+any-kept f [] = refl
+any-kept {A} f (a ∷ l) = go (f a) (any-kept f l)
+  where
+    go : (b : Bool) → any f l ≡ not (isNil (keep f l)) → (b || any f l) ≡ not (isNil (consIf b a (keep f l)))
+    go true e = refl
+    go false e = e
+
+-- a live block that is no data block names the segment
+pub odd-zones : (f : ℕ → Bool) (g : ℕ) (l : List ℕ) → firstRefusal (zones (map (λ q. g) (keep f l)) ∷ []) ≡ cond (any f l) (some (BadZone g)) none
+unfolding firstRefusal ninth isNil
+odd-zones f g l = go (keep f l) ∙ ap (λ (x : Bool). cond x (some (BadZone g)) none) (sym (any-kept f l))
+  where
+    go : (m : List ℕ) → firstRefusal (zones (map (λ q. g) m) ∷ []) ≡ cond (not (isNil m)) (some (BadZone g)) none
+    go [] = refl
+    go (x ∷ m) = ap (λ (n : ℕ). some (BadZone n)) (least-same g m)
+
+nil-is : {A : Type 0} (l : List A) → isNil l ≡ true → l ≡ []
+unfolding isNil
+nil-is [] h = refl
+nil-is (a ∷ l) h = absurd (not-both false h refl)
+
+-- ---- from 5 on
+
+all-pass : firstRefusal (rule 6 false ∷ rule 7 false ∷ rule 8 false ∷ []) ≡ none
+unfolding firstRefusal ruled
+all-pass = refl
+
+-- the first of two refusals
+abbrev pub orNext : Opt Answer → Opt Answer → Opt Answer
+orNext none r = r
+orNext (some a) r = some a
+
+three : (a b c : Bool) (cs : List Check) → firstRefusal (rule 6 a ∷ rule 7 b ∷ rule 8 c ∷ cs) ≡ orNext (firstRefusal (rule 6 a ∷ rule 7 b ∷ rule 8 c ∷ [])) (firstRefusal cs)
+unfolding firstRefusal ruled
+three true b c cs = refl
+three false true c cs = refl
+three false false true cs = refl
+three false false false cs = refl
+
+module _ (p : Params) (v : View) (st : State) (tb : List ℕ) (w : Opt Victim) where
+  abbrev pub later : Opt Answer
+  later = firstRefusal (laterChecks p v st tb w)
+
+  abbrev more : List Check
+  more = drop 1 (laterChecks p v st tb w)
+
+  -- no sealed segment
+  pub nobody-fails : isNone w ≡ true → later ≡ some (Refused 5)
+  unfolding laterChecks
+  nobody-fails e = rule-fails 5 (isNone w || (not (isNil (victimLive w)) && isNil (idle p v st w))) more (ap (λ (x : Bool). x || (not (isNil (victimLive w)) && isNil (idle p v st w))) e)
+
+  module _ (e : isNone w ≡ false) where
+    -- none live
+    pub dead-checks : isNil (victimLive w) ≡ true → later ≡ firstRefusal (zones (stateFaults p st ++ tableFaults p tb ++ []) ∷ [])
+    unfolding laterChecks badZones
+    dead-checks d =
+        let z : List ℕ = badZones p st tb w in
+        let n : not (isNil (victimLive w)) ≡ false = ap not d in
+        rule-passes 5 (isNone w || (not (isNil (victimLive w)) && isNil (idle p v st w))) more (λ j. e j || (n j && isNil (idle p v st w)))
+        ∙ (λ j. firstRefusal (rule 6 (n j && noSerial p st) ∷ rule 7 (n j && mustWait p st) ∷ rule 8 (n j && opens p st && scarce p v 1) ∷ zones (badZones p st tb w) ∷ []))
+        ∙ three false false false (zones (badZones p st tb w) ∷ [])
+        ∙ first-none
+        ∙ ap (λ (l : List ℕ). firstRefusal (zones (stateFaults p st ++ tableFaults p tb ++ map (λ q. victimSegment w) (keep (isOdd p) l)) ∷ [])) (nil-is (victimLive w) d)
+        ∙ ap (λ (l : List ℕ). firstRefusal (zones (stateFaults p st ++ tableFaults p tb ++ map (λ q. victimSegment w) l) ∷ [])) (keep-none (isOdd p))
+      where
+        first-none : orNext (firstRefusal (rule 6 false ∷ rule 7 false ∷ rule 8 false ∷ [])) (firstRefusal (zones (badZones p st tb w) ∷ [])) ≡ firstRefusal (zones (badZones p st tb w) ∷ [])
+        first-none = ap (λ (r : Opt Answer). orNext r (firstRefusal (zones (badZones p st tb w) ∷ []))) all-pass
+
+    module _ (d : isNil (victimLive w) ≡ false) where
+      alive : not (isNil (victimLive w)) ≡ true
+      alive = ap not d
+
+      -- all in flight
+      pub idle-fails : isNil (idle p v st w) ≡ true → later ≡ some (Refused 5)
+      unfolding laterChecks
+      idle-fails f = rule-fails 5 (isNone w || (not (isNil (victimLive w)) && isNil (idle p v st w))) more (λ j. e j || (alive j && f j))
+
+      -- some not
+      pub idle-passes : isNil (idle p v st w) ≡ false → later ≡ orNext (firstRefusal (copyRules p v st)) (firstRefusal (zones (badZones p st tb w) ∷ []))
+      unfolding laterChecks copyRules
+      idle-passes f =
+          rule-passes 5 (isNone w || (not (isNil (victimLive w)) && isNil (idle p v st w))) more (λ j. e j || (alive j && f j))
+          ∙ (λ j. firstRefusal (rule 6 (alive j && noSerial p st) ∷ rule 7 (alive j && mustWait p st) ∷ rule 8 (alive j && opens p st && scarce p v 1) ∷ zones (badZones p st tb w) ∷ []))
+          ∙ three (noSerial p st) (mustWait p st) (opens p st && scarce p v 1) (zones (badZones p st tb w) ∷ [])
+
+-- the zones, once neither state nor table is at fault
+pub zones-odd : (p : Params) (st : State) (tb : List ℕ) (w : Opt Victim) (fault odd : Bool) (g : ℕ)
+    → ((zs : List ℕ) → firstRefusal (zones (stateFaults p st ++ tableFaults p tb ++ zs) ∷ []) ≡ cond fault (some (BadZone 0)) (firstRefusal (zones zs ∷ [])))
+    → any (isOdd p) (victimLive w) ≡ odd → victimSegment w ≡ g → firstRefusal (zones (badZones p st tb w) ∷ []) ≡ cond fault (some (BadZone 0)) (cond odd (some (BadZone g)) none)
+unfolding badZones
+zones-odd p st tb w fault odd g h o s =
+    h (map (λ q. victimSegment w) (keep (isOdd p) (victimLive w)))
+    ∙ ap (cond fault (some (BadZone 0))) (odd-zones (isOdd p) (victimSegment w) (victimLive w) ∙ (λ j. cond (o j) (some (BadZone (s j))) none))
+
+-- ---- lists
+
+pub length-nil : {A : Type 0} (l : List A) → length l ≡ 0 → isNil l ≡ true
+unfolding isNil
+length-nil [] h = refl
+length-nil (a ∷ l) h = absurd (let q : ⊥ = omega arith in q)
+
+pub length-some : {A : Type 0} (l : List A) → 0 < length l → isNil l ≡ false
+unfolding isNil
+length-some [] h = absurd (let q : ⊥ = omega arith in q)
+length-some (a ∷ l) h = refl
+
+-- the first of a list, whatever stands for none
+pub first-any : (l : List ℕ) (d x : ℕ) → firstOr d l ≡ x → (x ≡ d → ⊥) → firstOr 0 l ≡ x
+unfolding firstOr
+first-any [] d x e n = absurd (n (sym e))
+first-any (y ∷ l) d x e n = e
+
+pub no-zones : firstRefusal (zones [] ∷ []) ≡ none
+no-zones = zones-pass [] [] refl ∙ none-left

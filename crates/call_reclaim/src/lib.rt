@@ -1,0 +1,228 @@
+// Reclaim (01, Reclaim).
+ghost use mathlib.Core.Path.{_≡_};
+ghost use mathlib.Core.Bool.{true, cond};
+ghost use mathlib.Core.List.{List, [], _∷_, _++_};
+ghost use Prim.Native.Nat.{ℕ, _<_};
+ghost use lib.ListN.{length};
+ghost use Rattle.mem_calls.specs.Left.{checked};
+ghost use Rattle.spec.specs.declared.Answer.the-variants.{BadZone};
+ghost use Rattle.spec.specs.Calls.{firstRefusal, outcome};
+ghost use Rattle.spec.specs.Calls.Check.{zones};
+ghost use Rattle.spec.specs.Calls.Verdict.{due};
+ghost use Rattle.spec.specs.Drives.{viewOf, mkDisk, storeDisk};
+ghost use Rattle.spec.specs.Engine.{callDisk};
+ghost use Rattle.spec.specs.Engine.Call.{reclaim};
+ghost use Rattle.spec.specs.Lists.Opt.{some};
+ghost use Rattle.spec.specs.Memory.{mkMemory, stateFaults};
+ghost use Rattle.spec.specs.Params.{inRange, imageLen, pointersLen, addressesLen, compactLen, drivesOf};
+ghost use Rattle.spec.specs.Reclaim.{tableFaults, victim, cleared, resetPlan};
+ghost use Rattle.call_reclaim.specs.Choosing.{copyRules, laterChecks, Chose, refusal};
+ghost use Rattle.mem_rows.specs.Rows.{afterChange};
+ghost use Rattle.call_reclaim_victim.specs.Looked.{Looked};
+ghost use Rattle.law_views.specs.Views.{Whole};
+use call_reclaim_victim::Chosen;
+use mem_calls::Check;
+use mem_rows::Change;
+use spec::Answer;
+use spec::Params;
+use spec::Place;
+use spec::State;
+
+// ---- checks
+
+// 01, Refusals, 6 to 8, of a copy.
+fn copy_rules(p: Params, pointers: &[u8], state: State) -> Check
+    requires { ⌜ inRange p ≡ true ⌝ }
+    requires { ⌜ length (now pointers) ≡ pointersLen p ⌝ }
+    ensures { λ r. ⌜ ((im : List ℕ) → length im ≡ imageLen p → checked r ≡ firstRefusal (copyRules p (viewOf p im (now (pointers .entry))) state)) ⌝ }
+{
+    let f = mem_rows::front_of(state);
+    let a = call_filling::aim_of(p, f);
+    if call_filling::no_serial(f, a) {
+        return Check::Fail(Answer::Refused(6));
+    }
+    if call_filling::must_wait(p, f, a) {
+        return Check::Fail(Answer::Refused(7));
+    }
+    if !a.opens {
+        return Check::Pass;
+    }
+    if call_filling::scarce(p, pointers, 1) {
+        return Check::Fail(Answer::Refused(8));
+    }
+    Check::Pass
+}
+
+// 01, Refusals, 9: a state number out of range, or a place outside the image; both name zone 0.
+fn has_fault(p: Params, addresses: &[u8], state: State) -> bool
+    requires { ⌜ inRange p ≡ true ⌝ }
+    requires { ⌜ length (now addresses) ≡ addressesLen p ⌝ }
+    ensures { λ r. ⌜ ((zs : List ℕ) → firstRefusal (zones (stateFaults p state ++ tableFaults p (now (addresses .entry)) ++ zs) ∷ []) ≡ cond r (some (BadZone 0)) (firstRefusal (zones zs ∷ []))) ⌝ }
+{
+    if !mem_state::state_ok(p, state) {
+        return true;
+    }
+    call_reclaim_victim::any_outside(p, addresses)
+}
+
+// What reclaim does: refuse, reset a segment, or copy the block at a place.
+pub enum Choice {
+    Refuse(Answer),
+    Clear(usize),
+    Copy(Place),
+}
+
+// The checks from 5 on, of a segment with live blocks.
+fn choose_copy(
+    p: Params,
+    image: &[u8],
+    pointers: &[u8],
+    addresses: &[u8],
+    state: State,
+    seen: Chosen,
+) -> Choice
+    requires { ⌜ inRange p ≡ true ⌝ }
+    requires { ⌜ Whole p (mkDisk (now image) (now pointers)) ⌝ }
+    requires { ⌜ length (now addresses) ≡ addressesLen p ⌝ }
+    requires { ⌜ (Looked p (viewOf p (now image) (now pointers)) (now addresses) state seen) × (seen .segment < p .Z) × (0 < seen .live) ⌝ }
+    ensures { λ r. ⌜
+        Chose p (viewOf p (now (image .entry)) (now (pointers .entry))) state
+        (victim p (viewOf p (now (image .entry)) (now (pointers .entry))) (now (addresses .entry)))
+        (firstRefusal (laterChecks p (viewOf p (now (image .entry)) (now (pointers .entry))) state (now (addresses .entry))
+        (victim p (viewOf p (now (image .entry)) (now (pointers .entry))) (now (addresses .entry))))) r ⌝ }
+{
+    let none = Place::NEVER;
+    let first = seen.first;
+    if first.0 == none.0 {
+        return Choice::Refuse(Answer::Refused(5));
+    }
+    let c = copy_rules(p, pointers, state);
+    if let Check::Fail(answer) = c {
+        return Choice::Refuse(answer);
+    }
+    if has_fault(p, addresses, state) {
+        return Choice::Refuse(Answer::BadZone(0));
+    }
+    if seen.odd {
+        return Choice::Refuse(Answer::BadZone(seen.segment as u64));
+    }
+    Choice::Copy(first)
+}
+
+// 01, Refusals: the checks of reclaim in order, and which plan it is.
+fn choose(
+    p: Params,
+    image: &[u8],
+    pointers: &[u8],
+    addresses: &[u8],
+    compact: &[u8],
+    inflight: &[u8],
+    state: State,
+) -> Choice
+    ensures { λ r. ⌜
+        Chose p (viewOf p (now (image .entry)) (now (pointers .entry))) state
+        (victim p (viewOf p (now (image .entry)) (now (pointers .entry))) (now (addresses .entry)))
+        (refusal p (mkDisk (now (image .entry)) (now (pointers .entry)))
+        (mkMemory state (now (addresses .entry)) (now (compact .entry)) (now (inflight .entry)))) r ⌝ }
+{
+    if !disk_shape::in_range(p) {
+        return Choice::Refuse(Answer::Refused(1));
+    }
+    if !mem_calls::lent_ok(p, image, pointers, addresses, compact, inflight) {
+        return Choice::Refuse(Answer::Refused(2));
+    }
+    if state.missing != 0 {
+        return Choice::Refuse(Answer::Refused(3));
+    }
+    let seen = call_reclaim_victim::look(p, image, pointers, addresses, state);
+    if p.Z <= seen.segment {
+        return Choice::Refuse(Answer::Refused(5));
+    }
+    if 0 < seen.live {
+        return choose_copy(p, image, pointers, addresses, state, seen);
+    }
+    if has_fault(p, addresses, state) {
+        return Choice::Refuse(Answer::BadZone(0));
+    }
+    Choice::Clear(seen.segment)
+}
+
+// ---- with none live
+
+// 01, What a zone holds: the compact table is 0 where no chunk is stored.
+fn clear_rows(p: Params, compact: &mut [u8], segment: usize)
+    requires { ⌜ inRange p ≡ true ⌝ }
+    requires { ⌜ (length (now compact) ≡ compactLen p) × (segment < p .Z) ⌝ }
+    ensures { λ _. ⌜ now (compact .exit) ≡ cleared p segment (drivesOf p) (now (compact .entry)) ⌝ }
+{
+    let mut d = 0;
+    while d < p.N {
+        let zone = disk_shape::zone_on(segment, d);
+        let at = disk_shape::compact_at(p, d, zone, 0);
+        disk_blocks::clear_part(compact, at, p.S);
+        d += 1;
+    }
+}
+
+// 01, Reclaim: with none live it resets its zones.
+fn reset_segment(
+    p: Params,
+    pointers: &mut [u8],
+    addresses: &mut [u8],
+    compact: &mut [u8],
+    state: State,
+    g: usize,
+    count: u64,
+) -> Change
+    requires { ⌜ inRange p ≡ true ⌝ }
+    requires { ⌜ (length (now pointers) ≡ pointersLen p) × (length (now addresses) ≡ addressesLen p) × (length (now compact) ≡ compactLen p) × (g < p .Z) ⌝ }
+    ensures { λ r. ⌜
+        ((im fl : List ℕ)
+        → afterChange state r im (now (pointers .exit)) (now (addresses .exit)) (now (compact .exit)) fl [] ≡ outcome p (storeDisk p) count
+        (mkDisk im (now (pointers .entry))) (mkMemory state (now (addresses .entry)) (now (compact .entry)) fl) []
+        (due (resetPlan p (mkMemory state (now (addresses .entry)) (now (compact .entry)) fl) g))) ⌝ }
+{
+    let f = mem_rows::front_of(state);
+    let made = disk_zones::reset_stores(p, pointers, g, count);
+    if made.cut {
+        return call_filling::cut(addresses, compact, f);
+    }
+    clear_rows(p, compact, g);
+    mem_rows::kept(Answer::Reset(g as u64), f)
+}
+
+// ---- the call
+
+// A reclaim: refused, cut or done, it leaves what the definition says.
+pub fn reclaim(
+    p: Params,
+    image: &mut [u8],
+    pointers: &mut [u8],
+    addresses: &mut [u8],
+    compact: &mut [u8],
+    inflight: &mut [u8],
+    state: State,
+    count: u64,
+) -> Change
+    ensures { λ r. ⌜
+        afterChange state r (now (image .exit)) (now (pointers .exit)) (now (addresses .exit)) (now (compact .exit)) (now (inflight .exit)) []
+        ≡ callDisk p (mkDisk (now (image .entry)) (now (pointers .entry)))
+        (mkMemory state (now (addresses .entry)) (now (compact .entry)) (now (inflight .entry))) (reclaim count) ⌝ }
+{
+    let c = choose(p, image, pointers, addresses, compact, inflight, state);
+    match c {
+        Choice::Refuse(answer) => mem_rows::kept(answer, mem_rows::front_of(state)),
+        Choice::Clear(g) => reset_segment(p, pointers, addresses, compact, state, g, count),
+        Choice::Copy(q) => call_copy::copy_block(
+            p,
+            image,
+            pointers,
+            addresses,
+            compact,
+            inflight,
+            state,
+            q,
+            count,
+        ),
+    }
+}

@@ -1,0 +1,84 @@
+// Entries of the address table, counted by segment (01, Reclaim): no segment has more live blocks than entries.
+ghost use mathlib.Core.Path.{_≡_};
+ghost use mathlib.Core.Bool.{true};
+ghost use Prim.Native.Nat.{_+_, _*_, _/_, _≤_, _<_};
+ghost use lib.ListN.{length, getD};
+ghost use Rattle.spec.specs.Params.{inRange, capacity, addressesLen};
+ghost use Rattle.call_reclaim_entries.specs.Entries.{Zones, withEntry, Entered};
+ghost use Rattle.call_reclaim_entries.specs.Inverse.{inverse};
+use spec::Params;
+
+fn wide(s: u16) -> usize
+    ensures { λ r. ⌜ r ≡ s ⌝ }
+{
+    s as usize
+}
+
+// The segment of each zone of all drives.
+fn number_zones(p: Params, segments: &mut [u16])
+    requires { ⌜ inRange p ≡ true ⌝ }
+    requires { ⌜ p .N * p .Z ≤ length (now segments) ⌝ }
+    ensures { λ _. ⌜ Zones p (now (segments .exit)) (p .N * p .Z) ⌝ }
+{
+    let n = p.N * p.Z;
+    let mut z = 0;
+    let mut t = 0;
+    while t < n {
+        segments[t] = z as u16;
+        z = call_reclaim_live::next_zone(p, z);
+        t += 1;
+    }
+}
+
+// The zone of place q, counted over all drives: q / cap, by a product.
+fn zone_number(q: usize, cap: usize, m: usize) -> usize
+    requires { ⌜ (3 ≤ cap) × (cap ≤ 87381) × (q < 8192 * cap) × (m ≡ inverse cap) ⌝ }
+    ensures { λ r. ⌜ r ≡ q / cap ⌝ }
+{
+    q * m / 140737488355328
+}
+
+// One entry more, with place q; all: the places of the image.
+fn add_entry(segments: &[u16], used: &mut [usize], all: usize, cap: usize, m: usize, q: usize)
+    requires { ⌜ (3 ≤ cap) × (cap ≤ 87381) × (all ≤ 8192 * cap) × (m ≡ inverse cap) × (all ≤ length (now segments) * cap) ⌝ }
+    requires { ⌜ (q < all → getD (now segments) (q / cap) 0 < length (now used)) ⌝ }
+    requires { ⌜ (q < all → getD (now used) (getD (now segments) (q / cap) 0) 0 < 18446744073709551615) ⌝ }
+    ensures { λ _. ⌜ now (used .exit) ≡ withEntry (now (segments .entry)) (now (used .entry)) all cap q ⌝ }
+{
+    if all <= q {
+        return;
+    }
+    let t = zone_number(q, cap, m);
+    let g = wide(segments[t]);
+    used[g] = used[g] + 1;
+}
+
+// With the segments of the zones at hand.
+fn count_all(p: Params, addresses: &[u8], segments: &[u16], used: &mut [usize])
+    requires { ⌜ inRange p ≡ true ⌝ }
+    requires { ⌜ (length (now addresses) ≡ addressesLen p) × (p .N * p .Z ≤ length (now segments)) × (p .Z ≤ length (now used)) ⌝ }
+    requires { ⌜ Zones p (now segments) (p .N * p .Z) × Entered p (now addresses) 0 (now used) ⌝ }
+    ensures { λ _. ⌜ Entered p (now (addresses .entry)) (p .L) (now (used .exit)) ⌝ }
+{
+    let all = call_reclaim_live::places(p);
+    let cap = disk_shape::capacity(p);
+    let m = 140737488355328 / cap + 1;
+    let mut a = 0;
+    while a < p.L {
+        let q = mem_tables::place_at(addresses, a).0 as usize;
+        add_entry(segments, used, all, cap, m, q);
+        a += 1;
+    }
+}
+
+// 01, Reclaim: the entries of each segment, in one pass over the table.
+pub fn count_entries(p: Params, addresses: &[u8], used: &mut [usize])
+    requires { ⌜ inRange p ≡ true ⌝ }
+    requires { ⌜ (length (now addresses) ≡ addressesLen p) × (p .Z ≤ length (now used)) ⌝ }
+    requires { ⌜ Entered p (now addresses) 0 (now used) ⌝ }
+    ensures { λ _. ⌜ Entered p (now (addresses .entry)) (p .L) (now (used .exit)) ⌝ }
+{
+    let mut segments = [0u16; 8192];
+    number_zones(p, &mut segments);
+    count_all(p, addresses, &segments, used);
+}

@@ -1,0 +1,130 @@
+use Prim.Native.Nat.{ℕ, _-_, _*_, _≤_, _<_}
+use Rattle.call_reclaim_live.specs.Live.{liveBelow, Counted, counted-le, only-window, left-marks, window-nearer}
+use Rattle.spec.specs.History.{before, step}
+use Rattle.spec.specs.Lists.{all}
+use Rattle.spec.specs.Params.{addressesLen}
+use Rattle.mem_marks.specs.Marks.{Marks}
+use lib.ListN.{length}
+use mathlib.Core.Path.{_≡_, refl, ap, _∙_}
+use native.Mathlib.Omega.{arith}
+use Rattle.call_reclaim_live.proofs.count_windows.Statement.{statement}
+use Rattle.call_reclaim_live.proofs.count_windows.Tie as tie
+
+abbrev Inv-loop : tie.InvT-loop
+Inv-loop p addresses marks₀ live₀ all step first₀ marks live first =
+    (first ≤ all)
+    × (length marks ≡ length marks₀)
+    × (length live ≡ length live₀)
+    × Counted p addresses live first
+    × (0 < first → all ≤ 8 * length marks₀ → (first ≡ all) × Marks addresses (p .L) marks 0 all)
+
+abbrev μ-loop : tie.MeasureT-loop
+μ-loop p addresses marks₀ live₀ all step first₀ marks live first = all - first
+
+places-requires : tie.Need-places-requires Inv-loop μ-loop
+places-requires c κs = c .before .before .before .pre .0
+
+mul-step : tie.Need-mul-step Inv-loop μ-loop
+mul-step c = omega arith
+
+loop-holds : tie.Need-loop-holds Inv-loop μ-loop
+loop-holds c =
+    let pre = c .before .before .before .before .pre in
+    (omega arith, refl, refl, pre .1 .1, λ h. absurd (let q : ⊥ = omega arith in q))
+
+add-clip : tie.Need-add-clip Inv-loop μ-loop
+add-clip c = omega arith
+
+clip-requires : tie.Need-clip-requires Inv-loop μ-loop
+clip-requires c κs = omega arith
+
+mark-window-requires : tie.Need-mark-window-requires Inv-loop μ-loop
+unfolding addressesLen
+mark-window-requires c κs =
+    let pre′ = c .before .before .before .before .before .before .before .before .pre in
+    let pre = pre′ .1 .0 in
+    (omega (arith, pre .0), omega (arith, c .before .clip .ensures, c .before .before .before .loop .inv .1))
+
+count-zones-requires : tie.Need-count-zones-requires Inv-loop μ-loop
+count-zones-requires c κs =
+    let a = c .before .before .before .before .before .before .before .before .before .before .before .before .before .args in
+    let l = c .before .before .before .before .before .before .before .before .loop in
+    let mark-window = c .before .before .before .before .mark-window in
+    let clip = c .before .before .before .before .before .before .clip in
+    let places = c .before .before .before .before .before .before .before .before .before .places in
+    let pre′ = c .before .before .before .before .before .before .before .before .before .before .before .before .before .pre in
+    let i = l .inv in
+    let pre = pre′ .1 .0 in
+    let e = clip .ensures in
+    let k = mark-window .kept .1 .1 .0 in
+    let s = places .ensures in
+    (pre′ .0, ((omega (arith, e, i .0), omega (arith, e, s .1), omega (arith, e, k, i .1), omega (arith, i .2, pre .3)), counted-le (a .p) (a .addresses .now) (l .live) (l .first) (i .3)))
+
+loop-less : tie.Need-loop-less Inv-loop μ-loop
+loop-less c =
+    let clip = c .before .before .before .before .before .before .before .before .before .clip in
+    let loop-test = c .before .before .before .before .before .before .before .before .before .before .loop-test in
+    let loop = c .before .before .before .before .before .before .before .before .before .before .before .loop in
+    let places = c .before .before .before .before .before .before .before .before .before .before .before .before .places in
+    let entry = c .before .before .before .before .before .before .before .before .before .before .before .before .before .before .before .before in
+    let args = entry .args in
+    let pre = entry .pre in
+    window-nearer (loop .first) (clip .result) (places .result) (8 * length (args .marks .now)) (loop-test .taken) (omega (arith, pre .1 .0 .1)) (clip .ensures)
+
+loop-again : tie.Need-loop-again Inv-loop μ-loop
+loop-again c =
+    let a = c .before .before .before .before .before .before .before .before .before .before .before .before .before .before .before .before .args in
+    let l = c .before .before .before .before .before .before .before .before .before .before .before .loop in
+    let count-zones = c .before .before .count-zones in
+    let mark-window = c .before .before .before .before .before .before .before .mark-window in
+    let clip = c .before .before .before .before .before .before .before .before .before .clip in
+    let loop-test = c .before .before .before .before .before .before .before .before .before .before .loop-test in
+    let places = c .before .before .before .before .before .before .before .before .before .before .before .before .places in
+    let i = l .inv in
+    let e = clip .ensures in
+    let k = mark-window .kept .1 .1 .0 in
+    let told = mark-window .ensures in
+    let t = loop-test .taken in (
+      omega (arith, e),
+      k ∙ i .1,
+      count-zones .kept .1 .1 .0 ∙ i .2,
+      count-zones .ensures (a .addresses .now) told (i .3),
+      λ h m. only-window (a .addresses .now) (mark-window .last .1 .1 .0) (a .p .L) (l .first) (clip .result) (places .result) (8 * length (a .marks .now)) told (λ x. i .4 x m .0) t e m,
+    )
+
+same-length : tie.Need-same-length Inv-loop μ-loop
+same-length c = c .before .loop .inv .1
+
+same-length-2 : tie.Need-same-length-2 Inv-loop μ-loop
+same-length-2 c = c .before .loop .inv .2
+
+returns : tie.Need-returns Inv-loop μ-loop
+returns c =
+    let a = c .before .before .before .before .before .before .args in
+    let l = c .before .loop in
+    let places = c .before .before .places in
+    let i = l .inv in
+    let s = places .ensures .0 in
+    let f : l .first ≡ places .result = omega (arith, i .0, c .loop-test .left) in (
+      (λ g h. i .3 g h ∙ ap (λ (x : ℕ). length (liveBelow (a .p) (a .addresses .now) g x)) (f ∙ s)),
+      λ h q x y. left-marks (a .addresses .now) (l .marks) (a .p .L) (l .first) (places .result) (8 * length (a .marks .now)) (i .4) f (omega (arith, h, s)) q x (omega (arith, y, s)),
+    )
+
+pub count-windows-spec : {M : Type 1} → statement M
+count-windows-spec =
+    tie.close
+    (tie.spec
+    Inv-loop
+    μ-loop
+    places-requires
+    mul-step
+    loop-holds
+    add-clip
+    clip-requires
+    mark-window-requires
+    count-zones-requires
+    loop-less
+    loop-again
+    same-length
+    same-length-2
+    returns)

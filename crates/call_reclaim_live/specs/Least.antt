@@ -1,0 +1,181 @@
+-- The lowest sealed segment with the least count, and when it is the one that reclaim takes (01, Reclaim). Assumes nothing.
+use Prim.Native.Nat.{ℕ, zero, suc, _+_, _≤_, _<_}
+use Rattle.call_reclaim_live.specs.Fewest.{takenAs, taken-some, pickOf, pick-new, pick-less, pick-old}
+use Rattle.spec.specs.Drives.{View, segmentNumbers, sealedIn}
+use Rattle.spec.specs.Lists.{Opt, upFrom, below, keep}
+use Rattle.spec.specs.Lists.Opt.{none, some}
+use Rattle.spec.specs.Reclaim.{placesIn, Victim, victimOf, fewer, fewest, victim}
+use Rattle.spec.specs.declared.Params.{Params}
+use Rattle.law_basic.specs.Ranges.{Test, test, not-both, keep-hit, keep-miss}
+use Rattle.law_basic.specs.Ranges.Test.{yes!, no! }
+use borrow.Author.Tests.{lt-ltb, le-ltb, eqb-true, eqb-false}
+use lib.Arith.{lt-of-le-ne}
+use lib.Dec.{ltb, eqb}
+use lib.ListN.{length, getD}
+use mathlib.Core.Bool.{Bool, true, false, cond}
+use mathlib.Core.List.{List, map}
+use mathlib.Core.Path.{_≡_, refl, sym, ap, _∙_, subst}
+use native.Mathlib.Decide.{decLe, decLt}
+use native.Mathlib.Omega.{arith}
+
+-- best is the lowest of the sealed segments below n with the least count; not below Z where none is sealed
+pub record Least (p : Params) (v : View) (live : List ℕ) (n best : ℕ) : Type 0 where
+  pub early : best < p .Z → best < n
+  pub taken : best < p .Z → sealedIn p v 0 best ≡ true
+  pub least : best < p .Z → (k : ℕ) → k < n → sealedIn p v 0 k ≡ true → getD live best 0 ≤ getD live k 0
+  pub first : best < p .Z → (k : ℕ) → k < best → sealedIn p v 0 k ≡ true → getD live best 0 < getD live k 0
+  pub nobody : p .Z ≤ best → (k : ℕ) → k < n → sealedIn p v 0 k ≡ true → ⊥
+
+module _ (p : Params) (v : View) (live : List ℕ) where
+  abbrev s : ℕ → Bool
+  s = sealedIn p v 0
+
+  abbrev at : ℕ → ℕ
+  at k = getD live k 0
+
+  pub least-none : (best : ℕ) → p .Z ≤ best → Least p v live 0 best
+  least-none best h = record {
+    early = λ l. absurd (let q : ⊥ = omega arith in q);
+    taken = λ l. absurd (let q : ⊥ = omega arith in q);
+    least = λ l. absurd (let q : ⊥ = omega arith in q);
+    first = λ l. absurd (let q : ⊥ = omega arith in q);
+    nobody = λ _ k l. absurd (let q : ⊥ = omega arith in q);
+  }
+
+  module _ (n best : ℕ) (so : Least p v live n best) (low : n < p .Z) where
+    -- a number below n + 1 is below n, or n
+    split : {A : Type 0} (k : ℕ) → k < n + 1 → (k < n → A) → (k ≡ n → A) → A
+    split {A} k l f g = go (decLt k n)
+      where
+        go : Dec (k < n) → A
+        go (yes h) = f h
+        go (no h) = g (omega arith)
+
+    -- segment n is not sealed
+    pass : s n ≡ false → Least p v live (n + 1) best
+    pass e = record {
+      early = λ l. omega (arith, so .early l);
+      taken = so .taken;
+      least = λ l k h q. split k h (λ b. so .least l k b q) (λ b. absurd (not-both (s n) (ap s (sym b) ∙ q) e));
+      first = so .first;
+      nobody = λ l k h q. split k h (λ b. so .nobody l k b q) (λ b. not-both (s n) (ap s (sym b) ∙ q) e);
+    }
+
+    -- it is, and is no better
+    stay : s n ≡ true → best < p .Z → at best ≤ at n → Least p v live (n + 1) best
+    stay e b m = record {
+      early = λ l. omega (arith, so .early l);
+      taken = so .taken;
+      least = λ l k h q. split k h (λ x. so .least l k x q) (λ x. subst (λ (y : ℕ). at best ≤ at y) (sym x) m);
+      first = so .first;
+      nobody = λ l. absurd (let q : ⊥ = omega arith in q);
+    }
+
+    -- it is, and is the first or better
+    move : s n ≡ true → ((k : ℕ) → k < n → s k ≡ true → at n < at k) → Least p v live (n + 1) n
+    move e m = record {
+      early = λ l. omega arith;
+      taken = λ l. e;
+      least = λ l k h q. split k h (λ x. let w : at n < at k = m k x q in omega (arith, w)) (λ x. subst (λ (y : ℕ). at n ≤ at y) (sym x) (omega arith));
+      first = λ l k h q. m k h q;
+      nobody = λ l. absurd (let q : ⊥ = omega arith in q);
+    }
+
+    pub least-turn : (best′ : ℕ) → best′ ≡ cond (s n) (pickOf p live best n) best → Least p v live (n + 1) best′
+    least-turn best′ e = subst (λ (x : ℕ). Least p v live (n + 1) x) (sym e) (go (test (s n)))
+      where
+        goal : ℕ → Type 0
+        goal x = Least p v live (n + 1) x
+
+        picked : s n ≡ true → Dec (p .Z ≤ best) → Dec (at n < at best) → goal (pickOf p live best n)
+        picked t (yes h) d = subst goal (sym (pick-new p live best n h)) (move t (λ k l q. absurd (so .nobody h k l q)))
+        picked t (no h) (yes l) =
+            let b : best < p .Z = omega arith in
+            subst goal (sym (pick-less p live best n b l)) (move t (λ k x q. let w : at best ≤ at k = so .least b k x q in omega (arith, l, w)))
+        picked t (no h) (no l) =
+            let b : best < p .Z = omega arith in
+            let m : at best ≤ at n = omega arith in
+            subst goal (sym (pick-old p live best n b m)) (stay t b m)
+
+        go : Test (s n) → goal (cond (s n) (pickOf p live best n) best)
+        go (yes! t) = subst goal (sym (ap (λ (b : Bool). cond b (pickOf p live best n) best) t)) (picked t (decLe (p .Z) best) (decLt (at n) (at best)))
+        go (no! t) = subst goal (sym (ap (λ (b : Bool). cond b (pickOf p live best n) best) t)) (pass t)
+
+-- ---- the segment with fewest live blocks, the first on a tie
+
+-- none so far, or one with more than n live blocks
+data Over (n : ℕ) : Opt Victim → Type 0 where
+  over-none : Over n none
+  over-some : {a : Victim} → n < length (a .live) → Over n (some a)
+
+over-fewer : (n : ℕ) (o : Opt Victim) (b : Victim) → Over n o → n < length (b .live) → Over n (fewer o b)
+unfolding fewer
+over-fewer n none b w h = over-some h
+over-fewer n (some a) b (over-some l) h = go (ltb (length (b .live)) (length (a .live)))
+  where
+    go : (c : Bool) → Over n (some (cond c b a))
+    go true = over-some h
+    go false = over-some l
+
+fewer-take : (o : Opt Victim) (b : Victim) → Over (length (b .live)) o → fewer o b ≡ some b
+unfolding fewer
+fewer-take none b w = refl
+fewer-take (some a) b (over-some l) = ap (λ (c : Bool). some (cond c b a)) (lt-ltb (length (b .live)) (length (a .live)) l)
+
+fewer-stay : (a b : Victim) → length (a .live) ≤ length (b .live) → fewer (some a) b ≡ some a
+unfolding fewer
+fewer-stay a b l = ap (λ (c : Bool). some (cond c b a)) (le-ltb (length (b .live)) (length (a .live)) l)
+
+module _ (W : ℕ → Victim) (t : ℕ → Bool) where
+  abbrev size : ℕ → ℕ
+  size k = length (W k .live)
+
+  abbrev rest : Opt Victim → ℕ → ℕ → Opt Victim
+  rest o i n = fewest o (map W (keep t (upFrom i n)))
+
+  hit : (o : Opt Victim) (i n : ℕ) → t i ≡ true → rest o i (suc n) ≡ rest (fewer o (W i)) (suc i) n
+  unfolding fewest upFrom
+  hit o i n e = ap (λ (l : List ℕ). fewest o (map W l)) (keep-hit t i (upFrom (suc i) n) e)
+
+  miss : (o : Opt Victim) (i n : ℕ) → t i ≡ false → rest o i (suc n) ≡ rest o (suc i) n
+  unfolding upFrom
+  miss o i n e = ap (λ (l : List ℕ). fewest o (map W l)) (keep-miss t i (upFrom (suc i) n) e)
+
+  stays : (a : Victim) (i n : ℕ) → ((k : ℕ) → i ≤ k → t k ≡ true → k < i + n → length (a .live) ≤ size k) → rest (some a) i n ≡ some a
+  unfolding fewest upFrom keep
+  stays a i zero h = refl
+  stays a i (suc n) h = go (test (t i)) (stays a (suc i) n (λ k x y z. h k (omega arith) y (omega arith)))
+    where
+      go : Test (t i) → rest (some a) (suc i) n ≡ some a → rest (some a) i (suc n) ≡ some a
+      go (yes! e) r = hit (some a) i n e ∙ ap (λ (o : Opt Victim). rest o (suc i) n) (fewer-stay a (W i) (h i (omega arith) e (omega arith))) ∙ r
+      go (no! e) r = miss (some a) i n e ∙ r
+
+  module _ (g : ℕ) (is : t g ≡ true) (before : (k : ℕ) → k < g → t k ≡ true → size g < size k) where
+    finds : (o : Opt Victim) (i n : ℕ) → i ≤ g → g < i + n → Over (size g) o → ((k : ℕ) → g < k → k < i + n → t k ≡ true → size g ≤ size k) → rest o i n ≡ some (W g)
+    finds o i zero low high w h = absurd (let q : ⊥ = omega arith in q)
+    finds o i (suc n) low high w h = go (test (eqb i g)) (λ u x y. finds u (suc i) n x (omega arith) y (λ k a b. h k a (omega arith)))
+      where
+        go : Test (eqb i g) → ((u : Opt Victim) → suc i ≤ g → Over (size g) u → rest u (suc i) n ≡ some (W g)) → rest o i (suc n) ≡ some (W g)
+        go (yes! e) r =
+            let q : i ≡ g = eqb-true i g e in
+            hit o i n (ap t q ∙ is)
+            ∙ ap (λ (x : Opt Victim). rest x (suc i) n) (ap (λ (x : ℕ). fewer o (W x)) q ∙ fewer-take o (W g) w)
+            ∙ stays (W g) (suc i) n (λ k x y z. h k (omega (arith, q, x)) (omega (arith, z)) y)
+        go (no! e) r = other (test (t i))
+          where
+            l : i < g
+            l = lt-of-le-ne low (eqb-false i g e)
+
+            other : Test (t i) → rest o i (suc n) ≡ some (W g)
+            other (yes! f) = hit o i n f ∙ r (fewer o (W i)) (omega (arith, l)) (over-fewer (size g) o (W i) w (before i l f))
+            other (no! f) = miss o i n f ∙ r o (omega (arith, l)) w
+
+-- 01, Reclaim: a sealed segment with fewer live blocks than those below it, and no more than those above
+pub victim-least : (p : Params) (v : View) (tb : List ℕ) (g : ℕ) → g < p .Z → sealedIn p v 0 g ≡ true
+    → ((k : ℕ) → k < g → sealedIn p v 0 k ≡ true → length (victimOf p (placesIn p tb) g .live) < length (victimOf p (placesIn p tb) k .live))
+    → ((k : ℕ) → g < k → k < p .Z → sealedIn p v 0 k ≡ true → length (victimOf p (placesIn p tb) g .live) ≤ length (victimOf p (placesIn p tb) k .live))
+    → victim p v tb ≡ takenAs p tb g
+unfolding victim segmentNumbers below
+victim-least p v tb g h is before after =
+    finds (victimOf p (placesIn p tb)) (sealedIn p v 0) g is before none 0 (p .Z) (omega arith) (omega (arith, h)) over-none (λ k a b q. after k a (omega (arith, b)) q)
+    ∙ sym (taken-some p tb g h)

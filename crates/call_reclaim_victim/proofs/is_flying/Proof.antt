@@ -1,0 +1,25 @@
+use Rattle.spec.specs.Drives.{viewOf}
+use Rattle.spec.specs.Memory.{holds}
+use Rattle.disk_records.specs.Record.{recOf}
+use Rattle.call_reclaim_victim.specs.Waiting.{flying-is}
+use borrow.Author.Needs.{needs}
+use mathlib.Core.Path.{_∙_}
+use Rattle.call_reclaim_victim.proofs.is_flying.Statement.{statement}
+use Rattle.call_reclaim_victim.proofs.is_flying.Tie as tie
+
+record-of-requires : tie.Need-record-of-requires
+record-of-requires c κs = c .before .before .pre
+
+holds-requires : tie.Need-holds-requires
+holds-requires c κs = search needs
+
+returns : tie.Need-returns
+returns c =
+    let a = c .before .before .before .before .before .before .args in
+    let record-of = c .before .before .before .record-of in
+    let pre = c .before .before .before .before .before .before .pre in
+    let v = viewOf (a .p) (a .image .now) (a .pointers .now) in
+    c .holds .ensures ∙ flying-is (a .p) v (a .state) (a .place .0) (recOf (record-of .result)) (pre .1 .1 .1) (record-of .ensures)
+
+pub is-flying-spec : {M : Type 1} → statement M
+is-flying-spec = tie.close (tie.spec record-of-requires holds-requires returns)

@@ -1,0 +1,116 @@
+-- The segment that reclaim takes, as the code tells it (01, Reclaim). Assumes nothing.
+use Prim.Native.Nat.{ℕ, _*_, _≤_, _<_}
+use Rattle.call_reclaim_live.specs.Fewest.{takenAs, taken-none, taken-some}
+use Rattle.call_reclaim_live.specs.Live.{liveBelow, live-all, places-high}
+use Rattle.spec.specs.Counts.{neverPlace}
+use Rattle.spec.specs.Drives.{View, segmentNumbers, sealedIn}
+use Rattle.spec.specs.Lists.{Opt, any, below, consIf, keep, isNil, firstOr}
+use Rattle.spec.specs.Lists.Opt.{none, some}
+use Rattle.spec.specs.Params.{capacity, placeZone}
+use Rattle.spec.specs.Reclaim.{placesIn, flying, Victim, victimOf, fewest, victim, isNone, victimSegment, victimLive, idle}
+use Rattle.spec.specs.declared.Params.{Params}
+use Rattle.spec.specs.declared.State.{State}
+use Rattle.law_basic.specs.Geometry.{Ranged}
+use Rattle.call_reclaim_victim.specs.Waiting.{isOdd, Waiting, nil-first, waiting-nil, waiting-found}
+use Rattle.call_reclaim_victim.specs.declared.Chosen.{Chosen}
+use Rattle.call_reclaim_victim.specs.declared.Idle.{Idle}
+use borrow.Author.Tests.{le-leb, lt-leb, eq-eqb}
+use lib.Dec.{leb, eqb}
+use lib.ListN.{length}
+use mathlib.Core.Bool.{Bool, true, false, not, _||_}
+use mathlib.Core.List.{List, [], _∷_, map}
+use mathlib.Core.Path.{_≡_, refl, sym, ap, _∙_, subst}
+use native.Mathlib.Omega.{arith}
+use Rattle.law_basic.specs.Ranges.{not-both}
+
+-- what r says of the segment that reclaim takes, with the drives v, the address table tb and the state st
+pub record Looked (p : Params) (v : View) (tb : List ℕ) (st : State) (r : Chosen) : Type 0 where
+  -- no segment is sealed just if the number is not below Z
+  pub nobody : isNone (victim p v tb) ≡ leb (p .Z) (r .segment)
+  pub segment : r .segment < p .Z → victimSegment (victim p v tb) ≡ r .segment
+  -- how many live blocks it has; 0 where there is no such segment
+  pub live : length (victimLive (victim p v tb)) ≡ r .live
+  -- the first that is not in flight, or never written if there is none
+  pub first : firstOr neverPlace (idle p v st (victim p v tb)) ≡ r .first .0
+  -- and that is so just if there is none
+  pub none-idle : isNil (idle p v st (victim p v tb)) ≡ eqb (r .first .0) neverPlace
+  -- some live block is no data block
+  pub odd : any (isOdd p) (victimLive (victim p v tb)) ≡ r .odd
+  -- the first one not in flight, where there is one, is a block of the image in that segment
+  pub found : (r .first .0 ≡ neverPlace → ⊥)
+      → (r .segment < p .Z) × (r .first .0 < p .N * p .Z * capacity p) × (placeZone p (r .first .0) ≡ r .segment)
+      × (r .odd ≡ false → isOdd p (r .first .0) ≡ false)
+
+-- ---- the two cases
+
+module _ (p : Params) (v : View) (tb : List ℕ) (st : State) (g : ℕ) (taken : victim p v tb ≡ takenAs p tb g) where
+  -- no segment is sealed
+  pub looked-none : p .Z ≤ g → (r : Chosen) → r .segment ≡ g → r .live ≡ 0 → r .first .0 ≡ neverPlace → r .odd ≡ false → Looked p v tb st r
+  unfolding isNone victimLive idle isNil firstOr keep any
+  looked-none h r es el ef eo =
+      let w : victim p v tb ≡ none = taken ∙ taken-none p tb g h in
+      record {
+        nobody = ap isNone w ∙ sym (le-leb (p .Z) (r .segment) (omega (arith, es)));
+        segment = λ l. absurd (let q : ⊥ = omega (arith, es, l) in q);
+        live = ap (λ (x : Opt Victim). length (victimLive x)) w ∙ sym el;
+        first = ap (λ (x : Opt Victim). firstOr neverPlace (idle p v st x)) w ∙ sym ef;
+        none-idle = ap (λ (x : Opt Victim). isNil (idle p v st x)) w ∙ sym (eq-eqb (r .first .0) neverPlace ef);
+        odd = ap (λ (x : Opt Victim). any (isOdd p) (victimLive x)) w ∙ sym eo;
+        found = λ n. absurd (n ef);
+      }
+
+  module _ (rg : Ranged p) (h : g < p .Z) where
+    abbrev all! : ℕ
+    all! = p .N * p .Z * capacity p
+
+    is-some : victim p v tb ≡ some (victimOf p (placesIn p tb) g)
+    is-some = taken ∙ taken-some p tb g h
+
+    its-live : victimLive (victim p v tb) ≡ liveBelow p tb g all!
+    unfolding victimLive victimOf
+    its-live = ap victimLive is-some ∙ live-all p rg tb g h
+
+    its-idle : idle p v st (victim p v tb) ≡ keep (λ q. not (flying p v st q)) (liveBelow p tb g all!)
+    unfolding idle
+    its-idle = ap (keep (λ q. not (flying p v st q))) its-live
+
+    -- one is
+    pub looked-some : (n : ℕ) → length (liveBelow p tb g all!) ≡ n → (i : Idle) → Waiting p v st tb g all! i → (r : Chosen) → r .segment ≡ g → r .live ≡ n
+        → r .first .0 ≡ i .first .0 → r .odd ≡ i .odd → Looked p v tb st r
+    unfolding isNone victimSegment victimOf
+    looked-some n so i wait r es el ef eo =
+        let l = liveBelow p tb g all! in
+        let f : ℕ → Bool = λ q. not (flying p v st q) in
+        let e : firstOr neverPlace (keep f l) ≡ r .first .0 = sym (wait .first) ∙ sym ef in
+        record {
+          nobody = ap isNone is-some ∙ sym (lt-leb (p .Z) (r .segment) (omega (arith, es, h)));
+          segment = λ _. ap victimSegment is-some ∙ sym es;
+          live = ap length its-live ∙ so ∙ sym el;
+          first = ap (firstOr neverPlace) its-idle ∙ e;
+          none-idle = ap isNil its-idle ∙ nil-first (keep f l) (waiting-nil p v st tb g all! (omega (arith, places-high p rg))) ∙ ap (λ (x : ℕ). eqb x neverPlace) e;
+          odd = ap (any (isOdd p)) its-live ∙ sym (wait .odd) ∙ sym eo;
+          found = λ m.
+              let t = waiting-found p v st tb g all! (λ c. m (sym e ∙ c)) in
+              let z : placeZone p (r .first .0) ≡ g = ap (placeZone p) (sym e) ∙ t .1 in (
+                omega (arith, es, h),
+                subst (λ (x : ℕ). x < all!) e (t .0),
+                z ∙ sym es,
+                λ o. subst (λ (x : ℕ). isOdd p x ≡ false) e (t .2 (sym (wait .odd) ∙ sym eo ∙ o)),
+              );
+        }
+
+-- ---- no segment is sealed
+
+pass-none : {A : Type 0} (f : A → Bool) (l : List A) → any f l ≡ false → keep f l ≡ []
+unfolding keep consIf any
+pass-none f [] e = refl
+pass-none {A} f (a ∷ l) e = go (f a) (pass-none f l) e
+  where
+    go : (b : Bool) → (any f l ≡ false → keep f l ≡ []) → (b || any f l) ≡ false → consIf b a (keep f l) ≡ []
+    go true r q = absurd (not-both true refl q)
+    go false r q = r q
+
+-- then none is taken, whatever the table holds
+pub unsealed : (p : Params) (v : View) (tb : List ℕ) → any (sealedIn p v 0) (below (p .Z)) ≡ false → victim p v tb ≡ takenAs p tb (p .Z)
+unfolding victim fewest segmentNumbers
+unsealed p v tb h = ap (λ (l : List ℕ). fewest none (map (victimOf p (placesIn p tb)) l)) (pass-none (sealedIn p v 0) (below (p .Z)) h) ∙ sym (taken-none p tb (p .Z) (omega arith))

@@ -1,0 +1,565 @@
+// Live blocks and the segment that reclaim takes (01, Reclaim).
+ghost use mathlib.Core.Path.{_≡_};
+ghost use mathlib.Core.Bool.{true, false};
+ghost use mathlib.Core.List.{List, []};
+ghost use Prim.Native.Nat.{ℕ, _+_, _-_, _*_, _≤_, _<_};
+ghost use lib.Dec.{eqb};
+ghost use lib.ListN.{length};
+ghost use Rattle.spec.specs.Drives.{viewOf, mkDisk, recordAt, sealedIn};
+ghost use Rattle.spec.specs.Lists.{consIf, any, below};
+ghost use Rattle.spec.specs.Params.{inRange, capacity, imageLen, pointersLen, addressesLen, placeOf, placeBlock, placeZone, placeDrive};
+ghost use Rattle.spec.specs.Reclaim.{tableFaults, flying};
+ghost use Rattle.disk_records.specs.Record.{recOf};
+ghost use Rattle.mem_marks.specs.Marks.{Marks};
+ghost use Rattle.call_reclaim_victim.specs.Looked.{Looked};
+ghost use Rattle.call_reclaim_victim.specs.Vouched.{Vouched, Sees, chosenOf};
+ghost use Rattle.call_reclaim_victim.specs.Waiting.{isOdd, orElse, Stepped, Waiting};
+ghost use Rattle.law_views.specs.Views.{Whole};
+use disk_records::Record;
+use spec::Params;
+use spec::Place;
+use spec::State;
+
+// ---- the first live block that is not in flight
+
+// 01, Reclaim: the first live block that is not in flight, NEVER if there is none, and whether some live block is no data block.
+pub struct Idle {
+    pub first: Place,
+    pub odd: bool,
+}
+
+// A place that is no data block.
+fn is_odd(p: Params, place: Place) -> bool
+    requires { ⌜ inRange p ≡ true ⌝ }
+    ensures { λ r. ⌜ r ≡ isOdd p (place .0) ⌝ }
+{
+    let block = disk_shape::place_block(p, place);
+    if block < 1 {
+        return true;
+    }
+    p.S < block
+}
+
+// The record of the data block at a place.
+pub fn record_of(p: Params, image: &[u8], pointers: &[u8], place: Place) -> Record
+    requires { ⌜ inRange p ≡ true ⌝ }
+    requires { ⌜ Whole p (mkDisk (now image) (now pointers)) ⌝ }
+    requires { ⌜ (place .0 < p .N * p .Z * capacity p) × (isOdd p (place .0) ≡ false) ⌝ }
+    ensures { λ r. ⌜ recOf r ≡ recordAt p (viewOf p (now (image .entry)) (now (pointers .entry))) 0 (placeDrive p (place .0)) (placeZone p (place .0)) (placeBlock p (place .0) - 1) ⌝ }
+{
+    let drive = disk_shape::place_drive(p, place);
+    let zone = disk_shape::place_zone(p, place);
+    let offset = disk_shape::place_block(p, place) - 1;
+    disk_stored::record_at(p, image, pointers, 0, drive, zone, offset)
+}
+
+// 01, Reclaim: a data block is in flight while a stripe in flight holds its address with its stamp.
+fn is_flying(p: Params, image: &[u8], pointers: &[u8], state: State, place: Place) -> bool
+    requires { ⌜ inRange p ≡ true ⌝ }
+    requires { ⌜ Whole p (mkDisk (now image) (now pointers)) ⌝ }
+    requires { ⌜ (place .0 < p .N * p .Z * capacity p) × (isOdd p (place .0) ≡ false) ⌝ }
+    ensures { λ r. ⌜ r ≡ flying p (viewOf p (now (image .entry)) (now (pointers .entry))) state (place .0) ⌝ }
+{
+    let r = record_of(p, image, pointers, place);
+    let address = r.address;
+    let stamp = r.stamp;
+    mem_state::holds(state, address, stamp)
+}
+
+// The first place, or the second where the first is none.
+fn or_else(a: Place, b: Place) -> Place
+    ensures { λ r. ⌜ r .0 ≡ orElse (a .0) (b .0) ⌝ }
+{
+    let none = Place::NEVER;
+    if a.0 == none.0 {
+        return b;
+    }
+    a
+}
+
+// One live block more. A header or footer block is never in flight.
+fn idle_step(
+    p: Params,
+    image: &[u8],
+    pointers: &[u8],
+    state: State,
+    idle: Idle,
+    place: Place,
+) -> Idle
+    requires { ⌜ inRange p ≡ true ⌝ }
+    requires { ⌜ Whole p (mkDisk (now image) (now pointers)) ⌝ }
+    requires { ⌜ place .0 < p .N * p .Z * capacity p ⌝ }
+    ensures { λ r. ⌜ Stepped p (viewOf p (now (image .entry)) (now (pointers .entry))) state idle (place .0) r ⌝ }
+{
+    let none = Place::NEVER;
+    let first = idle.first;
+    if is_odd(p, place) {
+        let next = or_else(first, place);
+        return Idle {
+            first: next,
+            odd: true,
+        };
+    }
+    if first.0 != none.0 {
+        return idle;
+    }
+    if is_flying(p, image, pointers, state, place) {
+        return idle;
+    }
+    Idle {
+        first: place,
+        odd: idle.odd,
+    }
+}
+
+// The marked places from lo up to hi, which lie in one zone; mine: in the segment looked at.
+fn idle_run(
+    p: Params,
+    image: &[u8],
+    pointers: &[u8],
+    marks: &[u8],
+    state: State,
+    first: usize,
+    lo: usize,
+    hi: usize,
+    mine: bool,
+    idle: Idle,
+) -> Idle
+    requires { ⌜ inRange p ≡ true ⌝ }
+    requires { ⌜ Whole p (mkDisk (now image) (now pointers)) ⌝ }
+    requires { ⌜ (first ≤ lo) × (lo ≤ hi) × (hi ≤ first + 8 * length (now marks)) × (hi ≤ p .N * p .Z * capacity p) ⌝ }
+    ensures { λ r. ⌜
+        ((tb : List ℕ) (g : ℕ)
+        → Marks tb (p .L) (now (marks .entry)) first hi
+        → ((q : ℕ) → lo ≤ q → q < hi → eqb (placeZone p q) g ≡ mine)
+        → Waiting p (viewOf p (now (image .entry)) (now (pointers .entry))) state tb g lo idle
+        → Waiting p (viewOf p (now (image .entry)) (now (pointers .entry))) state tb g hi r) ⌝ }
+{
+    if !mine {
+        return idle;
+    }
+    let mut found = idle;
+    let mut q = lo;
+    while q < hi {
+        let next = first + mem_marks::next_marked(marks, q - first, hi - first);
+        if hi <= next {
+            return found;
+        }
+        found = idle_step(p, image, pointers, state, found, Place(next as u32));
+        q = next + 1;
+    }
+    found
+}
+
+// The marked places of segment g from first up to end, zone after zone.
+fn idle_zones(
+    p: Params,
+    image: &[u8],
+    pointers: &[u8],
+    marks: &[u8],
+    state: State,
+    first: usize,
+    end: usize,
+    g: usize,
+    idle: Idle,
+) -> Idle
+    requires { ⌜ inRange p ≡ true ⌝ }
+    requires { ⌜ Whole p (mkDisk (now image) (now pointers)) ⌝ }
+    requires { ⌜ (first ≤ end) × (end ≤ first + 8 * length (now marks)) × (end ≤ p .N * p .Z * capacity p) ⌝ }
+    ensures { λ r. ⌜
+        ((tb : List ℕ)
+        → Marks tb (p .L) (now (marks .entry)) first end
+        → Waiting p (viewOf p (now (image .entry)) (now (pointers .entry))) state tb g first idle
+        → Waiting p (viewOf p (now (image .entry)) (now (pointers .entry))) state tb g end r) ⌝ }
+{
+    let cap = disk_shape::capacity(p);
+    let mut found = idle;
+    let mut at = 0;
+    let mut z = 0;
+    let mut from = first;
+    while at < end {
+        let to = call_reclaim_live::clip(first, end, at + cap);
+        found = idle_run(
+            p,
+            image,
+            pointers,
+            marks,
+            state,
+            first,
+            from,
+            to,
+            z == g,
+            found,
+        );
+        from = to;
+        at += cap;
+        z = call_reclaim_live::next_zone(p, z);
+    }
+    found
+}
+
+// The same window after window, each marked first.
+fn idle_windows(
+    p: Params,
+    image: &[u8],
+    pointers: &[u8],
+    addresses: &[u8],
+    marks: &mut [u8],
+    state: State,
+    g: usize,
+) -> Idle
+    requires { ⌜ inRange p ≡ true ⌝ }
+    requires { ⌜ Whole p (mkDisk (now image) (now pointers)) ⌝ }
+    requires { ⌜ (length (now addresses) ≡ addressesLen p) × (0 < length (now marks)) × (length (now marks) < 268435456) ⌝ }
+    ensures { λ r. ⌜ Waiting p (viewOf p (now (image .entry)) (now (pointers .entry))) state (now (addresses .entry)) g (p .N * p .Z * capacity p) r ⌝ }
+{
+    let all = call_reclaim_live::places(p);
+    let step = 8 * marks.len();
+    let mut found = Idle {
+        first: Place::NEVER,
+        odd: false,
+    };
+    let mut first = 0;
+    while first < all {
+        let end = call_reclaim_live::clip(0, all, first + step);
+        mem_marks::mark_window(addresses, p.L, marks, first, end);
+        found = idle_zones(p, image, pointers, marks, state, first, end, g, found);
+        first = end;
+    }
+    found
+}
+
+// In one go where the marks are those of all places.
+fn idle_of(
+    p: Params,
+    image: &[u8],
+    pointers: &[u8],
+    addresses: &[u8],
+    marks: &mut [u8],
+    state: State,
+    g: usize,
+) -> Idle
+    requires { ⌜ inRange p ≡ true ⌝ }
+    requires { ⌜ Whole p (mkDisk (now image) (now pointers)) ⌝ }
+    requires { ⌜ (length (now addresses) ≡ addressesLen p) × (0 < length (now marks)) × (length (now marks) < 268435456) ⌝ }
+    requires { ⌜ (p .N * p .Z * capacity p ≤ 8 * length (now marks) → Marks (now addresses) (p .L) (now marks) 0 (p .N * p .Z * capacity p)) ⌝ }
+    ensures { λ r. ⌜ Waiting p (viewOf p (now (image .entry)) (now (pointers .entry))) state (now (addresses .entry)) g (p .N * p .Z * capacity p) r ⌝ }
+{
+    let all = call_reclaim_live::places(p);
+    if 8 * marks.len() < all {
+        return idle_windows(p, image, pointers, addresses, marks, state, g);
+    }
+    let none = Idle {
+        first: Place::NEVER,
+        odd: false,
+    };
+    idle_zones(p, image, pointers, marks, state, 0, all, g, none)
+}
+
+// ---- the segment
+
+// The segment that reclaim takes, Z if there is none; how many live blocks it has; the first of them that is not in flight, NEVER if there is
+// none; whether some live block is no data block.
+pub struct Chosen {
+    pub segment: usize,
+    pub live: usize,
+    pub first: Place,
+    pub odd: bool,
+}
+
+// 01, Reclaim: the segment, with marks to work with.
+fn look_with(
+    p: Params,
+    image: &[u8],
+    pointers: &[u8],
+    addresses: &[u8],
+    marks: &mut [u8],
+    state: State,
+) -> Chosen
+    requires { ⌜ inRange p ≡ true ⌝ }
+    requires { ⌜ Whole p (mkDisk (now image) (now pointers)) ⌝ }
+    requires { ⌜ (length (now addresses) ≡ addressesLen p) × (0 < length (now marks)) × (length (now marks) < 268435456) ⌝ }
+    ensures { λ r. ⌜ Looked p (viewOf p (now (image .entry)) (now (pointers .entry))) (now (addresses .entry)) state r ⌝ }
+{
+    let mut live = [0usize; 1024];
+    call_reclaim_live::count_windows(p, addresses, marks, &mut live);
+    let g = call_reclaim_live::fewest(p, pointers, &live);
+    if p.Z <= g {
+        return Chosen {
+            segment: g,
+            live: 0,
+            first: Place::NEVER,
+            odd: false,
+        };
+    }
+    let n = live[g];
+    let idle = idle_of(p, image, pointers, addresses, marks, state, g);
+    let first = idle.first;
+    let odd = idle.odd;
+    Chosen {
+        segment: g,
+        live: n,
+        first,
+        odd,
+    }
+}
+
+// ---- the segment by its records
+
+// Live blocks of a segment that its records tell: how many, and the first of them that is not in flight, NEVER if there is none.
+pub struct Seen {
+    pub live: usize,
+    pub first: Place,
+}
+
+// The data block at offset o, the place at + o, if the table has it at the address of its record.
+fn see_block(
+    p: Params,
+    image: &[u8],
+    pointers: &[u8],
+    addresses: &[u8],
+    state: State,
+    drive: usize,
+    g: usize,
+    at: usize,
+    o: usize,
+    seen: Seen,
+) -> Seen
+    requires { ⌜ inRange p ≡ true ⌝ }
+    requires { ⌜ Whole p (mkDisk (now image) (now pointers)) ⌝ }
+    requires { ⌜ (length (now addresses) ≡ addressesLen p) × (drive < p .N) × (g < p .Z) × (at ≡ placeOf p drive g 1) × (o < p .S) × (seen .live < 4294967296) ⌝ }
+    ensures { λ r. ⌜ r .live ≤ seen .live + 1 ⌝ }
+    ensures { λ r. ⌜ Sees p (viewOf p (now (image .entry)) (now (pointers .entry))) state (now (addresses .entry)) g (at + o) (at + o + 1) seen r ⌝ }
+{
+    let record = disk_stored::record_in(p, image, true, drive, g, o);
+    let address = record.address;
+    let a = call_reclaim_records::clipped(address.0, p.L);
+    let q = Place((at + o) as u32);
+    let there = mem_tables::place_at(addresses, a);
+    if there.0 != q.0 {
+        return seen;
+    }
+    let first = seen.first;
+    let idle = idle_step(p, image, pointers, state, Idle { first, odd: false }, q);
+    let next = idle.first;
+    Seen {
+        live: seen.live + 1,
+        first: next,
+    }
+}
+
+// The data blocks of a zone.
+fn see_zone(
+    p: Params,
+    image: &[u8],
+    pointers: &[u8],
+    addresses: &[u8],
+    state: State,
+    drive: usize,
+    g: usize,
+    seen: Seen,
+) -> Seen
+    requires { ⌜ inRange p ≡ true ⌝ }
+    requires { ⌜ Whole p (mkDisk (now image) (now pointers)) ⌝ }
+    requires { ⌜ (length (now addresses) ≡ addressesLen p) × (drive < p .N) × (g < p .Z) × (seen .live ≤ 65535 * drive) ⌝ }
+    ensures { λ r. ⌜ r .live ≤ 65535 * (drive + 1) ⌝ }
+    ensures { λ r. ⌜ Sees p (viewOf p (now (image .entry)) (now (pointers .entry))) state (now (addresses .entry)) g (placeOf p drive g 1) (placeOf p drive g 1 + p .S) seen r ⌝ }
+{
+    let at = disk_shape::place_of(p, drive, g, 1).0 as usize;
+    let mut found = seen;
+    let mut o = 0;
+    while o < p.S {
+        found = see_block(p, image, pointers, addresses, state, drive, g, at, o, found);
+        o += 1;
+    }
+    found
+}
+
+// The data blocks of a segment.
+fn see_segment(
+    p: Params,
+    image: &[u8],
+    pointers: &[u8],
+    addresses: &[u8],
+    state: State,
+    g: usize,
+) -> Seen
+    requires { ⌜ inRange p ≡ true ⌝ }
+    requires { ⌜ Whole p (mkDisk (now image) (now pointers)) ⌝ }
+    requires { ⌜ (length (now addresses) ≡ addressesLen p) × (g < p .Z) ⌝ }
+    ensures { λ r. ⌜ Vouched p (viewOf p (now (image .entry)) (now (pointers .entry))) state (now (addresses .entry)) g (p .N * p .Z * capacity p) r ⌝ }
+{
+    let mut found = Seen {
+        live: 0,
+        first: Place::NEVER,
+    };
+    let mut d = 0;
+    while d < p.N {
+        found = see_zone(p, image, pointers, addresses, state, d, g, found);
+        d += 1;
+    }
+    found
+}
+
+// A segment, the count of its live blocks and the first not in flight; whether it is sure that reclaim takes it, and that none of them is a
+// header or footer block.
+pub struct Told {
+    pub sure: bool,
+    pub segment: usize,
+    pub live: usize,
+    pub first: Place,
+}
+
+// The sealed segment with fewest entries in the table, if each of its entries is a live block by its record, and the others have as many. Where
+// many records would have to be read it is not looked at.
+fn look_by_records(p: Params, image: &[u8], pointers: &[u8], addresses: &[u8], state: State) -> Told
+    requires { ⌜ inRange p ≡ true ⌝ }
+    requires { ⌜ Whole p (mkDisk (now image) (now pointers)) ⌝ }
+    requires { ⌜ length (now addresses) ≡ addressesLen p ⌝ }
+    ensures { λ r. ⌜ (r .sure ≡ true → Looked p (viewOf p (now (image .entry)) (now (pointers .entry))) (now (addresses .entry)) state (chosenOf r)) ⌝ }
+{
+    let none = Place::NEVER;
+    let mut used = [0usize; 1024];
+    call_reclaim_entries::count_entries(p, addresses, &mut used);
+    let g = call_reclaim_live::fewest(p, pointers, &used);
+    if p.Z <= g {
+        return Told {
+            sure: false,
+            segment: g,
+            live: 0,
+            first: none,
+        };
+    }
+    let n = used[g];
+    if n == 0 {
+        return Told {
+            sure: true,
+            segment: g,
+            live: 0,
+            first: none,
+        };
+    }
+    if !call_reclaim_records::is_quick(p, &used, n) {
+        return Told {
+            sure: false,
+            segment: g,
+            live: 0,
+            first: none,
+        };
+    }
+    let seen = see_segment(p, image, pointers, addresses, state, g);
+    let first = seen.first;
+    if seen.live != n {
+        return Told {
+            sure: false,
+            segment: g,
+            live: 0,
+            first,
+        };
+    }
+    let sure = call_reclaim_records::is_fewest(p, image, pointers, addresses, g, n);
+    Told {
+        sure,
+        segment: g,
+        live: n,
+        first,
+    }
+}
+
+// With marks for 65,536 places.
+fn look_small(p: Params, image: &[u8], pointers: &[u8], addresses: &[u8], state: State) -> Chosen
+    requires { ⌜ inRange p ≡ true ⌝ }
+    requires { ⌜ Whole p (mkDisk (now image) (now pointers)) ⌝ }
+    requires { ⌜ length (now addresses) ≡ addressesLen p ⌝ }
+    ensures { λ r. ⌜ Looked p (viewOf p (now (image .entry)) (now (pointers .entry))) (now (addresses .entry)) state r ⌝ }
+{
+    let mut marks = [0u8; 8192];
+    look_with(p, image, pointers, addresses, &mut marks, state)
+}
+
+// With marks for 524,288 places.
+fn look_large(p: Params, image: &[u8], pointers: &[u8], addresses: &[u8], state: State) -> Chosen
+    requires { ⌜ inRange p ≡ true ⌝ }
+    requires { ⌜ Whole p (mkDisk (now image) (now pointers)) ⌝ }
+    requires { ⌜ length (now addresses) ≡ addressesLen p ⌝ }
+    ensures { λ r. ⌜ Looked p (viewOf p (now (image .entry)) (now (pointers .entry))) (now (addresses .entry)) state r ⌝ }
+{
+    let mut marks = [0u8; 65536];
+    look_with(p, image, pointers, addresses, &mut marks, state)
+}
+
+// With marks for 2,097,152 places.
+fn look_huge(p: Params, image: &[u8], pointers: &[u8], addresses: &[u8], state: State) -> Chosen
+    requires { ⌜ inRange p ≡ true ⌝ }
+    requires { ⌜ Whole p (mkDisk (now image) (now pointers)) ⌝ }
+    requires { ⌜ length (now addresses) ≡ addressesLen p ⌝ }
+    ensures { λ r. ⌜ Looked p (viewOf p (now (image .entry)) (now (pointers .entry))) (now (addresses .entry)) state r ⌝ }
+{
+    let mut marks = [0u8; 262144];
+    look_with(p, image, pointers, addresses, &mut marks, state)
+}
+
+// Whether some segment is sealed.
+fn any_sealed(p: Params, pointers: &[u8]) -> bool
+    requires { ⌜ inRange p ≡ true ⌝ }
+    requires { ⌜ length (now pointers) ≡ pointersLen p ⌝ }
+    ensures { λ r. ⌜ ((im : List ℕ) → length im ≡ imageLen p → r ≡ any (sealedIn p (viewOf p im (now (pointers .entry))) 0) (below (p .Z))) ⌝ }
+{
+    let mut g = 0;
+    while g < p.Z {
+        if disk_zones::is_sealed(p, pointers, 0, g) {
+            return true;
+        }
+        g += 1;
+    }
+    false
+}
+
+// 01, Reclaim: the sealed segment with fewest live blocks, lowest zone on a tie, and its first live block not in flight. Where none is sealed
+// the table is not looked at.
+pub fn look(p: Params, image: &[u8], pointers: &[u8], addresses: &[u8], state: State) -> Chosen
+    requires { ⌜ inRange p ≡ true ⌝ }
+    requires { ⌜ Whole p (mkDisk (now image) (now pointers)) ⌝ }
+    requires { ⌜ length (now addresses) ≡ addressesLen p ⌝ }
+    ensures { λ r. ⌜ Looked p (viewOf p (now (image .entry)) (now (pointers .entry))) (now (addresses .entry)) state r ⌝ }
+{
+    if !any_sealed(p, pointers) {
+        return Chosen {
+            segment: p.Z,
+            live: 0,
+            first: Place::NEVER,
+            odd: false,
+        };
+    }
+    let n = call_reclaim_live::places(p);
+    if n <= 65536 {
+        return look_small(p, image, pointers, addresses, state);
+    }
+    if n <= 524288 {
+        return look_large(p, image, pointers, addresses, state);
+    }
+    if n <= 2097152 {
+        return look_huge(p, image, pointers, addresses, state);
+    }
+    let told = look_by_records(p, image, pointers, addresses, state);
+    if !told.sure {
+        return look_huge(p, image, pointers, addresses, state);
+    }
+    let first = told.first;
+    Chosen {
+        segment: told.segment,
+        live: told.live,
+        first,
+        odd: false,
+    }
+}
+
+// 01, Refusals, 9: some place of the table lies outside the image.
+pub fn any_outside(p: Params, addresses: &[u8]) -> bool
+    requires { ⌜ inRange p ≡ true ⌝ }
+    requires { ⌜ length (now addresses) ≡ addressesLen p ⌝ }
+    ensures { λ r. ⌜ tableFaults p (now (addresses .entry)) ≡ consIf r 0 [] ⌝ }
+{
+    let end = call_reclaim_live::places(p);
+    mem_tables::count_places(addresses, p.L, Place(end as u32), Place::NEVER) != 0
+}

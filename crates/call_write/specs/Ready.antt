@@ -1,0 +1,155 @@
+-- What is so where no check of a write holds (01, Write; Refusals). Assumes nothing.
+use Prim.Native.Nat.{ℕ, suc, _^_, _≤_, _<_}
+use Rattle.spec.specs.Calls.{Check, firstRefusal}
+use Rattle.spec.specs.Calls.Check.{rule, zones}
+use Rattle.spec.specs.Counts.{lastCount, aStamp}
+use Rattle.spec.specs.Drives.{View, Disk, emptyZones}
+use Rattle.spec.specs.Engine.{lentOk}
+use Rattle.spec.specs.Lists.{Opt, all}
+use Rattle.spec.specs.Lists.Opt.{none}
+use Rattle.spec.specs.Memory.{Memory, slots, slotOk, stateOk, stateFaults}
+use Rattle.spec.specs.Params.{inRange, imageLen, pointersLen, addressesLen, compactLen, inflightLen}
+use Rattle.spec.specs.Write.{opens, noStamp, noSerial, mustWait, scarce, writeChecks}
+use Rattle.spec.specs.declared.Answer.{Answer}
+use Rattle.spec.specs.declared.Answer.the-variants.{Sent}
+use Rattle.spec.specs.declared.Params.{Params}
+use Rattle.spec.specs.declared.State.{State}
+use Rattle.call_filling.specs.Entries.{SentRow, sentRow}
+use Rattle.call_filling.specs.declared.Aim.{Aim}
+use Rattle.call_filling.specs.declared.Opened.{Opened}
+use Rattle.law_basic.specs.Ranges.{and-left, and-right, and-both, not-both}
+use Rattle.law_calls.specs.Refusals.{rule-free, zones-free, state-free}
+use Rattle.mem_rows.specs.declared.Change.{Change}
+use Rattle.mem_rows.specs.declared.Front.{Front}
+use Rattle.mem_rows.specs.declared.Row.{Row}
+use Rattle.law_views.specs.Views.{Whole, seen}
+use borrow.Author.Tests.{leb-true, leb-false, eqb-true, eqb-false, eq-eqb}
+use lib.Count.{ones}
+use lib.Dec.{leb, ltb, eqb}
+use lib.ListN.{length}
+use mathlib.Core.Bool.{Bool, true, false, cond, not, _&&_, _||_}
+use mathlib.Core.List.{List, [], _∷_}
+use mathlib.Core.Path.{_≡_, refl}
+use native.Mathlib.Omega.{arith}
+
+-- 01, Refusals: the first check of a write that holds, on what it is lent
+abbrev pub refusal : Params → Disk → Memory → ℕ → List ℕ → Opt Answer
+refusal p k m a b = firstRefusal (writeChecks p (lentOk p k m) (seen p k) m a b)
+
+pub record Ready (p : Params) (k : Disk) (m : Memory) (b : List ℕ) : Type 0 where
+  pub ranged : inRange p ≡ true
+  pub whole : Whole p k
+  pub addresses-long : length (m .addresses) ≡ addressesLen p
+  pub compact-long : length (m .compact) ≡ compactLen p
+  pub inflight-long : length (m .inflight) ≡ inflightLen p
+  pub block-long : length b ≡ p .B
+  pub stamp-left : m .state .stamp .0 ≡ lastCount → ⊥
+  pub serial-left : opens p (m .state) ≡ true → m .state .serial .0 ≡ lastCount → ⊥
+  pub waits : mustWait p (m .state) ≡ false
+  pub empties : 0 < length (emptyZones p (seen p k))
+  pub next-high : m .state .next ≤ p .S
+
+or-none : (a b : Bool) → (a || b) ≡ false → (a ≡ false) × (b ≡ false)
+or-none true b h = absurd (not-both true refl h)
+or-none false b h = (refl, h)
+
+not-false! : (a : Bool) → not a ≡ false → a ≡ true
+not-false! true h = refl
+not-false! false h = absurd (not-both true refl h)
+
+-- the five lengths
+pub lent-long : (p : Params) (k : Disk) (m : Memory) → lentOk p k m ≡ true
+    → (length (k .image) ≡ imageLen p) × (length (k .pointers) ≡ pointersLen p) × (length (m .addresses) ≡ addressesLen p) × (length (m .compact) ≡ compactLen p)
+    × (length (m .inflight) ≡ inflightLen p)
+unfolding lentOk
+lent-long p k m h =
+    let a = eqb (length (k .image)) (imageLen p) in
+    let b = eqb (length (k .pointers)) (pointersLen p) in
+    let c = eqb (length (m .addresses)) (addressesLen p) in
+    let d = eqb (length (m .compact)) (compactLen p) in
+    let e = eqb (length (m .inflight)) (inflightLen p) in
+    let h₃ = and-left (a && b && c && d) e h in
+    let h₂ = and-left (a && b && c) d h₃ in
+    let h₁ = and-left (a && b) c h₂ in (
+      eqb-true (length (k .image)) (imageLen p) (and-left a b h₁),
+      eqb-true (length (k .pointers)) (pointersLen p) (and-right a b h₁),
+      eqb-true (length (m .addresses)) (addressesLen p) (and-right (a && b) c h₂),
+      eqb-true (length (m .compact)) (compactLen p) (and-right (a && b && c) d h₃),
+      eqb-true (length (m .inflight)) (inflightLen p) (and-right (a && b && c && d) e h),
+    )
+
+-- 01, Refusals, 8: not scarce
+enough : (p : Params) (v : View) (n : ℕ) → 0 < n → scarce p v n ≡ false → 0 < length (emptyZones p v)
+unfolding scarce
+enough p v n g h = omega (arith, leb-false (length (emptyZones p v)) n h)
+
+reserve-low : (b : Bool) → 0 < cond {A = ℕ} b 2 1
+reserve-low true = omega arith
+reserve-low false = omega arith
+
+-- 01, Refusals, 9: the next stripe number
+pub next-low : (p : Params) (st : State) → stateOk p st ≡ true → st .next ≤ p .S
+unfolding stateOk
+next-low p st h =
+    let a = eqb (st .live) 1 && ltb (st .missing) (2 ^ p .N) && leb (ones (st .missing)) 1 && leb (st .opened) (p .Z) in
+    let b = leb (st .next) (p .S) in
+    let c = all (slotOk p st) slots in
+    let d = all (λ o. ltb o (p .S)) (st .offsets) in
+    leb-true (st .next) (p .S) (and-right a b (and-left (a && b) c (and-left (a && b && c) d h)))
+
+pub ready : (p : Params) (k : Disk) (m : Memory) (a : ℕ) (b : List ℕ) → refusal p k m a b ≡ none → Ready p k m b
+unfolding writeChecks noStamp noSerial
+ready p k m a b e =
+    let st = m .state in
+    let long = lentOk p k m in
+    let v = seen p k in
+    let c₂ = not long || not (eqb (length b) (p .B)) in
+    let c₆ = noStamp st || noSerial p st in
+    let c₈ = scarce p v (cond (opens p st) 2 1) in
+    let r₉ : List Check = zones (stateFaults p st) ∷ [] in
+    let r₈ : List Check = rule 8 c₈ ∷ r₉ in
+    let r₇ : List Check = rule 7 (mustWait p st) ∷ r₈ in
+    let r₆ : List Check = rule 6 c₆ ∷ r₇ in
+    let r₄ : List Check = rule 4 (leb (p .L) a) ∷ r₆ in
+    let r₃ : List Check = rule 3 (not (eqb (st .missing) 0)) ∷ r₄ in
+    let r₂ : List Check = rule 2 c₂ ∷ r₃ in
+    let f₁ = rule-free 1 (not (inRange p)) r₂ e in
+    let f₂ = rule-free 2 c₂ r₃ (f₁ .1) in
+    let f₃ = rule-free 3 (not (eqb (st .missing) 0)) r₄ (f₂ .1) in
+    let f₄ = rule-free 4 (leb (p .L) a) r₆ (f₃ .1) in
+    let f₆ = rule-free 6 c₆ r₇ (f₄ .1) in
+    let f₇ = rule-free 7 (mustWait p st) r₈ (f₆ .1) in
+    let f₈ = rule-free 8 c₈ r₉ (f₇ .1) in
+    let f₉ = zones-free (stateFaults p st) [] (f₈ .1) in
+    let o₂ = or-none (not long) (not (eqb (length b) (p .B))) (f₂ .0) in
+    let o₆ = or-none (eqb (st .stamp .0) lastCount) (opens p st && eqb (st .serial .0) lastCount) (f₆ .0) in
+    let l = lent-long p k m (not-false! long (o₂ .0)) in
+    record {
+      ranged = not-false! (inRange p) (f₁ .0);
+      whole = record { image-long = l .0; pointers-long = l .1 };
+      addresses-long = l .2;
+      compact-long = l .3;
+      inflight-long = l .4;
+      block-long = eqb-true (length b) (p .B) (not-false! (eqb (length b) (p .B)) (o₂ .1));
+      stamp-left = eqb-false (st .stamp .0) lastCount (o₆ .0);
+      serial-left = λ q s. not-both (opens p st && eqb (st .serial .0) lastCount) (and-both (opens p st) (eqb (st .serial .0) lastCount) q (eq-eqb (st .serial .0) lastCount s)) (o₆ .1);
+      waits = f₇ .0;
+      empties = enough p v (cond (opens p st) 2 1) (reserve-low (opens p st)) (f₈ .0);
+      next-high = next-low p st (state-free p st (f₉ .0));
+    }
+
+-- 01, Write: the block sent with the next stamp
+abbrev pub plannedRow : Params → Row → List ℕ → Front → Aim → Opened → ℕ → List ℕ → SentRow
+plannedRow p r fl f a o ad b = sentRow p r fl (a .slot) (a .begins) (o .next) ad (suc (f .stamp .0)) 1 b
+
+-- and what it changes
+abbrev pub planned : Front → Aim → Opened → SentRow → Change
+planned f a o q = record {
+  answer = Sent (aStamp (suc (f .stamp .0))) (q .row .number) (q .drive);
+  stamp = aStamp (suc (f .stamp .0));
+  serial = o .serial;
+  opened = o .opened;
+  next = q .next;
+  slot = a .slot;
+  row = q .row;
+}

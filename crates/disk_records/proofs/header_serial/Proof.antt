@@ -1,0 +1,17 @@
+use borrow.Author.Needs.{needs}
+use Rattle.spec.specs.Bytes.{readField}
+use Rattle.spec.specs.Engine.Call.{close}
+use Rattle.spec.specs.Layout.{headerWidths, headerSerial}
+use Rattle.spec.specs.Lists.{total}
+use Rattle.disk_records.proofs.header_serial.Statement.{statement}
+use Rattle.disk_records.proofs.header_serial.Tie as tie
+
+read-be64-requires : tie.Need-read-be64-requires
+read-be64-requires c κs = search needs
+
+returns : tie.Need-returns
+unfolding headerSerial readField headerWidths total
+returns c = c .read-be64 .ensures
+
+pub header-serial-spec : {M : Type 1} → statement M
+header-serial-spec = tie.close (tie.spec read-be64-requires returns)

@@ -1,0 +1,56 @@
+use mathlib.Core.Path.{ap, _∙_}
+use Prim.Native.Nat.{ℕ}
+use borrow.Author.Needs.{needs}
+use Rattle.spec.specs.Bytes.{part}
+use Rattle.spec.specs.Layout.{recordOf}
+use Rattle.law_basic.specs.Geometry.{ranged}
+use Rattle.law_basic.specs.Splice.{part-lent}
+use Rattle.disk_stored.specs.Stored.{record-by}
+use Rattle.disk_stored.proofs.record_in.Statement.{statement}
+use Rattle.disk_stored.proofs.record_in.Tie as tie
+
+record-byte-requires : tie.Need-record-byte-requires
+record-byte-requires c κs = search needs
+
+add-end : tie.Need-add-end
+add-end c = search needs
+
+sub-read-record : tie.Need-sub-read-record
+sub-read-record c = search needs
+
+part-read-record-start : tie.Need-part-read-record-start
+part-read-record-start c = search needs
+
+part-read-record-end : tie.Need-part-read-record-end
+part-read-record-end c = search needs
+
+read-record-requires : tie.Need-read-record-requires
+read-record-requires c κs = search needs
+
+returns : tie.Need-returns
+returns c =
+    let record-byte = c .before .before .record-byte in
+    let entry = c .before .before .before .before in
+    let args = entry .args in
+    let pre = entry .pre in
+    λ ps hp.
+    let a = args in
+    let p = a .p in
+    let r = ranged p (pre .0) in
+    let h = pre .1 in
+    let im = a .image .now in
+    c .read-record .ensures
+    ∙ ap recordOf (part-lent (record-byte .result) 20 im ∙ ap (λ (x : ℕ). part x 20 im) (record-byte .ensures .0))
+    ∙ record-by p r im ps (h .0) hp (a .drive) (a .zone) (h .1) (h .2) (a .full) (a .offset) (h .3)
+
+pub record-in-spec : {M : Type 1} → statement M
+record-in-spec =
+    tie.close
+    (tie.spec
+    record-byte-requires
+    add-end
+    sub-read-record
+    part-read-record-start
+    part-read-record-end
+    read-record-requires
+    returns)

@@ -1,0 +1,90 @@
+-- Checks in order: the first that holds refuses; a call with none is due (01, Refusals). Assumes nothing.
+use Prim.Native.Nat.{ℕ, _≤_, _<_}
+use Rattle.spec.specs.Calls.{Check, ninth, ruled, firstRefusal, Plan, decided, mkAfter, cutMemory, outcome}
+use Rattle.spec.specs.Calls.Check.{rule, zones}
+use Rattle.spec.specs.Drives.{Store, storeAll}
+use Rattle.spec.specs.Lists.{Opt, consIf, least}
+use Rattle.spec.specs.Lists.Opt.{none, some}
+use Rattle.spec.specs.Memory.{Memory, stateOk, stateFaults}
+use Rattle.spec.specs.declared.Answer.{Answer}
+use Rattle.spec.specs.declared.Answer.the-variants.{Refused, BadZone, Cut}
+use Rattle.spec.specs.declared.Params.{Params}
+use Rattle.spec.specs.declared.State.{State}
+use Rattle.law_basic.specs.Stores.{stores-all, refused-same, done-all, cut-prefix}
+use lib.ListN.{length, take}
+use mathlib.Core.Bool.{Bool, true, false, not}
+use mathlib.Core.List.{List, [], _∷_}
+use mathlib.Core.Path.{_≡_, refl, sym, ap, _∙_}
+use native.Mathlib.Omega.{arith}
+
+module _ (n : ℕ) (b : Bool) (cs : List Check) where
+  pub rule-fails : b ≡ true → firstRefusal (rule n b ∷ cs) ≡ some (Refused n)
+  unfolding firstRefusal ruled
+  rule-fails e = ap (λ (x : Bool). ruled n x (firstRefusal cs)) e
+
+  pub rule-passes : b ≡ false → firstRefusal (rule n b ∷ cs) ≡ firstRefusal cs
+  unfolding firstRefusal ruled
+  rule-passes e = ap (λ (x : Bool). ruled n x (firstRefusal cs)) e
+
+pub zone-fails : (z : ℕ) (cs : List Check) → firstRefusal (zones (z ∷ []) ∷ cs) ≡ some (BadZone z)
+unfolding firstRefusal ninth least
+zone-fails z cs = refl
+
+pub zones-pass : (zs : List ℕ) (cs : List Check) → zs ≡ [] → firstRefusal (zones zs ∷ cs) ≡ firstRefusal cs
+unfolding firstRefusal ninth
+zones-pass zs cs e = ap (λ (x : List ℕ). ninth x (firstRefusal cs)) e
+
+pub none-left : firstRefusal [] ≡ none
+unfolding firstRefusal
+none-left = refl
+
+-- what is so where no check holds
+
+not-some : (a : Answer) → some a ≡ none → ⊥
+not-some a e = let z : _≡_ {A = ℕ} 0 1 = cc in omega arith
+
+pub rule-free : (n : ℕ) (b : Bool) (cs : List Check) → firstRefusal (rule n b ∷ cs) ≡ none → (b ≡ false) × (firstRefusal cs ≡ none)
+rule-free n true cs e = absurd (not-some (Refused n) (sym (rule-fails n true cs refl) ∙ e))
+rule-free n false cs e = (refl, sym (rule-passes n false cs refl) ∙ e)
+
+pub zones-free : (zs : List ℕ) (cs : List Check) → firstRefusal (zones zs ∷ cs) ≡ none → (zs ≡ []) × (firstRefusal cs ≡ none)
+unfolding firstRefusal ninth
+zones-free [] cs e = (refl, e)
+zones-free (z ∷ zs) cs e = absurd (not-some (BadZone (least z zs)) e)
+
+-- 01, Refusals, 9: the state's numbers
+pub state-fault : (p : Params) (st : State) → stateOk p st ≡ false → stateFaults p st ≡ 0 ∷ []
+unfolding stateFaults consIf
+state-fault p st e = ap (λ (x : Bool). consIf (not x) 0 []) e
+
+pub state-fine : (p : Params) (st : State) → stateOk p st ≡ true → stateFaults p st ≡ []
+unfolding stateFaults consIf
+state-fine p st e = ap (λ (x : Bool). consIf (not x) 0 []) e
+
+pub state-free : (p : Params) (st : State) → stateFaults p st ≡ [] → stateOk p st ≡ true
+unfolding stateFaults consIf
+state-free p st e = go (stateOk p st) e
+  where
+    go : (b : Bool) → consIf {A = ℕ} (not b) 0 [] ≡ [] → b ≡ true
+    go true q = refl
+    go false q = absurd (let z : _≡_ {A = ℕ} 1 0 = ap length q in let w : ⊥ = omega arith in w)
+
+-- ---- what a call leaves
+
+module _ {D : Type 0} (p : Params) (f : Store → D → D) (n : ℕ) (d : D) (m : Memory) (b : List ℕ) (r : Opt Answer) (q : Plan) where
+  -- 01, Store count: a refusal changes nothing
+  pub call-refused : (a : Answer) → r ≡ some a → outcome p f n d m b (decided r q) ≡ mkAfter a d m b
+  unfolding decided
+  call-refused a e = ap (λ (x : Opt Answer). outcome p f n d m b (decided x q)) e ∙ refused-same p f n d m b a
+
+  -- all stores made
+  pub call-done : r ≡ none → length (q .stores) ≤ n → outcome p f n d m b (decided r q) ≡ mkAfter (q .answer) (storeAll f (take n (q .stores)) d) (q .memory) (q .block)
+  unfolding decided
+  call-done e h =
+      ap (λ (x : Opt Answer). outcome p f n d m b (decided x q)) e ∙ done-all p f n d m b q h
+      ∙ ap (λ (x : D). mkAfter (q .answer) x (q .memory) (q .block)) (sym (stores-all f n (q .stores) d h))
+
+  -- just so many, and cut
+  pub call-cut : r ≡ none → n < length (q .stores) → outcome p f n d m b (decided r q) ≡ mkAfter Cut (storeAll f (take n (q .stores)) d) (cutMemory p m) b
+  unfolding decided
+  call-cut e h = ap (λ (x : Opt Answer). outcome p f n d m b (decided x q)) e ∙ cut-prefix p f n d m b q h

@@ -1,0 +1,10 @@
+use Rattle.law_basic.specs.Geometry.{ranged}
+use Rattle.law_restart.specs.Settled.{settled}
+use Rattle.law_restart.proofs.settles.Statement.{statement}
+use Rattle.law_restart.proofs.settles.Tie as tie
+
+returns : tie.Need-returns
+returns c = λ p v ok. settled p (ranged p ok) v
+
+pub settles-spec : {M : Type 1} → statement M
+settles-spec = tie.close (tie.spec returns)

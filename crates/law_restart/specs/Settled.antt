@@ -1,0 +1,287 @@
+-- A restart's stores fit, and behind them no remaining segment has a bad stripe number or a bad data address (01, Restart, 4; Refusals, 9). Assumes nothing.
+use Prim.Native.Nat.{ℕ, suc, _+_, _^_, _<_}
+use Rattle.spec.specs.Counts.{lastCount}
+use Rattle.spec.specs.Drives.{noChunk, noZone, View, zoneAt, pointerAt, Store, storeView, storeAll, zoneOn, sealedIn, dataStored, recordIn}
+use Rattle.spec.specs.Faults.{outside, twice, stripeFault, storedBad, footerFaultIn, footerFault}
+use Rattle.spec.specs.Layout.{dataDrive, dataPosition, isData, Rec, mkRec, recordBytes, recordOf}
+use Rattle.spec.specs.Lists.{below, all, any, keep, isNil, flat, firstOr}
+use Rattle.spec.specs.Params.{dataCount, capacity, present}
+use Rattle.spec.specs.Parity.{Piece}
+use Rattle.spec.specs.Restart.{freeZones, isWhole, isRagged, missingFooters, renumbered, rewriteStores, dropStores, mendStores, restartStores, rewrites}
+use Rattle.spec.specs.Segments.{remaining, Segment, recordsIn, segmentOf, segments, offsetOn, hasChunk, counted, storedPiece, storedRec, greatestSerial, unsealed}
+use Rattle.spec.specs.declared.Params.{Params}
+use Rattle.law_basic.specs.Geometry.{Ranged, drive-is-data, data-drive-lt, position-lt}
+use Rattle.law_basic.specs.Mask.{isIn-empty}
+use Rattle.law_basic.specs.Ranges.{Test, test, flat-none, flat-cons}
+use Rattle.law_basic.specs.Ranges.Test.{yes!, no! }
+use Rattle.law_basic.specs.Stores.{storeAll-append}
+use Rattle.law_restart.specs.Feet.{footer-records}
+use Rattle.law_restart.specs.Stripes.{fault-none, in-order, badData, data-none, bad-none, none-bad, zone-good, good-at, moved-good, parity-good}
+use Rattle.proof_tables.specs.Accept.{Accepted, faults-apart, zone-stripes}
+use Rattle.proof_tables.specs.Dropping.{free-are, drop-same, drop-roomy, drop-within, drop-used}
+use Rattle.proof_tables.specs.Joins.{roomy-append, within-append, stores-none}
+use Rattle.proof_tables.specs.Laid.{record-back, address-low, stamp-low}
+use Rattle.proof_tables.specs.Members.{In, keep-in, in-all, none-in, in-any, below-in, first-in}
+use Rattle.proof_tables.specs.Mending.{Mended, has-pointer, b-zone, b-other, b-pointer}
+use Rattle.proof_tables.specs.Range.{capacity-over}
+use Rattle.proof_tables.specs.Reads.{counts-in}
+use Rattle.proof_tables.specs.Rebuilding.{counted-low, counted-in}
+use Rattle.proof_tables.specs.Restarting.{mended, serials-small}
+use Rattle.proof_tables.specs.Rewriting.{moved-data, same-else, new-stripe, new-record, open-now, under!, was! }
+use Rattle.proof_tables.specs.Run.{usedAt}
+use Rattle.proof_tables.specs.Segs.{present-in, data-low, zone-by, full-is, chunk-at}
+use Rattle.proof_tables.specs.Settled.{present-all, remains-is-used, SameZones, zones-used, zones-segment}
+use Rattle.proof_tables.specs.Tables.{remains, in-remaining}
+use Rattle.proof_tables.specs.Unsealed.{Loose, loose}
+use Rattle.proof_tables.specs.Unsealed.Loose.{loose-none, loose-one}
+use Rattle.proof_tables.specs.Zones.{Bytes, Shaped, all-fit}
+use Rattle.law_views.specs.Views.{AllFit}
+use borrow.Author.Tests.{eq-eqb, eqb-false, not-true}
+use lib.Dec.{eqb}
+use lib.ListN.{length, getD}
+use mathlib.Core.Bool.{Bool, true, false, not, _&&_}
+use mathlib.Core.List.{List, [], _∷_, _++_, append-nil}
+use mathlib.Core.Logic.{_⊎_, inl, inr}
+use mathlib.Core.Path.{_≡_, refl, sym, ap, ap₂, _∙_, subst}
+use native.Mathlib.Decide.{ℕ-discrete}
+use native.Mathlib.Omega.{arith}
+
+-- what loading the memory asks for: no bad stripe number, and no bad data address stored
+abbrev pub Good : Params → ℕ → Segment → Type 0
+Good p gone g = (stripeFault p gone g ≡ false) × (badData p gone g ≡ false)
+
+-- of every remaining segment
+abbrev pub AllGood : Params → View → ℕ → Type 0
+AllGood p v gone = (g : ℕ) → In g (remaining p v gone) → Good p gone (segmentOf p v gone g)
+
+-- what is accepted passes it
+pub accepted-fine : (p : Params) (v : View) (gone : ℕ) → Accepted p v gone → AllGood p v gone
+accepted-fine p v gone acc g m = let ok = faults-apart p v gone acc g m in (ok .no-stripe-fault, data-none p gone (segmentOf p v gone g) (ok .no-address-fault))
+
+-- 01, Restart, 4: with none missing, the resets, then the mending
+pub healthy-stores : (p : Params) (gs : List Segment) → restartStores p 0 gs ≡ dropStores p gs ++ flat (mendStores p gs) (unsealed gs)
+unfolding restartStores
+healthy-stores p gs = refl
+
+-- of every segment that is used
+abbrev pub Fine : Params → View → Type 0
+Fine p v = (y : ℕ) → y < p .Z → usedAt v y ≡ true → Good p 0 (segmentOf p v 0 y)
+
+module _ (p : Params) (r : Ranged p) (v : View) (sh : Shaped p v) (acc : Accepted p v 0) where
+  abbrev gs : List Segment
+  gs = segments p v 0
+
+  abbrev keeps! : ℕ → Bool
+  keeps! y = remains p v 0 y
+
+  abbrev va : View
+  va = storeAll storeView (dropStores p gs) v
+
+  -- a segment whose zones are as they were found
+  as-found : (u : View) (y : ℕ) → y < p .Z → keeps! y ≡ true → SameZones p v u y → Good p 0 (segmentOf p u 0 y)
+  as-found u y hy q sm = subst (λ (x : Segment). Good p 0 x) (zones-segment p r v u y sm) (accepted-fine p v 0 acc y (in-remaining p v 0 y hy q))
+
+  -- once the dropped segments are reset
+  fine-none : Fine p va
+  fine-none y hy q = let k = sym (drop-used p r v sh acc y hy) ∙ q in as-found va y hy k (drop-same p r v sh acc y hy k)
+
+  module _ (g : ℕ) (hg : g < p .Z) (kg : keeps! g ≡ true) (ng : sealedIn p v 0 g ≡ false) (oth : (y : ℕ) → y < p .Z → keeps! y ≡ true → (y ≡ g → ⊥) → sealedIn p v 0 y ≡ true) where
+    abbrev x : Segment
+    x = segmentOf p v 0 g
+
+    -- 01, Restart, 4: all its stripes count, and its footers are completed
+    module _ (wh : isWhole p x ≡ true) where
+      abbrev vb : View
+      vb = storeAll storeView (missingFooters p x) va
+
+      no-fault : (d : ℕ) → d < p .N → footerFaultIn p (zoneAt v d g) ≡ false
+      no-fault d hd =
+          ap (footerFaultIn p) (sym (zone-by p v 0 g d hd))
+          ∙ none-in (λ e. footerFaultIn p (getD (x .zonesBy) e noZone)) (present p 0) (as! (faults-apart p v 0 acc g (in-remaining p v 0 g hg kg) .no-footer-fault)) d (present-all p d hd)
+        where
+          as! : footerFault p 0 x ≡ false → any (λ e. footerFaultIn p (getD (x .zonesBy) e noZone)) (present p 0) ≡ false
+          as! q = unfold footerFault in (sym (ap (λ (b : Bool). not b && any (λ e. footerFaultIn p (getD (x .zonesBy) e noZone)) (present p 0)) (full-is p v 0 g ∙ ng)) ∙ q)
+
+      sealed-b : sealedIn p vb 0 g ≡ true
+      sealed-b =
+          as! (in-all (λ e. eqb (pointerAt vb e g) (capacity p)) (present p 0) (λ e m. eq-eqb (pointerAt vb e g) (capacity p) (b-pointer p r v sh acc g hg kg ng oth wh e (present-in p 0 e m .0))))
+        where
+          as! : all (λ e. eqb (pointerAt vb e g) (capacity p)) (present p 0) ≡ true → sealedIn p vb 0 g ≡ true
+          as! q = unfold sealedIn zoneOn in q
+
+      same-records : (d : ℕ) → d < p .N → recordsIn p (sealedIn p vb 0 g) (zoneAt vb d g) ≡ recordsIn p (sealedIn p v 0 g) (zoneAt v d g)
+      same-records d hd =
+          ap₂ (recordsIn p) sealed-b (b-zone p r v sh acc g hg kg ng oth wh d hd)
+          ∙ footer-records p r (zoneAt v d g) (sh .zone-ok d g hd hg) (has-pointer p r v sh acc g hg kg ng oth wh d hd) (no-fault d hd) d g
+          ∙ ap (λ (w : Bool). recordsIn p w (zoneAt v d g)) (sym ng)
+
+      fine-footers : Fine p vb
+      fine-footers y hy q = go (ℕ-discrete y g)
+        where
+          go : Dec (y ≡ g) → Good p 0 (segmentOf p vb 0 y)
+          go (yes e) = subst (λ (n : ℕ). Good p 0 (segmentOf p vb 0 n)) (sym e) (
+            fault-none p vb 0 g (λ d hd i.
+                let (a, b) = zone-stripes p v 0 acc g d (in-remaining p v 0 g hg kg) hd i in
+                (ap (outside p 0) (same-records d hd) ∙ a, ap twice (same-records d hd) ∙ b)),
+            bad-none p vb 0 g (λ d hd i. ap (any (storedBad p d)) (same-records d hd) ∙ none-bad p v 0 g d hd i (accepted-fine p v 0 acc g (in-remaining p v 0 g hg kg) .1)),
+          )
+          go (no n) =
+              let sm : SameZones p va vb y = b-other p r v sh acc g hg kg ng oth wh y hy (λ e. n (sym e)) in
+              let k : keeps! y ≡ true = sym (drop-used p r v sh acc y hy) ∙ zones-used p r va vb y sm ∙ q in
+              as-found vb y hy k (λ d hd. drop-same p r v sh acc y hy k d hd ∙ sm d hd)
+
+    -- 01, Restart, 4: the counted stripes are rewritten
+    module _ (z0 : ℕ) (hz0 : z0 < p .Z) (fz : keeps! z0 ≡ false) (fit : suc (greatestSerial gs) < 256 ^ 8) (nw : isWhole p x ≡ false) where
+      abbrev vc : View
+      vc = storeAll storeView (rewriteStores p x z0 (suc (greatestSerial gs))) va
+
+      open! : sealedIn p vc 0 z0 ≡ false
+      open! = open-now p r v sh acc g hg kg ng oth z0 hz0 fz fit nw
+
+      -- the address and the stamp of a stored chunk have 8 bytes
+      old-low :
+          (d o : ℕ)
+          → d < p .N
+          → o < dataStored p (zoneAt v d g)
+          → (recordIn p (sealedIn p v 0 g) (zoneAt v d g) o .address < 256 ^ 8) × (recordIn p (sealedIn p v 0 g) (zoneAt v d g) o .stamp < 256 ^ 8)
+      old-low d o hd h =
+          let l : 1 + o < capacity p = (let a = data-low p (zoneAt v d g) o h .0 in let b = capacity-over p r in omega arith) in
+          as! (sh .zone-ok d g hd hg .sound (1 + o) l .spare-bytes)
+        where
+          as! :
+              Bytes (getD (zoneAt v d g .blocks) (1 + o) noChunk .spare)
+              → (recordIn p (sealedIn p v 0 g) (zoneAt v d g) o .address < 256 ^ 8) ×
+              (recordIn p (sealedIn p v 0 g) (zoneAt v d g) o .stamp < 256 ^ 8)
+          as! b = subst (λ (w : Bool). (recordIn p w (zoneAt v d g) o .address < 256 ^ 8) × (recordIn p w (zoneAt v d g) o .stamp < 256 ^ 8)) (sym ng)
+              (unfold recordIn in (address-low (getD (zoneAt v d g .blocks) (1 + o) noChunk .spare) b, stamp-low (getD (zoneAt v d g .blocks) (1 + o) noChunk .spare) b))
+
+      -- a chunk that was moved is not bad
+      new-good : (d o : ℕ) → d < p .N → o < length (counted p 0 x) → storedBad p d (recordIn p false (zoneAt vc d z0) o) ≡ false
+      new-good d o hd h = go (test (isData p o d))
+        where
+          number! : recordIn p false (zoneAt vc d z0) o .stripe ≡ o
+          number! = new-stripe p r v sh acc g hg kg ng oth z0 hz0 fz fit d o hd h
+
+          low! : o < 256 ^ 4
+          low! = let a = counted-low p 0 x in let b = r .stripes-high in omega arith
+
+          rec! : (s e : ℕ) → renumbered o (storedPiece x s e) .rec ≡ mkRec (storedRec x s e .address) (storedRec x s e .stamp) o
+          rec! s e = unfold renumbered storedPiece storedRec in refl
+
+          go : Test (isData p o d) → storedBad p d (recordIn p false (zoneAt vc d z0) o) ≡ false
+          go (no! q) = parity-good p d (recordIn p false (zoneAt vc d z0) o) (ap (λ (n : ℕ). isData p n d) number! ∙ q)
+          go (yes! q) =
+              let (s, m, e) = new-record p r v sh acc g hg kg ng oth z0 hz0 fz fit d o hd h in
+              let i = dataPosition p o d in
+              let hi : i < dataCount p = position-lt p o d q hd in
+              let D = dataDrive p s i in
+              let hD : D < p .N = data-drive-lt p s i hi in
+              let has : hasChunk x s D ≡ true = counts-in p 0 x s D (counted-in p 0 x s m .1) hD (isIn-empty D) in
+              let c = chunk-at p v 0 g D s hD (isIn-empty D) has in
+              let off = offsetOn x D s in
+              let y = recordIn p (sealedIn p v 0 g) (zoneAt v D g) off in
+              let (la, lt) = old-low D off hD (c .stored-there) in
+              let f : recordIn p false (zoneAt vc d z0) o ≡ mkRec (y .address) (y .stamp) o =
+              e ∙ ap (λ (a : Piece). recordOf (recordBytes (a .rec))) (moved-data p r v sh acc g hg kg ng oth z0 hz0 fz fit s o d q hd)
+              ∙ ap (λ (a : Rec). recordOf (recordBytes a)) (rec! s D ∙ ap (λ (a : Rec). mkRec (a .address) (a .stamp) o) (c .its-record))
+              ∙ record-back (mkRec (y .address) (y .stamp) o) la lt low! in
+              moved-good p D d y (recordIn p false (zoneAt vc d z0) o) (ap (λ (n : ℕ). isData p n D) (c .its-stripe) ∙ drive-is-data p s i)
+              (good-at p (sealedIn p v 0 g) (zoneAt v D g) D off (c .stored-there) (none-bad p v 0 g D hD (isIn-empty D) (accepted-fine p v 0 acc g (in-remaining p v 0 g hg kg) .1)))
+              (ap (λ (a : Rec). a .address) f) (ap (λ (a : Rec). a .stamp) f)
+
+      fine-rewrite : Fine p vc
+      fine-rewrite y hy q = go (was! p r v sh acc g hg kg ng oth z0 hz0 fz fit nw y hy q)
+        where
+          low! : (d o : ℕ) → d < p .N → o < dataStored p (zoneAt vc d z0) → o < length (counted p 0 x)
+          low! d o hd h = under! p r v sh acc g hg kg ng oth z0 hz0 fz fit nw d o hd h
+
+          go : (y ≡ z0) ⊎ ((keeps! y ≡ true) × ((z0 ≡ y → ⊥) × (g ≡ y → ⊥))) → Good p 0 (segmentOf p vc 0 y)
+          go (inl e) = subst (λ (n : ℕ). Good p 0 (segmentOf p vc 0 n)) (sym e) (
+            fault-none p vc 0 z0 (λ d hd i.
+                in-order p (sealedIn p vc 0 z0) (zoneAt vc d z0) (λ o h.
+                ap (λ (w : Bool). recordIn p w (zoneAt vc d z0) o .stripe) open!
+                ∙ new-stripe p r v sh acc g hg kg ng oth z0 hz0 fz fit d o hd (low! d o hd h))),
+            bad-none p vc 0 z0 (λ d hd i.
+                zone-good p (sealedIn p vc 0 z0) (zoneAt vc d z0) d (λ o h. ap (λ (w : Bool). storedBad p d (recordIn p w (zoneAt vc d z0) o)) open! ∙ new-good d o hd (low! d o hd h))),
+          )
+          go (inr (k, (a, b))) = as-found vc y hy k (λ d hd. drop-same p r v sh acc y hy k d hd ∙ same-else p r v sh acc g hg kg ng oth z0 hz0 fz fit y hy a b d hd)
+
+  -- ---- the unsealed segment, in each case
+
+  fine-one : (g : ℕ) → g < p .Z → keeps! g ≡ true → sealedIn p v 0 g ≡ false → ((y : ℕ) → y < p .Z → keeps! y ≡ true → (y ≡ g → ⊥) → sealedIn p v 0 y ≡ true)
+      → unsealed gs ≡ segmentOf p v 0 g ∷ []
+      → rewrites p 0 gs && eqb (greatestSerial gs) lastCount ≡ false
+      → rewrites p 0 gs && isNil (freeZones p gs) ≡ false
+      → greatestSerial gs < 256 ^ 8
+      → Fine p (storeAll storeView (mendStores p gs (segmentOf p v 0 g)) va)
+  fine-one g hg kg ng oth us c6 c8 bd = go (test (isWhole p (segmentOf p v 0 g))) (test (isRagged p (segmentOf p v 0 g)))
+    where
+      whole! : isWhole p (segmentOf p v 0 g) ≡ true → mendStores p gs (segmentOf p v 0 g) ≡ missingFooters p (segmentOf p v 0 g)
+      whole! q = unfold mendStores in rw q
+
+      plain! : isWhole p (segmentOf p v 0 g) ≡ false → isRagged p (segmentOf p v 0 g) ≡ false → mendStores p gs (segmentOf p v 0 g) ≡ []
+      plain! q w = unfold mendStores in rw (q, w)
+
+      ragged! :
+          isWhole p (segmentOf p v 0 g) ≡ false
+          → isRagged p (segmentOf p v 0 g) ≡ true
+          → mendStores p gs (segmentOf p v 0 g) ≡ rewriteStores p (segmentOf p v 0 g) (firstOr 0 (freeZones p gs)) (suc (greatestSerial gs))
+      ragged! q w = unfold mendStores in rw (q, w)
+
+      rewrites! : isRagged p (segmentOf p v 0 g) ≡ true → rewrites p 0 gs ≡ true
+      rewrites! q = unfold rewrites in (ap (any (isRagged p)) us ∙ in-any (isRagged p) (segmentOf p v 0 g ∷ []) (segmentOf p v 0 g) (inl refl) q)
+
+      go : Test (isWhole p (segmentOf p v 0 g)) → Test (isRagged p (segmentOf p v 0 g)) → Fine p (storeAll storeView (mendStores p gs (segmentOf p v 0 g)) va)
+      go (yes! q) w = subst (λ (l : List Store). Fine p (storeAll storeView l va)) (sym (whole! q)) (fine-footers g hg kg ng oth q)
+      go (no! q) (no! w) = subst (λ (l : List Store). Fine p (storeAll storeView l va)) (sym (plain! q w)) (subst (λ (u : View). Fine p u) (sym (stores-none va)) fine-none)
+      go (no! q) (yes! w) =
+          let rw! = rewrites! w in
+          let n6 : eqb (greatestSerial gs) lastCount ≡ false = sym (ap (λ (b : Bool). b && eqb (greatestSerial gs) lastCount) rw!) ∙ c6 in
+          let n8 : isNil (freeZones p gs) ≡ false = sym (ap (λ (b : Bool). b && isNil (freeZones p gs)) rw!) ∙ c8 in
+          let z0 = firstOr 0 (freeZones p gs) in
+          let m : In z0 (keep (λ z. not (remains p v 0 z)) (below (p .Z))) = subst (λ (l : List ℕ). In z0 l) (free-are p r v sh acc) (first-in (freeZones p gs) 0 n8) in
+          let (i, f) = keep-in (λ z. not (remains p v 0 z)) (below (p .Z)) z0 m in
+          let ne : ¬ (greatestSerial gs ≡ lastCount) = eqb-false (greatestSerial gs) lastCount n6 in
+          subst (λ (l : List Store). Fine p (storeAll storeView l va)) (sym (ragged! q w))
+          (fine-rewrite g hg kg ng oth z0 (below-in (p .Z) z0 i) (not-true (remains p v 0 z0) f) (let b = bd in omega arith) q)
+
+  fine-mend : rewrites p 0 gs && eqb (greatestSerial gs) lastCount ≡ false → rewrites p 0 gs && isNil (freeZones p gs) ≡ false → greatestSerial gs < 256 ^ 8
+      → Fine p (storeAll storeView (flat (mendStores p gs) (unsealed gs)) va)
+  fine-mend c6 c8 bd = go (loose p r v sh acc)
+    where
+      go : Loose p v → Fine p (storeAll storeView (flat (mendStores p gs) (unsealed gs)) va)
+      go (loose-none e f) = subst (λ (l : List Store). Fine p (storeAll storeView l va)) (sym (ap (flat (mendStores p gs)) e ∙ flat-none (mendStores p gs)))
+          (subst (λ (u : View). Fine p u) (sym (stores-none va)) fine-none)
+      go (loose-one g hg kg ng us oth) =
+          subst (λ (l : List Store). Fine p (storeAll storeView l va))
+          (sym (ap (flat (mendStores p gs)) us
+          ∙ flat-cons (mendStores p gs) (segmentOf p v 0 g) []
+          ∙ ap (λ (l : List Store). mendStores p gs (segmentOf p v 0 g) ++ l) (flat-none (mendStores p gs))
+          ∙ append-nil (mendStores p gs (segmentOf p v 0 g))))
+          (fine-one g hg kg ng oth us c6 c8 bd)
+
+-- 01, Restart, 4: the stores fit, and what they leave can be loaded
+pub record Settled (p : Params) (v : View) : Type 0 where
+  pub fits : AllFit p v (restartStores p 0 (segments p v 0))
+  pub fine : AllGood p (storeAll storeView (restartStores p 0 (segments p v 0)) v) 0
+
+pub settled : (p : Params) (r : Ranged p) (v : View) → Shaped p v → Accepted p v 0
+    → rewrites p 0 (segments p v 0) && eqb (greatestSerial (segments p v 0)) lastCount ≡ false → rewrites p 0 (segments p v 0) && isNil (freeZones p (segments p v 0)) ≡ false → Settled p v
+settled p r v sh acc c6 c8 =
+    let gs = segments p v 0 in
+    let bd = serials-small p r v sh in
+    let ds = dropStores p gs in
+    let ts = flat (mendStores p gs) (unsealed gs) in
+    let va = storeAll storeView ds v in
+    let md : Mended p va ts = mended p r v sh acc c6 c8 bd in
+    let v2 = storeAll storeView ts va in
+    let fm : Fine p v2 = fine-mend p r v sh acc c6 c8 bd in
+    let ev : storeAll storeView (ds ++ ts) v ≡ v2 = storeAll-append storeView ds ts v in
+    let es : restartStores p 0 gs ≡ ds ++ ts = healthy-stores p gs in
+    record {
+      fits = subst (λ (l : List Store). AllFit p v l) (sym es)
+          (all-fit p v (ds ++ ts) (sh .sized) (within-append p ds ts (drop-within p r v sh acc) (md .mend-within)) (roomy-append p v ds ts (sh .sized) (drop-roomy p r v sh acc) (md .mend-roomy)));
+      fine =
+          subst (λ (u : View). AllGood p u 0) (sym (ap (λ (l : List Store). storeAll storeView l v) es ∙ ev))
+          (λ g m. let (hg, u) = remains-is-used p r v2 (md .mend-bound) (md .mend-tidy) g m in fm g hg u);
+    }

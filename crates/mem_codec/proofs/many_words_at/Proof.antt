@@ -1,0 +1,68 @@
+use mathlib.Core.Path.{_≡_, refl}
+use mathlib.Core.List.{_++_}
+use Prim.Native.Nat.{_-_, _≤_}
+use native.Mathlib.Omega.{arith}
+use lib.ListN.{drop, replicate}
+use Rattle.spec.specs.Memory.{numbersAt}
+use Rattle.mem_codec.specs.Codec.{read-none, read-one, read-all}
+use Rattle.mem_codec.proofs.many_words_at.Statement.{statement}
+use Rattle.mem_codec.proofs.many_words_at.Tie as tie
+
+abbrev Inv-loop : tie.InvT-loop
+Inv-loop src at out₀ i₀ out i = (i ≤ 64) × (out ≡ numbersAt 4 i at src ++ drop i (replicate 64 0))
+
+abbrev μ-loop : tie.MeasureT-loop
+μ-loop src at out₀ i₀ out i = 64 - i
+
+loop-holds : tie.Need-loop-holds Inv-loop μ-loop
+loop-holds c = (omega arith, read-none 4 (c .before .args .at) (c .before .args .src .now) (replicate 64 0))
+
+mul-read-le32 : tie.Need-mul-read-le32 Inv-loop μ-loop
+mul-read-le32 c = omega arith
+
+add-read-le32 : tie.Need-add-read-le32 Inv-loop μ-loop
+add-read-le32 c = omega arith
+
+read-le32-requires : tie.Need-read-le32-requires Inv-loop μ-loop
+read-le32-requires c κs = omega arith
+
+mul-out : tie.Need-mul-out Inv-loop μ-loop
+mul-out c = omega arith
+
+array-write-out : tie.Need-array-write-out Inv-loop μ-loop
+array-write-out c = omega arith
+
+add-i : tie.Need-add-i Inv-loop μ-loop
+add-i c = omega arith
+
+loop-less : tie.Need-loop-less Inv-loop μ-loop
+loop-less c = omega arith
+
+loop-again : tie.Need-loop-again Inv-loop μ-loop
+loop-again c =
+    let a = c .before .before .before .before .args in
+    let l = c .before .before .loop in
+    (omega arith, read-one 4 (a .at) (l .i) (a .src .now) (replicate 64 0) (l .out) (c .read-le32 .result) (omega arith) (l .inv .1) (c .read-le32 .ensures))
+
+returns : tie.Need-returns Inv-loop μ-loop
+returns c =
+    let a = c .before .before .before .args in
+    let l = c .before .loop in
+    read-all 4 (a .at) (l .i) 64 (a .src .now) (replicate 64 0) (l .out) (omega arith) refl (l .inv .1)
+
+pub many-words-at-spec : {M : Type 1} → statement M
+many-words-at-spec =
+    tie.close
+    (tie.spec
+    Inv-loop
+    μ-loop
+    loop-holds
+    mul-read-le32
+    add-read-le32
+    read-le32-requires
+    mul-out
+    array-write-out
+    add-i
+    loop-less
+    loop-again
+    returns)

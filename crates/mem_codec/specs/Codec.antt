@@ -1,0 +1,322 @@
+-- The state as bytes: sections of little-endian numbers read and written, over width and count; what is written is read back (01, The array). Assumes nothing.
+use mathlib.Core.Path.{_≡_, refl, sym, ap, ap₂, _∙_, subst}
+use mathlib.Core.List.{map, List, [], _∷_, _++_, append-nil, append-assoc}
+use Prim.Native.Nat.{ℕ, zero, suc, _+_, _*_, _^_, _≤_, _<_}
+use native.Mathlib.Omega.{arith}
+use native.Mathlib.Numerals.{add-one}
+use native.Mathlib.Nat.{add-zero, zero-add, add-comm, add-assoc, mul-comm, mul-zero, mul-suc, mul-le-mul-left, mod-eq-of-lt}
+use lib.Dec.{lit<}
+use lib.ListN.{length, getD, take, drop, set, length-set, length-append, length-map, drop-of-length-le}
+use lib.Seq.{set-at, append-snoc, drop-cons, ext-getD, length-take-le, take-all}
+use Rattle.spec.specs.Bytes.{leOf, toLe, part, splice}
+use Rattle.spec.specs.Lists.{upFrom, below, flat, total, zipped}
+use Rattle.spec.specs.Memory.{Section, section, stateSections, sectionLen, sectionAt, stateLen, numbersAt, sectionOf, numberOf, stateNumbers, sectionBytes, stateBytes, stateOf, mkState}
+use Rattle.spec.specs.declared.State.{State}
+use Rattle.law_basic.specs.Le.{length-toLe, leOf-toLe, leOf-lt, toLe-leOf}
+use Rattle.law_basic.specs.Ranges.{length-below, map-below-snoc, map-below-same, getD-map-below, flat-snoc, length-flat}
+use Rattle.law_basic.specs.Splice.{length-part, getD-part, part-zero, part-add, length-splice, part-all, part-append-left, part-append-right, splice-nil, splice-next, splice-all, wrote-one}
+use Rattle.law_basic.specs.Turns.{take-more}
+
+-- ---- a section read: the first i numbers, then what the array held
+
+pub length-numbersAt : (w n at : ℕ) (bs : List ℕ) → length (numbersAt w n at bs) ≡ n
+unfolding numbersAt
+length-numbersAt w n at bs = simp length-map (length-below n)
+
+pub read-none : (w at : ℕ) (bs z : List ℕ) → z ≡ numbersAt w 0 at bs ++ drop 0 z
+unfolding numbersAt below upFrom
+read-none w at bs z = refl
+
+pub read-one : (w at i : ℕ) (bs z out : List ℕ) (v : ℕ) → i < length z → out ≡ numbersAt w i at bs ++ drop i z → v ≡ leOf (part (at + w * i) w bs)
+    → set out i v ≡ numbersAt w (i + 1) at bs ++ drop (i + 1) z
+unfolding numbersAt
+read-one w at i bs z out v h e f =
+    let ns : List ℕ = numbersAt w i at bs in
+    let b : ℕ = leOf (part (at + w * i) w bs) in
+    ap₂ (λ (x : List ℕ) (y : ℕ). set x i y) e f
+    ∙ rw (drop-cons z i 0, add-one)
+    (set-at ns (getD z i 0) (drop (suc i) z) b i (length-numbersAt w i at bs)
+    ∙ sym (append-snoc ns b (drop (suc i) z))
+    ∙ ap (λ (x : List ℕ). x ++ drop (suc i) z) (sym (map-below-snoc (λ (k : ℕ). leOf (part (at + w * k) w bs)) i) ∙ ap (λ (k : ℕ). numbersAt w k at bs) (add-one i)))
+
+pub read-all : (w at i n : ℕ) (bs z out : List ℕ) → i ≡ n → length z ≡ n → out ≡ numbersAt w i at bs ++ drop i z → out ≡ numbersAt w n at bs
+read-all w at i n bs z out q h e =
+    let f : length z ≤ n = omega arith in
+    e ∙ ap (λ (k : ℕ). numbersAt w k at bs ++ drop k z) q
+    ∙ ap (λ (x : List ℕ). numbersAt w n at bs ++ x) (drop-of-length-le z f) ∙ append-nil (numbersAt w n at bs)
+
+-- a section of one number
+pub number-one : (w at : ℕ) (bs : List ℕ) → getD (numbersAt w 1 at bs) 0 0 ≡ leOf (part at w bs)
+unfolding numbersAt
+number-one w at bs =
+    getD-map-below (λ (i : ℕ). leOf (part (at + w * i) w bs)) 1 0 0 (lit< tt)
+    ∙ ap (λ (x : ℕ). leOf (part x w bs)) (let e : at + w * 0 ≡ at = omega arith in e)
+
+-- ---- a section written: the first i numbers, each in the w bytes that e gives
+
+module _ (e : ℕ → List ℕ) (w : ℕ) (long : (n : ℕ) → length (e n) ≡ w) where
+  pub length-numbers : (ns : List ℕ) → length (flat e ns) ≡ w * length ns
+  length-numbers ns = length-flat e w ns long ∙ mul-comm (length ns) w
+
+  pub written-none : (at : ℕ) (l ns : List ℕ) → l ≡ splice l at (flat e (take 0 ns))
+  unfolding flat
+  written-none at l ns = sym (splice-nil l at)
+
+  pub written-one : (at i : ℕ) (l l′ l″ ns : List ℕ) → i < length ns → at + w * i + w ≤ length l → l′ ≡ splice l at (flat e (take i ns))
+      → l″ ≡ splice l′ (at + w * i) (e (getD ns i 0)) → l″ ≡ splice l at (flat e (take (i + 1) ns))
+  written-one at i l l′ l″ ns h g p q =
+      let s : List ℕ = flat e (take i ns) in
+      let b : List ℕ = e (getD ns i 0) in
+      let m : length s ≡ w * i = length-numbers (take i ns) ∙ ap (λ (x : ℕ). w * x) (length-take-le i ns (omega arith)) in
+      let f : length b ≡ w = long (getD ns i 0) in
+      q ∙ ap (λ (x : List ℕ). splice x (at + w * i) b) p ∙ ap (λ (x : ℕ). splice (splice l at s) (at + x) b) (sym m) ∙ splice-next l at s b (omega arith)
+      ∙ ap (splice l at) (sym (flat-snoc e (take i ns) (getD ns i 0)) ∙ ap (flat e) (take-more ns i h))
+
+  pub written-all : (at i : ℕ) (l l′ ns : List ℕ) → length ns ≤ i → l′ ≡ splice l at (flat e (take i ns)) → l′ ≡ splice l at (flat e ns)
+  written-all at i l l′ ns h p = p ∙ ap (λ (x : List ℕ). splice l at (flat e x)) (take-all i ns h)
+
+-- a byte stored, and bytes, are sections of width 1
+pub byte-written : (l : List ℕ) (at v : ℕ) → v < 256 → at < length l → set l at v ≡ splice l at (toLe 1 v)
+unfolding toLe
+byte-written l at v h g =
+    ap (λ (i : ℕ). set l i v) (sym (add-zero at)) ∙ wrote-one l l at 0 [] v (sym (splice-nil l at)) refl (omega arith)
+    ∙ ap (λ (x : ℕ). splice l at (x ∷ [])) (sym (mod-eq-of-lt h))
+
+pub bytes-same : (ns : List ℕ) → ((k : ℕ) → k < length ns → getD ns k 0 < 256) → flat (toLe 1) ns ≡ ns
+unfolding flat toLe
+bytes-same [] f = refl
+bytes-same (n ∷ ns) f = ap₂ _∷_ (mod-eq-of-lt (f 0 (omega arith))) (bytes-same ns (λ k h. f (suc k) (omega arith)))
+
+-- ---- the sections of the state
+
+pub state-len : stateLen ≡ 1362
+unfolding stateLen sectionLen stateSections total
+state-len = refl
+
+-- each field by its width, count and offset
+pub state-read : (bs : List ℕ) → stateOf bs ≡ mkState (leOf (part 0 1 bs)) (leOf (part 1 1 bs)) (leOf (part 2 8 bs)) (leOf (part 10 8 bs)) (leOf (part 18 4 bs)) (leOf (part 22 4 bs))
+    (numbersAt 4 8 26 bs) (numbersAt 1 8 58 bs) (numbersAt 1 8 66 bs) (numbersAt 1 8 74 bs) (numbersAt 8 64 82 bs) (numbersAt 8 64 594 bs) (numbersAt 4 64 1106 bs)
+unfolding stateOf numberOf sectionOf sectionAt sectionLen stateSections total
+state-read bs =
+    λ j.
+    mkState (number-one 1 0 bs j) (number-one 1 1 bs j) (number-one 8 2 bs j) (number-one 8 10 bs j) (number-one 4 18 bs j) (number-one 4 22 bs j)
+    (numbersAt 4 8 26 bs) (numbersAt 1 8 58 bs) (numbersAt 1 8 66 bs) (numbersAt 1 8 74 bs) (numbersAt 8 64 82 bs) (numbersAt 8 64 594 bs) (numbersAt 4 64 1106 bs)
+
+-- ---- sections one after the other
+
+-- each section has as many numbers as its count
+abbrev pub Counted : List Section → List (List ℕ) → Type 0
+Counted [] nss = Unit {0}
+Counted (s ∷ ss) [] = ⊥
+Counted (s ∷ ss) (ns ∷ nss) = (length ns ≡ s .count) × Counted ss nss
+
+-- each number fits the width of its section
+abbrev pub Fitting : List Section → List (List ℕ) → Type 0
+Fitting [] nss = Unit {0}
+Fitting (s ∷ ss) [] = ⊥
+Fitting (s ∷ ss) (ns ∷ nss) = ((k : ℕ) → k < length ns → getD ns k 0 < 256 ^ s .width) × Fitting ss nss
+
+-- the sections written one at a time, from index at
+unfoldable pub putSections : List ℕ → ℕ → List Section → List (List ℕ) → List ℕ
+putSections l at [] nss = l
+putSections l at (s ∷ ss) [] = l
+putSections l at (s ∷ ss) (ns ∷ nss) = putSections (splice l at (sectionBytes s ns)) (at + sectionLen s) ss nss
+
+-- their bytes
+abbrev pub sectionsBytes : List Section → List (List ℕ) → List ℕ
+sectionsBytes ss nss = flat (λ (bs : List ℕ). bs) (zipped sectionBytes ss nss)
+
+pub length-section : (s : Section) (ns : List ℕ) → length ns ≡ s .count → length (sectionBytes s ns) ≡ sectionLen s
+unfolding sectionBytes sectionLen
+length-section s ns e = length-numbers (toLe (s .width)) (s .width) (length-toLe (s .width)) ns ∙ ap (λ (x : ℕ). s .width * x) e
+
+pub length-sections : (ss : List Section) (nss : List (List ℕ)) → Counted ss nss → length (sectionsBytes ss nss) ≡ total (map sectionLen ss)
+unfolding flat zipped total
+length-sections [] nss h = refl
+length-sections (s ∷ ss) [] h = absurd h
+length-sections (s ∷ ss) (ns ∷ nss) h =
+    length-append (sectionBytes s ns) (sectionsBytes ss nss) ∙ ap₂ _+_ (length-section s ns (h .0)) (length-sections ss nss (h .1))
+
+-- all of them at once
+pub sections-written : (l : List ℕ) (at : ℕ) (ss : List Section) (nss : List (List ℕ)) → Counted ss nss → at + total (map sectionLen ss) ≤ length l
+    → putSections l at ss nss ≡ splice l at (sectionsBytes ss nss)
+unfolding putSections flat zipped total
+sections-written l at [] nss h g = sym (splice-nil l at)
+sections-written l at (s ∷ ss) [] h g = absurd h
+sections-written l at (s ∷ ss) (ns ∷ nss) h g =
+    let b : List ℕ = sectionBytes s ns in
+    let t : List ℕ = sectionsBytes ss nss in
+    let n : length b ≡ sectionLen s = length-section s ns (h .0) in
+    let m : length t ≡ total (map sectionLen ss) = length-sections ss nss (h .1) in
+    let e : length (splice l at b) ≡ length l = length-splice l at b (omega arith) in
+    sections-written (splice l at b) (at + sectionLen s) ss nss (h .1) (omega arith)
+    ∙ ap (λ (x : ℕ). splice (splice l at b) (at + x) t) (sym n) ∙ splice-next l at b t (omega arith)
+
+-- ---- the state written
+
+-- the six numbers in front of the arrays
+abbrev pub frontNumbers : ℕ → ℕ → ℕ → ℕ → ℕ → ℕ → List (List ℕ)
+frontNumbers live gone stamp serial opened next =
+    (live ∷ []) ∷ (gone ∷ []) ∷ (stamp ∷ []) ∷ (serial ∷ []) ∷ (opened ∷ []) ∷ (next ∷ []) ∷ []
+
+section-one : (w n : ℕ) → sectionBytes (section w 1) (n ∷ []) ≡ toLe w n
+unfolding sectionBytes flat
+section-one w n = append-nil (toLe w n)
+
+pub front-written : (l : List ℕ) (live gone stamp serial opened next : ℕ) → live < 256 → gone < 256 → 26 ≤ length l
+    → splice (splice (splice (splice (set (set l 0 live) 1 gone) 2 (toLe 8 stamp)) 10 (toLe 8 serial)) 18 (toLe 4 opened)) 22 (toLe 4 next)
+    ≡ putSections l 0 (take 6 stateSections) (frontNumbers live gone stamp serial opened next)
+unfolding putSections stateSections sectionLen
+front-written l live gone stamp serial opened next h g f =
+    let k : 1 < length (set l 0 live) = simp length-set (omega arith) in
+    simp section-one
+    (ap (λ (x : List ℕ). splice (splice (splice (splice x 2 (toLe 8 stamp)) 10 (toLe 8 serial)) 18 (toLe 4 opened)) 22 (toLe 4 next))
+    (byte-written (set l 0 live) 1 gone g k ∙ ap (λ (x : List ℕ). splice x 1 (toLe 1 gone)) (byte-written l 0 live h (omega arith))))
+
+pub state-written : (l : List ℕ) (st : State) → length l ≡ stateLen → Counted stateSections (stateNumbers st)
+    → putSections l 0 stateSections (stateNumbers st) ≡ stateBytes st
+unfolding stateBytes stateLen
+state-written l st h g =
+    let n : length (sectionsBytes stateSections (stateNumbers st)) ≡ length l = length-sections stateSections (stateNumbers st) g ∙ sym h in
+    sections-written l 0 stateSections (stateNumbers st) g (omega arith) ∙ splice-all l (sectionsBytes stateSections (stateNumbers st)) n
+
+-- ---- what is written is read back
+
+-- number k of a section
+number-part : (w k : ℕ) (ns rest : List ℕ) → k < length ns → part (w * k) w (flat (toLe w) ns ++ rest) ≡ toLe w (getD ns k 0)
+unfolding flat
+number-part w k [] rest h = absurd (let q : ⊥ = omega arith in q)
+number-part w zero (n ∷ ns) rest h =
+    let b : List ℕ = toLe w n in
+    let e : length b ≡ w = length-toLe w n in
+    let z : w * 0 ≡ 0 = mul-zero w in
+    ap₂ (λ (x : ℕ) (y : List ℕ). part x w y) z (append-assoc b (flat (toLe w) ns) rest)
+    ∙ part-append-left 0 w b (flat (toLe w) ns ++ rest) (omega arith) ∙ part-all w b (omega arith)
+number-part w (suc k) (n ∷ ns) rest h =
+    let b : List ℕ = toLe w n in
+    let z : w * suc k ≡ length b + w * k = mul-suc w k ∙ add-comm (w * k) w ∙ ap (λ (x : ℕ). x + w * k) (sym (length-toLe w n)) in
+    ap₂ (λ (x : ℕ) (y : List ℕ). part x w y) z (append-assoc b (flat (toLe w) ns) rest)
+    ∙ part-append-right (w * k) w b (flat (toLe w) ns ++ rest) ∙ number-part w k ns rest (omega arith)
+
+-- a section, and what follows it
+numbers-back : (w n : ℕ) (ns rest : List ℕ) → length ns ≡ n → ((k : ℕ) → k < length ns → getD ns k 0 < 256 ^ w)
+    → numbersAt w n 0 (flat (toLe w) ns ++ rest) ≡ ns
+unfolding numbersAt
+numbers-back w n ns rest e f =
+    let l : List ℕ = flat (toLe w) ns ++ rest in
+    ext-getD 0 (numbersAt w n 0 l) ns (length-numbersAt w n 0 l ∙ sym e)
+    (λ k h.
+    let q : k < length ns = omega (arith, length-numbersAt w n 0 l) in
+    getD-map-below (λ (i : ℕ). leOf (part (0 + w * i) w l)) n k 0 (omega arith) ∙ ap (λ (x : ℕ). leOf (part x w l)) (zero-add (w * k))
+    ∙ ap leOf (number-part w k ns rest q) ∙ leOf-toLe w (getD ns k 0) (f k q))
+
+-- a section behind others
+numbers-behind : (w n at : ℕ) (s t : List ℕ) → numbersAt w n (length s + at) (s ++ t) ≡ numbersAt w n at t
+unfolding numbersAt
+numbers-behind w n at s t =
+    map-below-same (λ (i : ℕ). leOf (part (length s + at + w * i) w (s ++ t))) (λ (i : ℕ). leOf (part (at + w * i) w t)) n
+    (λ k h. ap leOf (ap (λ (x : ℕ). part x w (s ++ t)) (add-assoc (length s) at (w * k)) ∙ part-append-right (at + w * k) w s t))
+
+pub sections-back : (ss : List Section) (nss : List (List ℕ)) (k : ℕ) → k < length ss → Counted ss nss → Fitting ss nss
+    → numbersAt (getD ss k (section 0 0) .width) (getD ss k (section 0 0) .count) (total (map sectionLen (take k ss))) (sectionsBytes ss nss) ≡ getD nss k []
+unfolding flat zipped total sectionBytes
+sections-back [] nss k h f g = absurd (let q : ⊥ = omega arith in q)
+sections-back (s ∷ ss) [] k h f g = absurd f
+sections-back (s ∷ ss) (ns ∷ nss) zero h f g = numbers-back (s .width) (s .count) ns (sectionsBytes ss nss) (f .0) (g .0)
+sections-back (s ∷ ss) (ns ∷ nss) (suc k) h f g =
+    let d : Section = getD ss k (section 0 0) in
+    let t : ℕ = total (map sectionLen (take k ss)) in
+    ap (λ (x : ℕ). numbersAt (d .width) (d .count) (x + t) (flat (toLe (s .width)) ns ++ sectionsBytes ss nss)) (sym (length-section s ns (f .0)))
+    ∙ numbers-behind (d .width) (d .count) t (flat (toLe (s .width)) ns) (sectionsBytes ss nss) ∙ sections-back ss nss k (omega arith) (f .1) (g .1)
+
+-- 01, The array: a state in bytes says that state
+pub stateOf-stateBytes : (st : State) → Counted stateSections (stateNumbers st) → Fitting stateSections (stateNumbers st) → stateOf (stateBytes st) ≡ st
+unfolding stateOf numberOf sectionOf sectionAt stateBytes stateSections stateNumbers
+stateOf-stateBytes st f g =
+    let back : (k : ℕ) → k < 13 → sectionOf (stateBytes st) k ≡ getD (stateNumbers st) k [] = λ k h. sections-back stateSections (stateNumbers st) k h f g in
+    let one : (k : ℕ) → k < 13 → numberOf (stateBytes st) k ≡ getD (getD (stateNumbers st) k []) 0 0 = λ k h. ap (λ (l : List ℕ). getD l 0 0) (back k h) in
+    λ j.
+    mkState (one 0 (lit< tt) j) (one 1 (lit< tt) j) (one 2 (lit< tt) j) (one 3 (lit< tt) j) (one 4 (lit< tt) j) (one 5 (lit< tt) j)
+    (back 6 (lit< tt) j) (back 7 (lit< tt) j) (back 8 (lit< tt) j) (back 9 (lit< tt) j) (back 10 (lit< tt) j) (back 11 (lit< tt) j) (back 12 (lit< tt) j)
+
+-- ---- and the other way: what is read is written back
+
+-- the elements are bytes
+abbrev pub AllBytes : List ℕ → Type 0
+AllBytes bs = (k : ℕ) → k < length bs → getD bs k 0 < 256
+
+-- w of them are written back as they stand
+part-bytes : (w at : ℕ) (bs : List ℕ) → AllBytes bs → at + w ≤ length bs → AllBytes (part at w bs)
+part-bytes w at bs f h k q =
+    let e : k < w = omega (arith, length-part at w bs h) in
+    subst (λ (x : ℕ). x < 256) (sym (getD-part at w bs k e)) (f (at + k) (omega arith))
+
+number-again : (w at : ℕ) (bs : List ℕ) → AllBytes bs → at + w ≤ length bs → toLe w (leOf (part at w bs)) ≡ part at w bs
+number-again w at bs f h =
+    ap (λ (x : ℕ). toLe x (leOf (part at w bs))) (sym (length-part at w bs h)) ∙ toLe-leOf (part at w bs) (part-bytes w at bs f h)
+
+numbers-again : (w n at : ℕ) (bs : List ℕ) → AllBytes bs → at + w * n ≤ length bs → flat (toLe w) (numbersAt w n at bs) ≡ part at (w * n) bs
+unfolding numbersAt flat below upFrom
+numbers-again w zero at bs f h = sym (ap (λ (x : ℕ). part at x bs) (mul-zero w) ∙ part-zero at bs)
+numbers-again w (suc n) at bs f h =
+    let e : w * suc n ≡ w * n + w = mul-suc w n in
+    let v : ℕ = leOf (part (at + w * n) w bs) in
+    ap (flat (toLe w)) (ap (λ (k : ℕ). numbersAt w k at bs) (sym (add-one n)) ∙ map-below-snoc (λ (k : ℕ). leOf (part (at + w * k) w bs)) n)
+    ∙ flat-snoc (toLe w) (numbersAt w n at bs) v
+    ∙ ap₂ _++_ (numbers-again w n at bs f (omega arith)) (number-again w (at + w * n) bs f (omega arith))
+    ∙ sym (ap (λ (x : ℕ). part at x bs) e ∙ part-add at (w * n) w bs)
+
+-- the sections read one after the other, from index at
+unfoldable readSections : List Section → ℕ → List ℕ → List (List ℕ)
+readSections [] at bs = []
+readSections (s ∷ ss) at bs = numbersAt (s .width) (s .count) at bs ∷ readSections ss (at + sectionLen s) bs
+
+sections-again : (ss : List Section) (at : ℕ) (bs : List ℕ) → AllBytes bs → at + total (map sectionLen ss) ≤ length bs
+    → sectionsBytes ss (readSections ss at bs) ≡ part at (total (map sectionLen ss)) bs
+unfolding readSections flat zipped total sectionBytes sectionLen
+sections-again [] at bs f h = sym (part-zero at bs)
+sections-again (s ∷ ss) at bs f h =
+    ap₂ _++_ (numbers-again (s .width) (s .count) at bs f (omega arith)) (sections-again ss (at + s .width * s .count) bs f (omega arith))
+    ∙ sym (part-add at (s .width * s .count) (total (map sectionLen ss)) bs)
+
+-- what is read has its counts and fits its widths
+sections-counted : (ss : List Section) (at : ℕ) (bs : List ℕ) → Counted ss (readSections ss at bs)
+unfolding readSections
+sections-counted [] at bs = tt
+sections-counted (s ∷ ss) at bs = (length-numbersAt (s .width) (s .count) at bs, sections-counted ss (at + sectionLen s) bs)
+
+number-fits : (w n at : ℕ) (bs : List ℕ) → AllBytes bs → at + w * n ≤ length bs → (k : ℕ) → k < length (numbersAt w n at bs) → getD (numbersAt w n at bs) k 0 < 256 ^ w
+unfolding numbersAt
+number-fits w n at bs f h k q =
+    let i : k < n = omega (arith, length-numbersAt w n at bs) in
+    let r : w * k + w ≤ w * n = subst (λ (x : ℕ). x ≤ w * n) (mul-suc w k) (mul-le-mul-left w i) in
+    let b : List ℕ = part (at + w * k) w bs in
+    let g : at + w * k + w ≤ length bs = omega arith in
+    subst (λ (x : ℕ). x < 256 ^ w) (sym (getD-map-below (λ (j : ℕ). leOf (part (at + w * j) w bs)) n k 0 i))
+    (subst (λ (x : ℕ). leOf b < 256 ^ x) (length-part (at + w * k) w bs g) (leOf-lt b (part-bytes w (at + w * k) bs f g)))
+
+sections-fit : (ss : List Section) (at : ℕ) (bs : List ℕ) → AllBytes bs → at + total (map sectionLen ss) ≤ length bs → Fitting ss (readSections ss at bs)
+unfolding readSections total sectionLen
+sections-fit [] at bs f h = tt
+sections-fit (s ∷ ss) at bs f h = (number-fits (s .width) (s .count) at bs f (omega arith), sections-fit ss (at + s .width * s .count) bs f (omega arith))
+
+numbers-read : (bs : List ℕ) → readSections stateSections 0 bs ≡ stateNumbers (stateOf bs)
+unfolding readSections stateSections sectionLen stateNumbers stateOf numberOf sectionOf sectionAt total numbersAt below upFrom
+numbers-read bs = refl
+
+pub stateOf-counted : (bs : List ℕ) → Counted stateSections (stateNumbers (stateOf bs))
+stateOf-counted bs = subst (Counted stateSections) (numbers-read bs) (sections-counted stateSections 0 bs)
+
+module _ (bs : List ℕ) (long : length bs ≡ stateLen) (bytes : AllBytes bs) where
+  all-read : 0 + total (map sectionLen stateSections) ≤ length bs
+  unfolding stateLen
+  all-read = omega arith
+
+  pub stateOf-fitting : Fitting stateSections (stateNumbers (stateOf bs))
+  stateOf-fitting = subst (Fitting stateSections) (numbers-read bs) (sections-fit stateSections 0 bs bytes all-read)
+
+  -- 01, The array: bytes that are read as a state are that state's bytes
+  pub stateBytes-stateOf : stateBytes (stateOf bs) ≡ bs
+  unfolding stateBytes stateLen
+  stateBytes-stateOf =
+      ap (sectionsBytes stateSections) (sym (numbers-read bs)) ∙ sections-again stateSections 0 bs bytes all-read ∙ part-all (total (map sectionLen stateSections)) bs (omega arith)

@@ -1,0 +1,241 @@
+// The state as bytes (01, The array): sections of numbers of one width, in the order of the fields.
+ghost use mathlib.Core.Path.{_≡_};
+ghost use Prim.Native.Nat.{_+_, _*_, _≤_, _<_};
+ghost use lib.ListN.{length, take};
+ghost use Rattle.spec.specs.Bytes.{toLe, splice};
+ghost use Rattle.spec.specs.Lists.{flat};
+ghost use Rattle.spec.specs.Memory.{stateSections, numbersAt, stateLen, stateOf, stateBytes};
+ghost use Rattle.mem_codec.specs.Changes.{countEdits, markEdits, cellEdits};
+ghost use Rattle.mem_codec.specs.Codec.{putSections, frontNumbers};
+ghost use Rattle.mem_codec.specs.Edits.{writtenAll};
+ghost use Rattle.mem_rows.specs.Rows.{changed};
+use mem_rows::Change;
+use spec::Serial;
+use spec::Stamp;
+use spec::State;
+
+// ---- a section read
+
+// 8 numbers of 1 byte.
+fn bytes_at(src: &[u8], at: usize) -> [u8; 8]
+    requires { ⌜ at + 8 ≤ length (now src) ⌝ }
+    ensures { λ r. ⌜ r ≡ numbersAt 1 8 at (now (src .entry)) ⌝ }
+{
+    let mut out = [0u8; 8];
+    let mut i = 0;
+    while i < 8 {
+        out[i] = src[at + i];
+        i += 1;
+    }
+    out
+}
+
+// 8 numbers of 4 bytes.
+fn words_at(src: &[u8], at: usize) -> [u32; 8]
+    requires { ⌜ at + 32 ≤ length (now src) ⌝ }
+    ensures { λ r. ⌜ r ≡ numbersAt 4 8 at (now (src .entry)) ⌝ }
+{
+    let mut out = [0u32; 8];
+    let mut i = 0;
+    while i < 8 {
+        out[i] = bits_le::read_le32(src, at + 4 * i);
+        i += 1;
+    }
+    out
+}
+
+// 64 numbers of 4 bytes.
+fn many_words_at(src: &[u8], at: usize) -> [u32; 64]
+    requires { ⌜ at + 256 ≤ length (now src) ⌝ }
+    ensures { λ r. ⌜ r ≡ numbersAt 4 64 at (now (src .entry)) ⌝ }
+{
+    let mut out = [0u32; 64];
+    let mut i = 0;
+    while i < 64 {
+        out[i] = bits_le::read_le32(src, at + 4 * i);
+        i += 1;
+    }
+    out
+}
+
+// 64 numbers of 8 bytes.
+fn many_longs_at(src: &[u8], at: usize) -> [u64; 64]
+    requires { ⌜ at + 512 ≤ length (now src) ⌝ }
+    ensures { λ r. ⌜ r ≡ numbersAt 8 64 at (now (src .entry)) ⌝ }
+{
+    let mut out = [0u64; 64];
+    let mut i = 0;
+    while i < 64 {
+        out[i] = bits_le::read_le64(src, at + 8 * i);
+        i += 1;
+    }
+    out
+}
+
+// ---- a section written
+
+// Numbers of 1 byte.
+fn put_bytes(dst: &mut [u8], at: usize, ns: &[u8])
+    requires { ⌜ at + length (now ns) ≤ length (now dst) ⌝ }
+    ensures { λ _. ⌜ now (dst .exit) ≡ splice (now (dst .entry)) at (flat (toLe 1) (now (ns .entry))) ⌝ }
+{
+    disk_blocks::copy_part(dst, at, ns);
+}
+
+// Numbers of 4 bytes.
+fn put_words(dst: &mut [u8], at: usize, ns: &[u32])
+    requires { ⌜ at + 4 * length (now ns) ≤ length (now dst) ⌝ }
+    ensures { λ _. ⌜ now (dst .exit) ≡ splice (now (dst .entry)) at (flat (toLe 4) (now (ns .entry))) ⌝ }
+{
+    let mut i = 0;
+    while i < ns.len() {
+        bits_le::write_le32(dst, at + 4 * i, ns[i]);
+        i += 1;
+    }
+}
+
+// Numbers of 8 bytes.
+fn put_longs(dst: &mut [u8], at: usize, ns: &[u64])
+    requires { ⌜ at + 8 * length (now ns) ≤ length (now dst) ⌝ }
+    ensures { λ _. ⌜ now (dst .exit) ≡ splice (now (dst .entry)) at (flat (toLe 8) (now (ns .entry))) ⌝ }
+{
+    let mut i = 0;
+    while i < ns.len() {
+        bits_le::write_le64(dst, at + 8 * i, ns[i]);
+        i += 1;
+    }
+}
+
+// The six numbers in front of the arrays.
+fn put_front(dst: &mut [u8], live: u8, missing: u8, stamp: u64, serial: u64, opened: u32, next: u32)
+    requires { ⌜ 26 ≤ length (now dst) ⌝ }
+    ensures { λ _. ⌜ now (dst .exit) ≡ putSections (now (dst .entry)) 0 (take 6 stateSections) (frontNumbers live missing stamp serial opened next) ⌝ }
+{
+    dst[0] = live;
+    dst[1] = missing;
+    bits_le::write_le64(dst, 2, stamp);
+    bits_le::write_le64(dst, 10, serial);
+    bits_le::write_le32(dst, 18, opened);
+    bits_le::write_le32(dst, 22, next);
+}
+
+// ---- the state
+
+// How many bytes a state has.
+pub fn state_len() -> usize
+    ensures { λ r. ⌜ r ≡ stateLen ⌝ }
+{
+    1362
+}
+
+// The state that the bytes say.
+pub fn decode(bytes: &[u8]) -> State
+    requires { ⌜ length (now bytes) ≡ stateLen ⌝ }
+    ensures { λ r. ⌜ r ≡ stateOf (now (bytes .entry)) ⌝ }
+{
+    let numbers = words_at(bytes, 26);
+    let filled = bytes_at(bytes, 58);
+    let writes = bytes_at(bytes, 66);
+    let landed = bytes_at(bytes, 74);
+    let addresses = many_longs_at(bytes, 82);
+    let stamps = many_longs_at(bytes, 594);
+    let offsets = many_words_at(bytes, 1106);
+    State {
+        live: bytes[0],
+        missing: bytes[1],
+        stamp: Stamp(bits_le::read_le64(bytes, 2)),
+        serial: Serial(bits_le::read_le64(bytes, 10)),
+        opened: bits_le::read_le32(bytes, 18),
+        next: bits_le::read_le32(bytes, 22),
+        numbers,
+        filled,
+        writes,
+        landed,
+        addresses,
+        stamps,
+        offsets,
+    }
+}
+
+// The bytes of the state.
+pub fn encode(dst: &mut [u8], st: State)
+    requires { ⌜ length (now dst) ≡ stateLen ⌝ }
+    ensures { λ _. ⌜ now (dst .exit) ≡ stateBytes st ⌝ }
+{
+    let numbers = st.numbers;
+    let filled = st.filled;
+    let writes = st.writes;
+    let landed = st.landed;
+    let addresses = st.addresses;
+    let stamps = st.stamps;
+    let offsets = st.offsets;
+    put_front(
+        dst,
+        st.live,
+        st.missing,
+        st.stamp.0,
+        st.serial.0,
+        st.opened,
+        st.next,
+    );
+    put_words(dst, 26, &numbers);
+    put_bytes(dst, 58, &filled);
+    put_bytes(dst, 66, &writes);
+    put_bytes(dst, 74, &landed);
+    put_longs(dst, 82, &addresses);
+    put_longs(dst, 594, &stamps);
+    put_words(dst, 1106, &offsets);
+}
+
+// ---- a change of the state
+
+// The four numbers in front that a call changes.
+fn put_counts(dst: &mut [u8], stamp: u64, serial: u64, opened: u32, next: u32)
+    requires { ⌜ 26 ≤ length (now dst) ⌝ }
+    ensures { λ _. ⌜ now (dst .exit) ≡ writtenAll stateSections (now (dst .entry)) (countEdits stamp serial opened next) ⌝ }
+{
+    bits_le::write_le64(dst, 2, stamp);
+    bits_le::write_le64(dst, 10, serial);
+    bits_le::write_le32(dst, 18, opened);
+    bits_le::write_le32(dst, 22, next);
+}
+
+// Of eighth i the stripe's number, how many are filled, which are writes, which drives have it.
+fn put_marks(dst: &mut [u8], i: usize, number: u32, filled: u8, writes: u8, landed: u8)
+    requires { ⌜ (i < 8) × (82 ≤ length (now dst)) ⌝ }
+    ensures { λ _. ⌜ now (dst .exit) ≡ writtenAll stateSections (now (dst .entry)) (markEdits i number filled writes landed) ⌝ }
+{
+    bits_le::write_le32(dst, 26 + 4 * i, number);
+    dst[58 + i] = filled;
+    dst[66 + i] = writes;
+    dst[74 + i] = landed;
+}
+
+// Of eighth i the addresses, stamps and offsets.
+fn put_cells(dst: &mut [u8], i: usize, addresses: &[u64; 8], stamps: &[u64; 8], offsets: &[u32; 8])
+    requires { ⌜ (i < 8) × (1362 ≤ length (now dst)) ⌝ }
+    ensures { λ _. ⌜ now (dst .exit) ≡ writtenAll stateSections (now (dst .entry)) (cellEdits i (now (addresses .entry)) (now (stamps .entry)) (now (offsets .entry))) ⌝ }
+{
+    let at = 8 * i;
+    put_longs(dst, 82 + 8 * at, addresses);
+    put_longs(dst, 594 + 8 * at, stamps);
+    put_words(dst, 1106 + 4 * at, offsets);
+}
+
+// The change made in the state's bytes: only what it names is written.
+pub fn put_change(dst: &mut [u8], c: Change)
+    requires { ⌜ length (now dst) ≡ stateLen ⌝ }
+    ensures { λ _. ⌜ now (dst .exit) ≡ stateBytes (changed (stateOf (now (dst .entry))) c) ⌝ }
+{
+    put_counts(dst, c.stamp.0, c.serial.0, c.opened, c.next);
+    let i = c.slot;
+    if 8 <= i {
+        return;
+    }
+    let row = c.row;
+    let addresses = row.addresses;
+    let stamps = row.stamps;
+    let offsets = row.offsets;
+    put_marks(dst, i, row.number, row.filled, row.writes, row.landed);
+    put_cells(dst, i, &addresses, &stamps, &offsets);
+}

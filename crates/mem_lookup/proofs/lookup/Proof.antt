@@ -1,0 +1,50 @@
+use Rattle.spec.specs.Lists.{isIn}
+use Rattle.mem_lookup.specs.Lies.{found-nowhere, found-away, found-here, entry-within}
+use borrow.Author.Needs.{needs}
+use mathlib.Core.Path.{sym, ap, _∙_}
+use Rattle.mem_lookup.proofs.lookup.Statement.{statement}
+use Rattle.mem_lookup.proofs.lookup.Tie as tie
+
+place-at-requires : tie.Need-place-at-requires
+place-at-requires c κs = entry-within (c .before .args .p) (c .before .args .addresses .now) (c .before .args .a) (c .before .pre .1 .0) (c .before .pre .1 .1)
+
+returns : tie.Need-returns
+returns c =
+    let a = c .before .before .before .before .args in
+    let place-at = c .before .before .place-at in
+    found-nowhere (a .p) (a .gone) (a .addresses .now) (a .a) (place-at .result .0) (place-at .ensures) (c .if1 .taken)
+
+place-drive-requires : tie.Need-place-drive-requires
+place-drive-requires c κs = search needs
+
+has-drive-requires : tie.Need-has-drive-requires
+has-drive-requires c κs = search needs
+
+returns-2 : tie.Need-returns-2
+returns-2 c =
+    let a = c .before .before .before .before .before .before .before .args in
+    let place-drive = c .before .before .place-drive in
+    let if1 = c .before .before .before .if1 in
+    let place-at = c .before .before .before .before .before .place-at in
+    found-away (a .p) (a .gone) (a .addresses .now) (a .a) (place-at .result .0) (place-at .ensures) (if1 .left)
+    (ap (isIn (a .gone)) (sym (place-drive .ensures .0)) ∙ sym (c .before .has-drive .ensures) ∙ c .if2 .taken)
+
+returns-3 : tie.Need-returns-3
+returns-3 c =
+    let a = c .before .before .before .before .before .before .before .args in
+    let place-drive = c .before .before .place-drive in
+    let if1 = c .before .before .before .if1 in
+    let place-at = c .before .before .before .before .before .place-at in
+    found-here (a .p) (a .gone) (a .addresses .now) (a .a) (place-at .result .0) (place-at .ensures) (if1 .left)
+    (ap (isIn (a .gone)) (sym (place-drive .ensures .0)) ∙ sym (c .before .has-drive .ensures) ∙ c .if2 .left)
+
+pub lookup-spec : {M : Type 1} → statement M
+lookup-spec =
+    tie.close
+    (tie.spec
+    place-at-requires
+    returns
+    place-drive-requires
+    has-drive-requires
+    returns-2
+    returns-3)

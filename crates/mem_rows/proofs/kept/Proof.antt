@@ -1,0 +1,18 @@
+use Rattle.mem_rows.specs.declared.Change.{Change}
+use Rattle.mem_rows.specs.declared.Row.{Row}
+use Rattle.mem_rows.specs.Rows.{keptAs}
+use borrow.Author.Needs.{needs}
+use mathlib.Core.Path.{_≡_, ap}
+use Rattle.mem_rows.proofs.kept.Statement.{statement}
+use Rattle.mem_rows.proofs.kept.Tie as tie
+
+no-row-requires : tie.Need-no-row-requires
+no-row-requires c κs = search needs
+
+returns : tie.Need-returns
+returns c =
+    let a = c .before .before .before .args in
+    λ j. record { answer = a .answer; stamp = a .f .stamp; serial = a .f .serial; opened = a .f .opened; next = a .f .next; slot = 8; row = c .no-row .ensures j }
+
+pub kept-spec : {M : Type 1} → statement M
+kept-spec = tie.close (tie.spec no-row-requires returns)

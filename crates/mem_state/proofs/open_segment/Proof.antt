@@ -1,0 +1,24 @@
+use Prim.Native.Nat.{ℕ, _-_}
+use Rattle.spec.specs.Memory.{openSegment}
+use borrow.Author.Needs.{needs}
+use mathlib.Core.Path.{ap}
+use native.Mathlib.Omega.{arith}
+use Rattle.mem_state.proofs.open_segment.Statement.{statement}
+use Rattle.mem_state.proofs.open_segment.Tie as tie
+
+whole-requires : tie.Need-whole-requires
+whole-requires c κs = search needs
+
+returns : tie.Need-returns
+unfolding openSegment
+returns c = omega (arith, c .if1 .taken, c .before .whole .ensures)
+
+sub-result : tie.Need-sub-result
+sub-result c = search needs
+
+returns-2 : tie.Need-returns-2
+unfolding openSegment
+returns-2 c = ap (λ (x : ℕ). x - 1) (c .before .whole .ensures)
+
+pub open-segment-spec : {M : Type 1} → statement M
+open-segment-spec = tie.close (tie.spec whole-requires returns sub-result returns-2)

@@ -1,0 +1,119 @@
+-- A restart in order isn't refused, but for 6: what it comes to on bytes. Assumes nothing.
+use mathlib.Core.Path.{_≡_, refl, ap, ap₂, _∙_}
+use mathlib.Core.List.{List, [], _∷_, _++_}
+use mathlib.Core.Bool.{Bool, true, false, not, _&&_, _||_}
+use Prim.Native.Nat.{ℕ, _<_}
+use borrow.Author.Tests.{eqb-true}
+use lib.Dec.{leb, eqb}
+use lib.ListN.{length}
+use Rattle.spec.specs.declared.Params.{Params}
+use Rattle.spec.specs.declared.Answer.{Answer}
+use Rattle.spec.specs.declared.Answer.the-variants.{Refused}
+use Rattle.spec.specs.Answers.{kind, values, isRefused, isRefusedAs}
+use Rattle.spec.specs.Calls.Check.{rule}
+use Rattle.spec.specs.Calls.{ruled, firstRefusal, decided, After, limited, outcome}
+use Rattle.spec.specs.Counts.{lastCount}
+use Rattle.spec.specs.Drives.{View, Disk, storeDisk}
+use Rattle.spec.specs.Engine.Call.{restart}
+use Rattle.spec.specs.Engine.{storeCount, lentBlock, verdict, lentOk, callOn, callDisk}
+use Rattle.spec.specs.Faults.{imageChecks}
+use Rattle.spec.specs.History.{mkWorld, inOrder}
+use Rattle.spec.specs.Lists.{Opt, isNil}
+use Rattle.spec.specs.Lists.Opt.{none, some}
+use Rattle.spec.specs.Memory.{Memory}
+use Rattle.spec.specs.Params.{inRange, imageLen, pointersLen, addressesLen, compactLen, inflightLen, named}
+use Rattle.spec.specs.Restart.{freeZones, restartStores, namesDrive, rewrites, restartChecks, restartPlan, restartVerdict}
+use Rattle.spec.specs.Segments.{Segment, segments, greatestSerial}
+use Rattle.law_basic.specs.Geometry.{Ranged}
+use Rattle.law_basic.specs.Ranges.{and-left, and-right}
+use Rattle.law_views.specs.Views.{seen}
+use Rattle.proof_crash_machine.specs.Facts.{Ghost, InV, Choice}
+use Rattle.proof_crash_machine.specs.Val.{Val}
+use Rattle.proof_crash_items.specs.Member.{true-false, false-of, or-false}
+use Rattle.proof_crash_items.specs.Ranges.{parOf}
+use Rattle.proof_crash_items.specs.Refuse.{image-passes, not-refused}
+use Rattle.proof_crash_items.specs.Segs.{OnDrives}
+use Rattle.proof_crash_calls.specs.Refusals.{decides, refused-after}
+
+-- ---- a restart is not refused
+
+module _ (p : Params) (h : Ranged p) (g : Ghost) (v : View) (k : OnDrives p h g v) (known : (x : Val) → InV x (g .sent) → (0 < x .stamp) × (x .addr < p .L)) (d : ℕ) (ch : Choice (parOf p h) (g .un) d)
+    (h₁ : inRange p ≡ true) (h₂ : namesDrive p d ≡ true) where
+  abbrev gs₀ : List Segment
+  gs₀ = segments p v (named d)
+
+  -- too many serials: 6
+  sixth : (long : Bool) → long ≡ true → (rewrites p (named d) (segments p v (named d)) && eqb (greatestSerial (segments p v (named d))) lastCount) ≡ true
+      → firstRefusal (restartChecks p long v d (segments p v (named d))) ≡ some (Refused 6)
+  unfolding restartChecks firstRefusal ruled
+  sixth long h₃ h₆ =
+      let a₁ : (not (inRange p) || not (namesDrive p d)) ≡ false = or-false (not (inRange p)) (not (namesDrive p d)) (ap not h₁) (ap not h₂) in
+      let a₂ : not long ≡ false = ap not h₃ in
+      ap₂ (λ (x y : Bool). ruled 1 x (ruled 2 y (firstRefusal
+      (imageChecks p v (named d) gs₀ ++ (rule 6 (rewrites p (named d) gs₀ && eqb (greatestSerial gs₀) lastCount) ∷ rule 8
+      (rewrites p (named d) gs₀ && isNil (freeZones p gs₀)) ∷ []))))) a₁ a₂
+      ∙ image-passes p h g v k known d ch (rule 6 (rewrites p (named d) gs₀ && eqb (greatestSerial gs₀) lastCount) ∷ rule 8 (rewrites p (named d) gs₀ && isNil (freeZones p gs₀)) ∷ [])
+      ∙ ap (λ (x : Bool). ruled 6 x (ruled 8 (rewrites p (named d) gs₀ && isNil (freeZones p gs₀)) none)) h₆
+
+-- the call, on bytes
+module _ (p : Params) (h : Ranged p) (k : Disk) (m : Memory) (d n : ℕ) (g : Ghost) (on : OnDrives p h g (seen p k))
+    (known : (x : Val) → InV x (g .sent) → (0 < x .stamp) × (x .addr < p .L)) (ch : Choice (parOf p h) (g .un) d)
+    (ord : inOrder p (mkWorld k m) d ≡ true) (al : isRefusedAs 6 (callDisk p k m (restart d n) .answer) ≡ false) where
+  abbrev v₁ : View
+  v₁ = seen p k
+
+  abbrev gs : List Segment
+  gs = segments p v₁ (named d)
+
+  pub parts : (inRange p ≡ true) × (namesDrive p d ≡ true) × (lentOk p k m ≡ true)
+  parts = unfold inOrder in go ord
+    where
+      go : (inRange p && namesDrive p d && lentOk p k m) ≡ true → (inRange p ≡ true) × (namesDrive p d ≡ true) × (lentOk p k m ≡ true)
+      go q = (
+        and-left (inRange p) (namesDrive p d) (and-left (inRange p && namesDrive p d) (lentOk p k m) q),
+        and-right (inRange p) (namesDrive p d) (and-left (inRange p && namesDrive p d) (lentOk p k m) q),
+        and-right (inRange p && namesDrive p d) (lentOk p k m) q,
+      )
+
+  pub boot-six : (rewrites p (named d) (segments p (seen p k) (named d)) && eqb (greatestSerial (segments p (seen p k) (named d))) lastCount) ≡ false
+  boot-six = false-of (rewrites p (named d) gs && eqb (greatestSerial gs) lastCount) (λ q. true-false (isRefusedAs 6 (callDisk p k m (restart d n) .answer)) (was q) al)
+    where
+      six : isRefusedAs 6 (Refused 6) ≡ true
+      six = unfold isRefusedAs isRefused kind values in refl
+
+      was : (rewrites p (named d) gs && eqb (greatestSerial gs) lastCount) ≡ true → isRefusedAs 6 (callDisk p k m (restart d n) .answer) ≡ true
+      was q =
+          ap (λ (r : After Disk). isRefusedAs 6 (r .answer))
+          (refused-after p k m (restart d n) (Refused 6)
+          (unfold decides in sixth p h g v₁ on known d ch (parts .0) (parts .1) (lentOk p k m) (parts .2) q))
+          ∙ six
+
+  pub boot-is :
+      callDisk p k m (restart d n)
+      ≡ limited (leb (length (restartStores p (named d) (segments p (seen p k) (named d)))) n) p (storeDisk p) n k m []
+      (restartPlan p (seen p k) d (segments p (seen p k) (named d)) (m .inflight))
+  boot-is = unfold callDisk callOn verdict restartVerdict storeCount lentBlock in (
+      ap (λ (o : Opt Answer). outcome p (storeDisk p) n k m [] (decided o (restartPlan p v₁ d gs (m .inflight))))
+      (not-refused p h g v₁ on known d ch (parts .0) (parts .1) (lentOk p k m) (parts .2) boot-six)
+      ∙ done)
+    where
+      done :
+          outcome p (storeDisk p) n k m [] (decided none (restartPlan p v₁ d gs (m .inflight)))
+          ≡ limited (leb (length (restartStores p (named d) gs)) n) p (storeDisk p) n k m [] (restartPlan p v₁ d gs (m .inflight))
+      done = unfold decided outcome restartPlan in refl
+
+  pub boot-lent : length (m .inflight) ≡ inflightLen p
+  boot-lent = unfold lentOk in eqb-true (length (m .inflight)) (inflightLen p)
+      (and-right (eqb (length (k .image)) (imageLen p)
+      && eqb (length (k .pointers)) (pointersLen p)
+      && eqb (length (m .addresses)) (addressesLen p)
+      && eqb (length (m .compact)) (compactLen p)) (eqb (length (m .inflight)) (inflightLen p)) (reveal (parts .2)))
+    where
+      reveal :
+          lentOk p k m ≡ true
+          → (eqb (length (k .image)) (imageLen p)
+          && eqb (length (k .pointers)) (pointersLen p)
+          && eqb (length (m .addresses)) (addressesLen p)
+          && eqb (length (m .compact)) (compactLen p)
+          && eqb (length (m .inflight)) (inflightLen p)) ≡ true
+      reveal q = unfold lentOk in q

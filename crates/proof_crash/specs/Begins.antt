@@ -1,0 +1,134 @@
+-- A finished healthy restart begins a run, with the ghost of what it read. Assumes nothing.
+use mathlib.Core.Path.{_≡_, refl, sym, ap, _∙_, subst}
+use mathlib.Core.List.{List, map}
+use mathlib.Core.Bool.{Bool, true, false, not}
+use mathlib.Core.Logic.{_⊎_, ⊎-elim}
+use Prim.Native.Nat.{ℕ, suc, _≤_}
+use borrow.Author.Tests.{eq-eqb, ne-eqb}
+use native.Mathlib.Omega.{arith}
+use lib.Dec.{eqb}
+use lib.ListN.{length}
+use Rattle.spec.specs.declared.Params.{Params}
+use Rattle.spec.specs.Demands.{sendAt}
+use Rattle.spec.specs.Drives.{View}
+use Rattle.spec.specs.History.{Send, forget}
+use Rattle.spec.specs.Memory.{idleState}
+use Rattle.spec.specs.Params.{noDrive, named}
+use Rattle.spec.specs.Restart.{openOf, nextOf, restartMemory}
+use Rattle.spec.specs.Segments.{Segment, segments, candidates, addressTable, greatestStamp, greatestSerial, unsealed}
+use Rattle.law_basic.specs.Geometry.{Ranged}
+use Rattle.proof_crash_machine.specs.Example.{reached}
+use Rattle.proof_crash_machine.specs.Facts.{Ghost, InV}
+use Rattle.proof_crash_machine.specs.Finish.{upTo, upTo-le, finishing}
+use Rattle.proof_crash_machine.specs.History.{Mode}
+use Rattle.proof_crash_machine.specs.History.Mode.{run}
+use Rattle.proof_crash_machine.specs.Memory.{Mem}
+use Rattle.proof_crash_machine.specs.Memory2.{restMem}
+use Rattle.proof_crash_machine.specs.Order.{Track}
+use Rattle.proof_crash_machine.specs.Val.{Val}
+use Rattle.proof_crash_items.specs.Items.{itemsIn}
+use Rattle.proof_crash_items.specs.Member.{true-false}
+use Rattle.proof_crash_items.specs.Named.{none-named}
+use Rattle.proof_crash_items.specs.Segs.{OnDrives}
+use Rattle.proof_crash_restarts.specs.Done.{stampTop, serialTop, readOn, RestartDone}
+use Rattle.proof_crash_restarts.specs.Ends.{Opened}
+use Rattle.proof_crash_calls.specs.Held.{TableOk}
+use Rattle.proof_crash_calls.specs.Live.{Reached, Live}
+use Rattle.proof_crash_calls.specs.Places.{table-said}
+use Rattle.proof_crash_calls.specs.Rel.{Rel}
+use Rattle.proof_crash_calls.specs.Restarted.{stamps-fit, serials-fit, Finds}
+use Rattle.proof_crash_calls.specs.Rested.{rest-rel}
+use Rattle.proof_crash_calls.specs.Resumed.{reached-to, reached-forget}
+use Rattle.proof_crash_calls.specs.Sends.{length-forget, forget-waits}
+
+finds : (p : Params) (h : Ranged p) (g : Ghost) (u : View) (b : Bool) (z n : ℕ) → Opened p h g u b z n → Finds p u b z n
+finds p h g u b z n o =
+    record {
+      is = subst (λ (k : ℕ). ((b ≡ true) × (openOf (unsealed (segments p u k)) ≡ suc z) × (nextOf p (unsealed (segments p u k)) ≡ n))
+          ⊎ ((b ≡ false) × (openOf (unsealed (segments p u k)) ≡ 0))) none-named (o .is);
+      less = o .less;
+      full = o .full;
+    }
+
+module _ (p : Params) (h : Ranged p) (v : View) (ss : List Send) (n : ℕ) (g : Ghost) (a : List Val) (c : Bool) (m : Mode) (T : Track) (r : Reached p h v ss n g a c m T)
+    (u : View) (D : RestartDone p h g a c u) (fl : List ℕ) where
+  abbrev pub doneGhost : Ghost
+  doneGhost = finishing (D .g′) (D .g′ .un) (readOn p h (D .g′) u (D .set)) (stampTop p u) (upTo (stampTop p u) (D .g′ .sent))
+
+  fewer? : (x : Val) → InV x (upTo (stampTop p u) (D .g′ .sent)) → InV x (g .sent)
+  fewer? x i = subst (λ (l : List Val). InV x l) (D .same .sent) (upTo-le (stampTop p u) (D .g′ .sent) x i .0)
+
+  top-is : stampTop p u ≡ greatestStamp (candidates p 0 (segments p u 0))
+  top-is = unfold stampTop in ap (λ (k : ℕ). greatestStamp (candidates p k (segments p u k))) none-named
+
+  serial-top-is : serialTop p u ≡ greatestSerial (segments p u 0)
+  serial-top-is = unfold serialTop in ap (λ (k : ℕ). greatestSerial (segments p u k)) none-named
+
+  abbrev t : ℕ
+  t = greatestStamp (candidates p 0 (segments p u 0))
+
+  abbrev sr : ℕ
+  sr = greatestSerial (segments p u 0)
+
+  abbrev us : List Segment
+  us = unsealed (segments p u 0)
+
+  abbrev M : Mem
+  M = restMem (D .b) (D .z) (D .n) t sr
+
+  reached₁ : Reached p h u (map forget ss) (length ss) doneGhost a false (run M) T
+  reached₁ = subst (λ (t : ℕ). Reached p h u (map forget ss) (length ss) doneGhost a false (run (restMem (D .b) (D .z) (D .n) t (greatestSerial (segments p u 0)))) T) top-is
+      (subst (λ (t : ℕ). Reached p h u (map forget ss) (length ss) doneGhost a false (run (restMem (D .b) (D .z) (D .n) (stampTop p u) t)) T) serial-top-is
+      (reached-to p h v (map forget ss) n g a c m T (reached-forget p h v ss n g a c m T r) u doneGhost false (run (restMem (D .b) (D .z) (D .n) (stampTop p u) (serialTop p u))) (length ss)
+      (D .linked .inv) (D .linked .shape) (D .linked .bytes) fewer? (omega (arith, length-forget ss)) (λ e. refl)))
+
+  f : Finds p u (D .b) (D .z) (D .n)
+  f = finds p h (D .g′) u (D .b) (D .z) (D .n) (D .opened)
+
+  none? : p .N ≤ doneGhost .un
+  none? = D .set .none
+
+  on : OnDrives p h doneGhost u
+  on = record { shape = reached₁ .shape; bytes = reached₁ .bytes; facts = reached₁ .inv .facts }
+
+  open-is : D .b ≡ not (eqb (openOf us) 0)
+  open-is = ⊎-elim
+      (λ (q : (D .b ≡ true) × (openOf us ≡ suc (D .z)) × (nextOf p us ≡ D .n)). q .0 ∙ sym (ap not (ne-eqb (openOf us) 0 (omega (arith, q .1)))))
+      (λ (q : (D .b ≡ false) × (openOf us ≡ 0)). q .0 ∙ sym (ap not (eq-eqb (openOf us) 0 (q .1)))) (f .is)
+
+  open-as : D .b ≡ true → (openOf us ≡ suc (D .z)) × (D .n ≡ nextOf p us)
+  open-as e = ⊎-elim (λ (q : (D .b ≡ true) × (openOf us ≡ suc (D .z)) × (nextOf p us ≡ D .n)). (q .1, sym (q .2)))
+      (λ (q : (D .b ≡ false) × (openOf us ≡ 0)). true-false (D .b) e (q .0)) (f .is)
+
+  rel? : Rel p (itemsIn p u) (idleState 1 0 t sr (openOf us) (nextOf p us)) fl M
+  rel? = rest-rel p (itemsIn p u) fl 1 t sr (openOf us) (nextOf p us) (D .b) (D .z) (D .n) (stamps-fit p h doneGhost u on none?) (serials-fit p h doneGhost u on none?)
+      open-is (λ e. open-as e .0) (λ e. open-as e .1) (λ e q. let w : ⊥ = omega (arith, f .less e, q) in w) (f .full)
+
+  table? : TableOk p h doneGhost (itemsIn p u) (addressTable p (candidates p 0 (segments p u 0)))
+  table? = table-said p h doneGhost u on none? (addressTable p (candidates p 0 (segments p u 0))) refl a false (run M) (reached₁ .inv)
+
+  begins₀ : (x : Live p h u (restartMemory p u 0 fl .state) (restartMemory p u 0 fl .inflight) (restartMemory p u 0 fl .addresses) (map forget ss) (length ss)) × (x .g ≡ doneGhost)
+  unfolding restartMemory
+  begins₀ = (
+    record {
+      g = doneGhost;
+      a = a;
+      c = false;
+      M = M;
+      T = T;
+      reached = reached₁;
+      rel = rel?;
+      waits = λ j l q. true-false (sendAt (map forget ss) j .waits) q (forget-waits ss j l);
+      table = table?;
+    },
+    refl,
+  )
+
+  pub begins :
+      (x : Live p h u (restartMemory p u (named noDrive) fl .state) (restartMemory p u (named noDrive) fl .inflight)
+      (restartMemory p u (named noDrive) fl .addresses) (map forget ss) (length ss))
+      × (x .g ≡ doneGhost)
+  begins =
+      subst (λ (k : ℕ). (x : Live p h u (restartMemory p u k fl .state) (restartMemory p u k fl .inflight) (restartMemory p u k fl .addresses)
+      (map forget ss) (length ss))
+      × (x .g ≡ doneGhost)) (sym none-named) begins₀

@@ -1,0 +1,64 @@
+-- What lies at the place of a table's entry. Assumes nothing.
+use mathlib.Core.Path.{_≡_, sym, ap, ap₂, _∙_, subst}
+use mathlib.Core.List.{List}
+use mathlib.Core.Logic.{_≢_}
+use Prim.Native.Nat.{ℕ, suc, _-_, _≤_, _<_}
+use native.Mathlib.Omega.{arith}
+use lib.ListN.{length, getD}
+use Rattle.spec.specs.declared.Params.{Params}
+use Rattle.spec.specs.Counts.{neverPlace}
+use Rattle.spec.specs.Drives.{noChunk, Zone, View, zoneAt, chunkAt, recordAt}
+use Rattle.spec.specs.Layout.{recordOf}
+use Rattle.spec.specs.Params.{capacity, placeBlock, placeZone, placeDrive}
+use Rattle.law_basic.specs.Geometry.{Ranged, place-again, place-lt}
+use Rattle.proof_crash_items.specs.Items.{valueOf, itemsIn, items-in, of-chunk}
+use Rattle.proof_crash_items.specs.Ranges.{capacity-few}
+use Rattle.proof_crash_items.specs.Segs.{OnDrives, zone-low}
+use Rattle.proof_crash_machine.specs.Facts.{Ghost, Off}
+use Rattle.proof_crash_machine.specs.Val.{Val}
+use Rattle.proof_crash_machine.specs.View.{Item}
+use Rattle.proof_crash_machine.specs.View.Item.{chunk}
+use Rattle.proof_crash_calls.specs.Held.{Entry}
+use Rattle.proof_crash_calls.specs.Places.{places-many, record-at}
+use Rattle.proof_crash_calls.specs.Sends.{value-stamp}
+
+module _ (p : Params) (h : Ranged p) (g : Ghost) (v : View) (k : OnDrives p h g v) (none? : p .N ≤ g .un) (q a : ℕ) (e : Entry p h g (itemsIn p v) q a) where
+  abbrev dd : ℕ
+  dd = placeDrive p q
+
+  abbrev zz : ℕ
+  zz = placeZone p q
+
+  trust : dd ≢ g .un
+  trust = omega (arith, e .drive, none?)
+
+  abbrev zone : Zone
+  zone = zoneAt v (placeDrive p q) (placeZone p q)
+
+  found : (o : ℕ) × (placeBlock p q ≡ suc o) × (o < p .S) × (suc o < zone .pointer) × (recordOf (getD (zone .blocks) (suc o) noChunk .spare) .stripe ≡ e .s)
+      × (valueOf (getD (zone .blocks) (suc o) noChunk .block) (recordOf (getD (zone .blocks) (suc o) noChunk .spare)) ≡ e .x)
+  found =
+      of-chunk p zone (zone-low p h g v k dd zz (e .drive) trust (e .zone)) (placeBlock p q) (e .s) (e .x)
+      (subst (λ (l : List Item). Off l (placeBlock p q) (chunk (e .s) (e .x))) (items-in p v dd zz) (e .at))
+
+  pub entry-block : (1 ≤ placeBlock p q) × (placeBlock p q ≤ p .S)
+  entry-block = (omega (arith, found .1), omega (arith, found .1, found .2))
+
+  pub entry-within : placeBlock p q < capacity p
+  entry-within = omega (arith, entry-block .1, capacity-few p h)
+
+  pub entry-low : q < neverPlace
+  entry-low = omega (arith, place-again p q, place-lt p dd zz (placeBlock p q) (e .drive) (e .zone) entry-within, places-many p h)
+
+  -- the block and the record there
+  pub entry-value : valueOf (chunkAt v (placeDrive p q) (placeZone p q) (placeBlock p q) .block) (recordAt p v 0 (placeDrive p q) (placeZone p q) (placeBlock p q - 1)) ≡ e .x
+  unfolding chunkAt
+  entry-value =
+      ap₂ valueOf (ap (λ (n : ℕ). getD (zone .blocks) n noChunk .block) (found .1))
+      (ap (recordAt p v 0 dd zz) (let i : placeBlock p q - 1 ≡ found .0 = omega (arith, found .1) in i) ∙ record-at p h g v k none? dd zz (found .0) (e .drive) (e .zone) (found .2)) ∙ found .5
+
+  pub entry-stamp : recordAt p v 0 (placeDrive p q) (placeZone p q) (placeBlock p q - 1) .stamp ≡ e .x .stamp
+  entry-stamp = sym (value-stamp (chunkAt v dd zz (placeBlock p q) .block) (recordAt p v 0 dd zz (placeBlock p q - 1))) ∙ ap (λ (y : Val). y .stamp) entry-value
+
+  pub entry-long : length (chunkAt v (placeDrive p q) (placeZone p q) (placeBlock p q) .block) ≡ p .B
+  entry-long = k .shape .long dd zz (placeBlock p q) (e .drive) (e .zone) entry-within .0

@@ -1,0 +1,118 @@
+-- Runs of the machine, with the log of sends; what a list of stores does, one step for each. Assumes nothing.
+use mathlib.Core.Path.{_≡_, refl, ap, _∙_, subst}
+use mathlib.Core.List.{List, [], _∷_, _++_}
+use mathlib.Core.Bool.{Bool}
+use Prim.Native.Nat.{ℕ, zero, suc}
+use lib.ListN.{take}
+use Rattle.spec.specs.declared.Params.{Params}
+use Rattle.spec.specs.Drives.{View, Store, storeView, storeAll}
+use Rattle.law_basic.specs.Geometry.{Ranged}
+use Rattle.proof_crash_items.specs.Items.{itemsIn}
+use Rattle.proof_crash_items.specs.Ranges.{parOf}
+use Rattle.proof_crash_items.specs.Sound.{Sound, AllSound}
+use Rattle.proof_crash_machine.specs.Facts.{Par, Ghost, InV}
+use Rattle.proof_crash_machine.specs.History.{Mode, State as m-State, Inv, Step, kept, Run, kept-all, start, began as m-began}
+use Rattle.proof_crash_machine.specs.History.Mode.{off}
+use Rattle.proof_crash_machine.specs.History.Step.{lose}
+use Rattle.proof_crash_machine.specs.History.Run.{stop, then}
+use Rattle.proof_crash_machine.specs.Order.{Track, Tracked, track, tracked, runTrack, noTrack}
+use Rattle.proof_crash_machine.specs.Val.{Val}
+use Rattle.proof_crash_machine.specs.View.{View as m-View}
+
+abbrev pub mst : Ghost → m-View → List Val → Bool → Mode → m-State
+mst g v a c m = record { g = g; v = v; acked = a; since = c; mode = m }
+
+-- the ghost g′ is one of the same run, later: what the last restart read is as it was, and nothing sent is forgotten
+pub record Later (g g′ : Ghost) : Type 0 where
+  pub un : g′ .un ≡ g .un
+  pub last : g′ .last ≡ g .last
+  pub sent : (x : Val) → InV x (g .sent) → InV x (g′ .sent)
+
+pub later-same : (g : Ghost) → Later g g
+later-same g = record { un = refl; last = refl; sent = λ x m. m }
+
+-- steps from one state to another, and the log that they lead to
+pub record Go (p : Par) (σ τ : m-State) (T U : Track) : Type 0 where
+  pub steps : Run p σ τ
+  pub tracks : runTrack p σ τ steps T ≡ U
+
+pub go-none : (p : Par) (σ : m-State) (T : Track) → Go p σ σ T T
+go-none p σ T = record { steps = stop σ; tracks = refl }
+
+pub go-step : (p : Par) (σ τ : m-State) (T : Track) (s : Step p σ τ) → Go p σ τ T (track p σ τ s T)
+go-step p σ τ T s = record { steps = then σ τ τ s (stop τ); tracks = refl }
+
+run-append : (p : Par) (σ τ υ : m-State) → Run p σ τ → Run p τ υ → Run p σ υ
+run-append p _ _ υ (stop σ) q = q
+run-append p _ _ υ (then σ τ ρ s r) q = then σ τ υ s (run-append p τ ρ υ r q)
+
+track-append : (p : Par) (σ τ υ : m-State) (r : Run p σ τ) (q : Run p τ υ) (T : Track) → runTrack p σ υ (run-append p σ τ υ r q) T ≡ runTrack p τ υ q (runTrack p σ τ r T)
+unfolding run-append
+track-append p _ _ υ (stop σ) q T = refl
+track-append p _ _ υ (then σ τ ρ s r) q T = track-append p τ ρ υ r q (track p σ τ s T)
+
+pub go-then : (p : Par) (σ τ υ : m-State) (T U W : Track) → Go p σ τ T U → Go p τ υ U W → Go p σ υ T W
+go-then p σ τ υ T U W a b = record {
+  steps = run-append p σ τ υ (a .steps) (b .steps);
+  tracks = track-append p σ τ υ (a .steps) (b .steps) T ∙ ap (runTrack p τ υ (b .steps)) (a .tracks) ∙ b .tracks;
+}
+
+-- one step more
+pub go-more : (p : Par) (σ τ υ : m-State) (T U : Track) → Go p σ τ T U → (s : Step p τ υ) → Go p σ υ T (track p τ υ s U)
+go-more p σ τ υ T U a s = go-then p σ τ υ T U (track p τ υ s U) a (go-step p τ υ U s)
+
+-- the drives by another name
+pub go-view : (p : Par) (σ : m-State) (g : Ghost) (v u : m-View) (a : List Val) (c : Bool) (m : Mode) (T U : Track) → v ≡ u → Go p σ (mst g v a c m) T U → Go p σ (mst g u a c m) T U
+go-view p σ g v u a c m T U e = subst (λ (w : m-View). Go p σ (mst g w a c m) T U) e
+
+-- ---- the invariant along them
+pub go-inv : (p : Par) (σ τ : m-State) (T U : Track) → Go p σ τ T U → Inv p σ → Inv p τ
+go-inv p σ τ T U a i = kept-all p σ τ (a .steps) i
+
+run-tracked : (p : Par) (σ τ : m-State) (r : Run p σ τ) (T : Track) → Inv p σ → Tracked σ T → Tracked τ (runTrack p σ τ r T)
+run-tracked p _ _ (stop σ) T i k = k
+run-tracked p _ _ (then σ τ υ s r) T i k = run-tracked p τ υ r (track p σ τ s T) (kept p σ τ i s) (tracked p σ τ i s T k)
+
+pub go-tracked : (p : Par) (σ τ : m-State) (T U : Track) → Go p σ τ T U → Inv p σ → Tracked σ T → Tracked τ U
+go-tracked p σ τ T U a i k = subst (Tracked τ) (a .tracks) (run-tracked p σ τ (a .steps) T i k)
+
+-- from empty drives
+pub go-start : (p : Par) (τ : m-State) (U : Track) → Go p (start p) τ noTrack U → Inv p τ × Tracked τ U
+unfolding start
+go-start p τ U a = (go-inv p (start p) τ noTrack U a (m-began p), go-tracked p (start p) τ noTrack U a (m-began p) (record { here = λ x m. absurd m; order = λ x y m n b. absurd m }))
+
+-- ---- a list of stores, one step for each, memory and ghost as they were
+
+module _ (p : Params) (h : Ranged p) (g : Ghost) (a : List Val) (c : Bool) (m : Mode) where
+  abbrev pub Chain : View → List Store → Type 0
+  Chain v [] = Unit {0}
+  Chain v (s ∷ ss) = Sound p v s × ((T : Track) → Go (parOf p h) (mst g (itemsIn p v) a c m) (mst g (itemsIn p (storeView s v)) a c m) T T) × Chain (storeView s v) ss
+
+  pub chain-sound : (v : View) (ss : List Store) → Chain v ss → AllSound p v ss
+  chain-sound v [] k = tt
+  chain-sound v (s ∷ ss) k = (k .0, chain-sound (storeView s v) ss (k .2))
+
+  pub chain-take : (v : View) (ss : List Store) (n : ℕ) → Chain v ss → Chain v (take n ss)
+  chain-take v [] zero k = tt
+  chain-take v [] (suc n) k = tt
+  chain-take v (s ∷ ss) zero k = tt
+  chain-take v (s ∷ ss) (suc n) k = (k .0, k .1, chain-take (storeView s v) ss n (k .2))
+
+  pub chain-append : (v : View) (ss ts : List Store) → Chain v ss → Chain (storeAll storeView ss v) ts → Chain v (ss ++ ts)
+  unfolding storeAll
+  chain-append v [] ts k j = j
+  chain-append v (s ∷ ss) ts k j = (k .0, k .1, chain-append (storeView s v) ss ts (k .2) j)
+
+  pub chain-go : (v : View) (ss : List Store) (T : Track) → Chain v ss → Go (parOf p h) (mst g (itemsIn p v) a c m) (mst g (itemsIn p (storeAll storeView ss v)) a c m) T T
+  unfolding storeAll
+  chain-go v [] T k = go-none (parOf p h) (mst g (itemsIn p v) a c m) T
+  chain-go v (s ∷ ss) T k =
+      go-then (parOf p h) (mst g (itemsIn p v) a c m) (mst g (itemsIn p (storeView s v)) a c m) (mst g (itemsIn p (storeAll storeView ss (storeView s v))) a c m) T T T
+      (k .1 T) (chain-go (storeView s v) ss T (k .2))
+
+-- cut after n stores
+pub chain-cut : (p : Params) (h : Ranged p) (g : Ghost) (a : List Val) (c : Bool) (m : Mode) (v : View) (ss : List Store) (n : ℕ) (T : Track) → Chain p h g a c m v ss
+    → Go (parOf p h) (mst g (itemsIn p v) a c m) (mst g (itemsIn p (storeAll storeView (take n ss) v)) a c off) T T
+chain-cut p h g a c m v ss n T k =
+    go-more (parOf p h) (mst g (itemsIn p v) a c m) (mst g (itemsIn p (storeAll storeView (take n ss) v)) a c m) (mst g (itemsIn p (storeAll storeView (take n ss) v)) a c off) T T
+    (chain-go p h g a c m v (take n ss) T (chain-take p h g a c m v ss n k)) (lose (mst g (itemsIn p (storeAll storeView (take n ss) v)) a c m))

@@ -1,0 +1,404 @@
+-- Every call of a healthy run but a restart, refused, uncut or cut, keeps it or ends it. Assumes nothing.
+use mathlib.Core.Path.{_≡_, refl, sym, ap, _∙_, subst}
+use mathlib.Core.List.{List, [], _∷_, _++_, map, append-nil}
+use mathlib.Core.Bool.{Bool, true, false, cond, not, _&&_, _||_}
+use mathlib.Core.Logic.{_≢_}
+use Prim.Native.Nat.{ℕ, _≤_, _<_}
+use borrow.Author.Tests.{eq-eqb, ne-eqb, leb-true, ltb-true, eqb-true, not-false}
+use native.Mathlib.Omega.{arith}
+use lib.Dec.{leb, ltb, eqb}
+use lib.ListN.{length, getD, take}
+use Rattle.spec.specs.declared.Params.{Params}
+use Rattle.spec.specs.declared.Answer.{Answer}
+use Rattle.spec.specs.declared.Answer.the-variants.{Cut, Filled, Rebuilt}
+use Rattle.spec.specs.Answers.{kind, values, isRefused, isCut, finished}
+use Rattle.spec.specs.Calls.{Check, firstRefusal, Plan, mkPlan, decided, After, mkAfter, cutMemory, limited, outcome}
+use Rattle.spec.specs.Calls.Check.{rule, zones}
+use Rattle.spec.specs.Calls.Verdict.{due}
+use Rattle.spec.specs.Closing.{closeChecks, closePlan, closeVerdict}
+use Rattle.spec.specs.Drives.{View, Disk, storeDisk, storeAll}
+use Rattle.spec.specs.Engine.{Call, storeCount, lentBlock, verdict, lentOk, callOn, callDisk}
+use Rattle.spec.specs.Engine.Call.{write, land, close, reclaim, read, fill, restart, rebuild}
+use Rattle.spec.specs.Faults.{imageChecks}
+use Rattle.spec.specs.History.{restartOf, Send, mkSend, acknowledge, forget, sentBy, ackedBy, endsRun, sentAfter}
+use Rattle.spec.specs.Landing.{slotOf, waiting, completes, landFaults, landChecks, writesIn, landPlan, landVerdict}
+use Rattle.spec.specs.Lists.{Opt, consIf, keep, isNil, firstOr}
+use Rattle.spec.specs.Lists.Opt.{none, some}
+use Rattle.spec.specs.Memory.{Memory, zeroState, hasFilling, stateFaults}
+use Rattle.spec.specs.Params.{between, inRange, imageLen, pointersLen, addressesLen, compactLen, inflightLen, placeBlock, named}
+use Rattle.spec.specs.Read.{Found, lookup, foundFaults, decodeFaults, readPiece, readAnswer, readChecks, readVerdict, fillVerdict}
+use Rattle.spec.specs.Read.Found.{nowhere, here, away}
+use Rattle.spec.specs.Rebuild.{namesMissing, rebuildChecks, rebuildStores, rebuildVerdict}
+use Rattle.spec.specs.Reclaim.{tableFaults, Victim, victim, isNone, victimSegment, victimLive, idle, reclaimChecks, resetPlan, copyPlan, reclaimVerdict}
+use Rattle.spec.specs.Segments.{segments}
+use Rattle.spec.specs.Write.{opens, noStamp, noSerial, mustWait, scarce, sending, writeChecks, writePlan, writeVerdict}
+use Rattle.law_basic.specs.Geometry.{Ranged}
+use Rattle.law_basic.specs.Ranges.{and-left, and-right}
+use Rattle.law_views.specs.Views.{Whole, seen}
+use Rattle.proof_crash_items.specs.Member.{true-false, cond-false, or-false}
+use Rattle.proof_crash_items.specs.Named.{named-some}
+use Rattle.proof_crash_items.specs.Seen.{seen-stores, seen-cut, whole-all, whole-cut}
+use Rattle.proof_crash_machine.specs.Facts.{Ghost}
+use Rattle.proof_crash_calls.specs.Base.{or-l, or-r, passes, refuses}
+use Rattle.proof_crash_calls.specs.Go.{Later, later-same}
+use Rattle.proof_crash_calls.specs.Land.{landCount, landSends, land-ok}
+use Rattle.proof_crash_calls.specs.Landed.{land-asked}
+use Rattle.proof_crash_calls.specs.Live.{Live, Stopped, CallOk}
+use Rattle.proof_crash_calls.specs.Reclaim.{reclaimPlan, reclaim-ok}
+use Rattle.proof_crash_calls.specs.Write.{same-ok, close-ok, write-asked, sentStripe, write-ok}
+
+-- a healthy run, on bytes
+pub record Healthy (p : Params) (h : Ranged p) (k : Disk) (m : Memory) (ss : List Send) (n : ℕ) : Type 0 where
+  pub whole : Whole p k
+  pub live : Live p h (seen p k) (m .state) (m .inflight) (m .addresses) ss n
+
+-- the power is off
+pub record Ended (p : Params) (h : Ranged p) (k : Disk) (ss : List Send) (n : ℕ) : Type 0 where
+  pub whole : Whole p k
+  pub stopped : Stopped p h (seen p k) ss n
+
+-- what a call leaves; ss: the blocks sent, after it
+pub data Next (p : Params) (h : Ranged p) (g : Ghost) (n : ℕ) (r : After Disk) (ss : List Send) : Type 0 where
+  goes : isCut (r .answer) ≡ false → finished (r .answer) ≡ false → (x : Healthy p h (r .drives) (r .memory) ss n) → Later g (x .live .g) → Next p h g n r ss
+  stops : isCut (r .answer) ≡ true → finished (r .answer) ≡ false → r .memory .state ≡ zeroState → (x : Ended p h (r .drives) ss n) → Later g (x .stopped .g) → Next p h g n r ss
+
+-- ---- answers
+
+refused-kind : (a : Answer) → isRefused a ≡ true → kind a ≤ 1
+unfolding isRefused
+refused-kind a e = leb-true (kind a) 1 e
+
+pub refused-uncut : (a : Answer) → isRefused a ≡ true → isCut a ≡ false
+unfolding isCut
+refused-uncut a e = ne-eqb (kind a) 2 (let b : kind a ≢ 2 = omega (arith, refused-kind a e) in b)
+
+pub refused-unfinished : (a : Answer) → isRefused a ≡ true → finished a ≡ false
+unfolding finished
+refused-unfinished a e = ne-eqb (kind a) 12 (let b : kind a ≢ 12 = omega (arith, refused-kind a e) in b)
+
+refused-runs : (a : Answer) → isRefused a ≡ true → endsRun a ≡ false
+unfolding endsRun
+refused-runs a e = or-false (isCut a) (finished a) (refused-uncut a e) (refused-unfinished a e)
+
+-- a refused call sends and acknowledges nothing
+pub sent-refused : (c : Call) (a : Answer) (ss : List Send) → isRefused a ≡ true → sentAfter c a ss ≡ ss
+unfolding sentAfter
+sent-refused c a ss e = cond-false (endsRun a) (map forget ss) (ackedBy c a ss ++ sentBy c a) (refused-runs a e) ∙ go c
+  where
+    go : (c : Call) → ackedBy c a ss ++ sentBy c a ≡ ss
+    go (write x y n) = unfold ackedBy sentBy in (
+        ap (λ (t : Bool). ss ++ consIf t (mkSend x y (getD (values a) 1 0) true false) [])
+        (ne-eqb (kind a) 3 (let b : kind a ≢ 3 = omega (arith, refused-kind a e) in b))
+        ∙ (unfold consIf in append-nil ss))
+    go (land d s n) = unfold ackedBy sentBy in (
+        ap (λ (t : Bool). cond (t && ltb 0 (getD (values a) 0 0)) (map (acknowledge s) ss) ss ++ []) (ne-eqb (kind a) 4 (let b : kind a ≢ 4 = omega (arith, refused-kind a e) in b)) ∙ append-nil ss)
+    go (close n) = unfold ackedBy sentBy in append-nil ss
+    go (reclaim n) = unfold ackedBy sentBy in append-nil ss
+    go (read x) = unfold ackedBy sentBy in append-nil ss
+    go (fill x y) = unfold ackedBy sentBy in append-nil ss
+    go (restart d n) = unfold ackedBy sentBy in append-nil ss
+    go (rebuild d n) = unfold ackedBy sentBy in append-nil ss
+
+-- the run is over
+pub sent-cut : (c : Call) (ss : List Send) → sentAfter c Cut ss ≡ map forget ss
+unfolding sentAfter endsRun isCut kind
+sent-cut c ss = refl
+
+-- ---- what is due, under the store count
+
+module _ (p : Params) (h : Ranged p) (k : Disk) (m : Memory) (ss : List Send) (n : ℕ) (x : Healthy p h k m ss n) where
+  -- the lent buffers have their lengths
+  pub lent-inflight : lentOk p k m ≡ true → length (m .inflight) ≡ inflightLen p
+  unfolding lentOk
+  lent-inflight e = eqb-true (length (m .inflight)) (inflightLen p)
+      (and-right (eqb (length (k .image)) (imageLen p)
+      && eqb (length (k .pointers)) (pointersLen p)
+      && eqb (length (m .addresses)) (addressesLen p)
+      && eqb (length (m .compact)) (compactLen p)) (eqb (length (m .inflight)) (inflightLen p)) e)
+
+  pub lent-table : lentOk p k m ≡ true → length (m .addresses) ≡ addressesLen p
+  unfolding lentOk
+  lent-table e =
+      eqb-true (length (m .addresses)) (addressesLen p) (and-right (eqb (length (k .image)) (imageLen p) && eqb (length (k .pointers)) (pointersLen p)) (eqb (length (m .addresses)) (addressesLen p))
+      (and-left (eqb (length (k .image)) (imageLen p) && eqb (length (k .pointers)) (pointersLen p) && eqb (length (m .addresses)) (addressesLen p)) (eqb (length (m .compact)) (compactLen p))
+      (and-left (eqb (length (k .image)) (imageLen p)
+      && eqb (length (k .pointers)) (pointersLen p)
+      && eqb (length (m .addresses)) (addressesLen p)
+      && eqb (length (m .compact)) (compactLen p)) (eqb (length (m .inflight)) (inflightLen p)) e)))
+
+  -- a refusal changes nothing
+  pub stays : (c : Call) (a : Answer) (b : List ℕ) → isRefused a ≡ true → Next p h (x .live .g) n (mkAfter a k m b) (sentAfter c a ss)
+  stays c a b e = subst (λ (y : List Send). Next p h (x .live .g) n (mkAfter a k m b) y) (sym (sent-refused c a ss e)) (goes (refused-uncut a e) (refused-unfinished a e) x (later-same (x .live .g)))
+
+  due-next :
+      (c : Call) (count : ℕ) (b : List ℕ) (q : Plan) (ss′ : List Send)
+      → CallOk p h (x .live .g) (seen p k) q ss ss′ n
+      → isCut (q .answer) ≡ false
+      → finished (q .answer) ≡ false
+      → sentAfter c (q .answer) ss ≡ ss′
+      → Next p h (x .live .g) n (outcome p (storeDisk p) count k m b (due q)) (sentAfter c (outcome p (storeDisk p) count k m b (due q) .answer) ss)
+  unfolding outcome
+  due-next c count b q ss′ ok uncut open? sent = go (leb (length (q .stores)) count)
+    where
+      go : (t : Bool) → Next p h (x .live .g) n (limited t p (storeDisk p) count k m b q) (sentAfter c (limited t p (storeDisk p) count k m b q .answer) ss)
+      go true = unfold limited in subst (λ (y : List Send). Next p h (x .live .g) n (mkAfter (q .answer) (storeAll (storeDisk p) (q .stores) k) (q .memory) (q .block)) y) (sym sent)
+          (goes uncut open? (record { whole = whole-all p h k (x .whole) (q .stores) (ok .sound); live = live }) later)
+        where
+          moved : (y : Live p h (seen p (storeAll (storeDisk p) (q .stores) k)) (q .memory .state) (q .memory .inflight) (q .memory .addresses) ss′ n) × Later (x .live .g) (y .g)
+          moved =
+              subst (λ (u : View). (y : Live p h u (q .memory .state) (q .memory .inflight) (q .memory .addresses) ss′ n) × Later (x .live .g) (y .g))
+              (sym (seen-stores p h k (x .whole) (q .stores) (ok .sound))) (ok .done)
+
+          live : Live p h (seen p (storeAll (storeDisk p) (q .stores) k)) (q .memory .state) (q .memory .inflight) (q .memory .addresses) ss′ n
+          live = moved .0
+
+          later : Later (x .live .g) (live .g)
+          later = moved .1
+      go false = unfold limited in subst (λ (y : List Send). Next p h (x .live .g) n (mkAfter Cut (storeAll (storeDisk p) (take count (q .stores)) k) (cutMemory p m) b) y) (sym (sent-cut c ss))
+          (stops cut? unfinished? dark (record { whole = whole-cut p h k (x .whole) (q .stores) (ok .sound) count; stopped = moved .0 }) (moved .1))
+        where
+          cut? : isCut Cut ≡ true
+          cut? = unfold isCut kind in refl
+
+          unfinished? : finished Cut ≡ false
+          unfinished? = unfold finished kind in refl
+
+          dark : cutMemory p m .state ≡ zeroState
+          dark = unfold cutMemory in refl
+
+          moved : (y : Stopped p h (seen p (storeAll (storeDisk p) (take count (q .stores)) k)) (map forget ss) n) × Later (x .live .g) (y .g)
+          moved = subst (λ (u : View). (y : Stopped p h u (map forget ss) n) × Later (x .live .g) (y .g)) (sym (seen-cut p h k (x .whole) (q .stores) (ok .sound) count)) (ok .cut count)
+
+  -- a verdict
+  decided-next :
+      (c : Call) (count : ℕ) (b : List ℕ) (cs : List Check) (q : Plan) (ss′ : List Send)
+      → (firstRefusal cs ≡ none → CallOk p h (x .live .g) (seen p k) q ss ss′ n)
+      → isCut (q .answer) ≡ false
+      → finished (q .answer) ≡ false
+      → sentAfter c (q .answer) ss ≡ ss′
+      → Next p h (x .live .g) n (outcome p (storeDisk p) count k m b (decided (firstRefusal cs) q)) (sentAfter c (outcome p (storeDisk p) count k m b (decided (firstRefusal cs) q) .answer) ss)
+  decided-next c count b cs q ss′ ok uncut open? sent = go (firstRefusal cs) refl
+    where
+      go :
+          (o : Opt Answer)
+          → firstRefusal cs ≡ o
+          → Next p h (x .live .g) n (outcome p (storeDisk p) count k m b (decided o q))
+          (sentAfter c (outcome p (storeDisk p) count k m b (decided o q) .answer) ss)
+      go none e = unfold decided in due-next c count b q ss′ (ok e) uncut open? sent
+      go (some a) e = unfold decided outcome in stays c a b (refuses cs a e)
+
+  -- ---- the calls
+
+  abbrev v : View
+  v = seen p k
+
+  abbrev long : Bool
+  long = lentOk p k m
+
+  -- rule 2 comes second in every list of checks
+  lent-ok : (i : Bool) (t : Bool) (cs : List Check) → firstRefusal (rule 1 i ∷ rule 2 (not long || t) ∷ cs) ≡ none → long ≡ true
+  lent-ok i t cs e = not-false long (or-l (not long) t (passes (rule 1 i ∷ rule 2 (not long || t) ∷ cs) e .1 .0))
+
+  lent-ok₂ : (i : Bool) (cs : List Check) → firstRefusal (rule 1 i ∷ rule 2 (not long) ∷ cs) ≡ none → long ≡ true
+  lent-ok₂ i cs e = not-false long (passes (rule 1 i ∷ rule 2 (not long) ∷ cs) e .1 .0)
+
+  abbrev after : Call → After Disk
+  after c = callDisk p k m c
+
+  abbrev Goal : Call → Type 0
+  Goal c = Next p h (x .live .g) n (callDisk p k m c) (sentAfter c (callDisk p k m c .answer) ss)
+
+  write-next : (a : ℕ) (b : List ℕ) (count : ℕ) → Goal (write a b count)
+  unfolding callDisk callOn storeCount lentBlock verdict writeVerdict
+  write-next a b count = decided-next (write a b count) count b (writeChecks p long v m a b) (writePlan p v m a b) (ss ++ (mkSend a b (sentStripe p v (m .state)) true false ∷ []))
+      (λ e. write-ok p h v m ss n (x .live) (lent-inflight (fits e)) a b (write-asked p long v m a b e)) uncut open? sent
+    where
+      fits : firstRefusal (writeChecks p long v m a b) ≡ none → long ≡ true
+      fits e = unfold writeChecks in lent-ok (not (inRange p)) (not (eqb (length b) (p .B))) (rule 3 (not (eqb (m .state .missing) 0)) ∷ rule 4 (leb (p .L) a)
+          ∷ rule 6 (noStamp (m .state) || noSerial p (m .state)) ∷ rule 7 (mustWait p (m .state)) ∷ rule 8 (scarce p v (cond (opens p (m .state)) 2 1)) ∷ zones (stateFaults p (m .state)) ∷ []) e
+
+      uncut : isCut (writePlan p v m a b .answer) ≡ false
+      uncut = unfold writePlan isCut kind in refl
+
+      open? : finished (writePlan p v m a b .answer) ≡ false
+      open? = unfold writePlan finished kind in refl
+
+      sent : sentAfter (write a b count) (writePlan p v m a b .answer) ss ≡ ss ++ (mkSend a b (sentStripe p v (m .state)) true false ∷ [])
+      sent = unfold sentAfter endsRun isCut finished kind writePlan ackedBy sentBy consIf values sending sentStripe in refl
+
+  land-next : (d s count : ℕ) → Goal (land d s count)
+  unfolding callDisk callOn storeCount lentBlock verdict landVerdict
+  land-next d s count = decided-next (land d s count) count [] (landChecks p long v m d s) (landPlan p v m d s) (landSends p (m .state) d s ss)
+      (λ e. land-ok p h v m ss n (x .live) (lent-inflight (fits e)) (lent-table (fits e)) d s (land-asked p long v m d s e)) uncut open? sent
+    where
+      fits : firstRefusal (landChecks p long v m d s) ≡ none → long ≡ true
+      fits e =
+          unfold landChecks in lent-ok₂ (not (inRange p))
+          (rule 3 (not (eqb (m .state .missing) 0)) ∷ rule 5 (not (waiting p (m .state) d s)) ∷ zones
+          (stateFaults p (m .state) ++ landFaults p v m d s) ∷ []) e
+
+      uncut : isCut (landPlan p v m d s .answer) ≡ false
+      uncut = unfold landPlan isCut kind in refl
+
+      open? : finished (landPlan p v m d s .answer) ≡ false
+      open? = unfold landPlan finished kind in refl
+
+      sent : sentAfter (land d s count) (landPlan p v m d s .answer) ss ≡ landSends p (m .state) d s ss
+      sent =
+          unfold sentAfter endsRun isCut finished kind landPlan ackedBy sentBy values landSends landCount in append-nil
+          (cond (ltb 0 (cond (completes p (m .state) (slotOf (m .state) s) d) (writesIn (m .state) (slotOf (m .state) s)) 0))
+          (map (acknowledge s) ss) ss)
+
+  close-next : (count : ℕ) → Goal (close count)
+  unfolding callDisk callOn storeCount lentBlock verdict closeVerdict
+  close-next count = decided-next (close count) count [] (closeChecks p long v m) (closePlan p m) ss (λ e. close-ok p h v m ss n (x .live) (lent-inflight (fits e)) long e) uncut open? sent
+    where
+      fits : firstRefusal (closeChecks p long v m) ≡ none → long ≡ true
+      fits e =
+          unfold closeChecks in lent-ok₂ (not (inRange p)) (rule 3 (not (eqb (m .state .missing) 0)) ∷ rule 5
+          (not (hasFilling p (m .state)) || (scarce p v 1 && not (isNil (idle p v (m .state) (victim p v (m .addresses))))))
+          ∷ zones (stateFaults p (m .state) ++ cond (scarce p v 1) (tableFaults p (m .addresses)) []) ∷ []) e
+
+      uncut : isCut (closePlan p m .answer) ≡ false
+      uncut = unfold closePlan isCut kind in refl
+
+      open? : finished (closePlan p m .answer) ≡ false
+      open? = unfold closePlan finished kind in refl
+
+      sent : sentAfter (close count) (closePlan p m .answer) ss ≡ ss
+      sent = unfold sentAfter endsRun isCut finished kind closePlan ackedBy sentBy in append-nil ss
+
+  reclaim-next : (count : ℕ) → Goal (reclaim count)
+  unfolding callDisk callOn storeCount lentBlock verdict reclaimVerdict reclaimPlan
+  reclaim-next count =
+      decided-next (reclaim count) count [] (reclaimChecks p long v m (victim p v (m .addresses))) (reclaimPlan p v m) ss
+      (λ e. reclaim-ok p h v m ss n (x .live) (lent-inflight (fits e)) long e) uncut open? sent
+    where
+      w : Opt Victim
+      w = victim p v (m .addresses)
+
+      fits : firstRefusal (reclaimChecks p long v m (victim p v (m .addresses))) ≡ none → long ≡ true
+      fits e = unfold reclaimChecks in lent-ok₂ (not (inRange p)) (rule 3 (not (eqb (m .state .missing) 0)) ∷ rule 5 (isNone w || (not (isNil (victimLive w)) && isNil (idle p v (m .state) w)))
+          ∷ rule 6 (not (isNil (victimLive w)) && noSerial p (m .state)) ∷ rule 7 (not (isNil (victimLive w)) && mustWait p (m .state)) ∷ rule 8
+          (not (isNil (victimLive w)) && opens p (m .state) && scarce p v 1)
+          ∷ zones (stateFaults p (m .state) ++ tableFaults p (m .addresses) ++ map (λ q. victimSegment w) (keep (λ q. not (between 1 (p .S) (placeBlock p q))) (victimLive w))) ∷ []) e
+
+      uncut : isCut (reclaimPlan p v m .answer) ≡ false
+      uncut = go (isNil (victimLive w))
+        where
+          go : (t : Bool) → isCut (cond t (resetPlan p m (victimSegment w)) (copyPlan p v m (firstOr 0 (idle p v (m .state) w))) .answer) ≡ false
+          go true = unfold resetPlan isCut kind in refl
+          go false = unfold copyPlan isCut kind in refl
+
+      open? : finished (reclaimPlan p v m .answer) ≡ false
+      open? = go (isNil (victimLive w))
+        where
+          go : (t : Bool) → finished (cond t (resetPlan p m (victimSegment w)) (copyPlan p v m (firstOr 0 (idle p v (m .state) w))) .answer) ≡ false
+          go true = unfold resetPlan finished kind in refl
+          go false = unfold copyPlan finished kind in refl
+
+      sent : sentAfter (reclaim count) (reclaimPlan p v m .answer) ss ≡ ss
+      sent = go (isNil (victimLive w))
+        where
+          go : (t : Bool) → sentAfter (reclaim count) (cond t (resetPlan p m (victimSegment w)) (copyPlan p v m (firstOr 0 (idle p v (m .state) w))) .answer) ss ≡ ss
+          go true = unfold resetPlan sentAfter endsRun isCut finished kind ackedBy sentBy in append-nil ss
+          go false = unfold copyPlan sentAfter endsRun isCut finished kind ackedBy sentBy in append-nil ss
+
+  read-next : (a : ℕ) → Goal (read a)
+  unfolding callDisk callOn storeCount lentBlock verdict readVerdict
+  read-next a = decided-next (read a) 0 [] (readChecks p long a ++ (zones (stateFaults p (m .state) ++ foundFaults p v (m .state .missing) f) ∷ [])) (mkPlan [] (readAnswer p f) m []) ss
+      (λ e. same-ok p h v m ss n (x .live) (readAnswer p f) []) (uncut f) (open? f) (sent f)
+    where
+      f : Found
+      f = lookup p (m .state .missing) (m .addresses) a
+
+      uncut : (f : Found) → isCut (readAnswer p f) ≡ false
+      uncut nowhere = unfold readAnswer isCut kind in refl
+      uncut (here q) = unfold readAnswer isCut kind in refl
+      uncut (away q) = unfold readAnswer isCut kind in refl
+
+      open? : (f : Found) → finished (readAnswer p f) ≡ false
+      open? nowhere = unfold readAnswer finished kind in refl
+      open? (here q) = unfold readAnswer finished kind in refl
+      open? (away q) = unfold readAnswer finished kind in refl
+
+      sent : (f : Found) → sentAfter (read a) (readAnswer p f) ss ≡ ss
+      sent nowhere = unfold readAnswer sentAfter endsRun isCut finished kind ackedBy sentBy in append-nil ss
+      sent (here q) = unfold readAnswer sentAfter endsRun isCut finished kind ackedBy sentBy in append-nil ss
+      sent (away q) = unfold readAnswer sentAfter endsRun isCut finished kind ackedBy sentBy in append-nil ss
+
+  fill-next : (a : ℕ) (b : List ℕ) → Goal (fill a b)
+  unfolding callDisk callOn storeCount lentBlock verdict fillVerdict
+  fill-next a b =
+      decided-next (fill a b) 0 b (readChecks p (long && eqb (length b) (p .B)) a ++
+      (zones (stateFaults p (m .state) ++ foundFaults p v (m .state .missing) f) ∷ zones (decodeFaults p v (m .state .missing) (m .compact) f) ∷
+      []))
+      (mkPlan [] Filled m (readPiece p v (m .state .missing) (m .compact) f .block)) ss
+      (λ e. same-ok p h v m ss n (x .live) Filled (readPiece p v (m .state .missing) (m .compact) f .block)) uncut open? sent
+    where
+      f : Found
+      f = lookup p (m .state .missing) (m .addresses) a
+
+      uncut : isCut Filled ≡ false
+      uncut = unfold isCut kind in refl
+
+      open? : finished Filled ≡ false
+      open? = unfold finished kind in refl
+
+      sent : sentAfter (fill a b) Filled ss ≡ ss
+      sent = unfold sentAfter endsRun isCut finished kind ackedBy sentBy in append-nil ss
+
+  -- a rebuild is refused: no drive is missing
+  no-rebuild : (d : ℕ) → firstRefusal (rebuildChecks p long v m d (segments p v (named d))) ≡ none → ⊥
+  unfolding rebuildChecks namesMissing
+  no-rebuild d e =
+      let q : (ltb d (p .N) && eqb (m .state .missing) (named d))
+      ≡ true = not-false (ltb d (p .N) && eqb (m .state .missing) (named d)) (or-r (not (inRange p))
+      (not (ltb d (p .N) && eqb (m .state .missing) (named d)))
+      (passes (rule 1 (not (inRange p) || not (ltb d (p .N) && eqb (m .state .missing) (named d))) ∷ rule 2 (not long) ∷ imageChecks p v (named d) (segments p v (named d))) e .0)) in
+      let dl : d < p .N = ltb-true d (p .N) (and-left (ltb d (p .N)) (eqb (m .state .missing) (named d)) q) in
+      let f : named d ≡ 0 = sym (eqb-true (m .state .missing) (named d) (and-right (ltb d (p .N)) (eqb (m .state .missing) (named d)) q)) ∙ x .live .rel .healthy in
+      true-false (eqb (named d) 0) (eq-eqb (named d) 0 f) (named-some d (omega (arith, dl, h .drives-high)))
+
+  pub rebuild-refused : (d count : ℕ) → isRefused (callDisk p k m (rebuild d count) .answer) ≡ true
+  unfolding callDisk callOn verdict rebuildVerdict
+  rebuild-refused d count = go (firstRefusal (rebuildChecks p long v m d (segments p v (named d)))) refl
+    where
+      q : Plan
+      q = mkPlan (rebuildStores p d (segments p v (named d))) Rebuilt m []
+
+      go :
+          (o : Opt Answer)
+          → firstRefusal (rebuildChecks p long v m d (segments p v (named d))) ≡ o
+          → isRefused (outcome p (storeDisk p) (storeCount (rebuild d count)) k m (lentBlock (rebuild d count)) (decided o q) .answer) ≡ true
+      go none e = absurd (no-rebuild d e)
+      go (some a) e = unfold decided outcome in refuses (rebuildChecks p long v m d (segments p v (named d))) a e
+
+  rebuild-next : (d count : ℕ) → Goal (rebuild d count)
+  unfolding callDisk callOn storeCount lentBlock verdict rebuildVerdict
+  rebuild-next d count =
+      decided-next (rebuild d count) count [] (rebuildChecks p long v m d (segments p v (named d)))
+      (mkPlan (rebuildStores p d (segments p v (named d))) Rebuilt m []) ss (λ e. absurd (no-rebuild d e)) uncut open? sent
+    where
+      uncut : isCut Rebuilt ≡ false
+      uncut = unfold isCut kind in refl
+
+      open? : finished Rebuilt ≡ false
+      open? = unfold finished kind in refl
+
+      sent : sentAfter (rebuild d count) Rebuilt ss ≡ ss
+      sent = unfold sentAfter endsRun isCut finished kind ackedBy sentBy in append-nil ss
+
+  -- every call of a healthy run other than restart
+  pub call-next : (c : Call) → restartOf c ≡ none → Next p h (x .live .g) n (callDisk p k m c) (sentAfter c (callDisk p k m c .answer) ss)
+  call-next (write a b count) e = write-next a b count
+  call-next (land d s count) e = land-next d s count
+  call-next (close count) e = close-next count
+  call-next (reclaim count) e = reclaim-next count
+  call-next (read a) e = read-next a
+  call-next (fill a b) e = fill-next a b
+  call-next (restart d count) e = absurd (let z : _≡_ {A = ℕ} 0 1 = boot e in let q : ⊥ = omega arith in q)
+    where
+      boot : restartOf (restart d count) ≡ none → _≡_ {A = ℕ} 0 1
+      boot e = unfold restartOf in cc
+  call-next (rebuild d count) e = rebuild-next d count

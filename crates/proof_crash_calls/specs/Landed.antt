@@ -1,0 +1,330 @@
+-- A landing: its checks, and its chunk as the machine's step. Assumes nothing.
+use mathlib.Core.Path.{_≡_, refl, sym, ap, ap₂, _∙_, subst}
+use mathlib.Core.List.{List, [], _++_, map}
+use mathlib.Core.Bool.{Bool, true, false, cond, not, _&&_}
+use mathlib.Core.Logic.{⊎-elim}
+use Prim.Native.Nat.{ℕ, suc, _+_, _-_, _^_, _≤_, _<_}
+use borrow.Author.Tests.{leb-true, ltb-true, ltb-false, eqb-true, not-true, not-false}
+use native.Mathlib.Omega.{arith}
+use lib.Dec.{leb, ltb, eqb}
+use lib.ListN.{length}
+use Rattle.spec.specs.declared.Params.{Params}
+use Rattle.spec.specs.declared.State.{State}
+use Rattle.spec.specs.Calls.{firstRefusal}
+use Rattle.spec.specs.Drives.{View, zoneAt, pointerAt, Store, storeView, zoneOn}
+use Rattle.spec.specs.Drives.Store.{put}
+use Rattle.spec.specs.History.{Send}
+use Rattle.spec.specs.Landing.{slotOf, ready, waiting, completes, seals, flightRec, misplaced, overfull, entryFaults, landFaults, landChecks, landStore}
+use Rattle.spec.specs.Layout.{parityDrive, dataDrive, dataPosition, isData, group, Rec, recordBytes}
+use Rattle.spec.specs.Lists.Opt.{none}
+use Rattle.spec.specs.Lists.{below, consIf, indexOf, flat, isIn}
+use Rattle.spec.specs.Memory.{Memory, slotCount, slots, stripeIn, filledIn, landedIn, entryIn, entriesIn, offsetIn, openSegment, isFree, isFull, stateOk, stateFaults, slotBlock}
+use Rattle.spec.specs.Params.{between, dataCount, inRange, footers, capacity, inflightLen, drivesOf}
+use Rattle.spec.specs.Parity.{parityRec}
+use Rattle.law_basic.specs.Geometry.{between-low, between-high, Ranged, position-drive, drive-is-data, data-drive-lt, data-not-parity}
+use Rattle.law_basic.specs.Ranges.{and-left, and-right}
+use Rattle.proof_crash_items.specs.Codec.{Wide}
+use Rattle.proof_crash_items.specs.Items.{valueOf, itemsIn, storeItem, items-store}
+use Rattle.proof_crash_items.specs.Member.{cond-true, cond-false, has-below, any-false}
+use Rattle.proof_crash_items.specs.Ranges.{parOf}
+use Rattle.proof_crash_items.specs.Sound.{Sound, sound-fits, store-put}
+use Rattle.proof_crash_items.specs.ZoneBytes.{Kind, kindItem}
+use Rattle.proof_crash_items.specs.ZoneBytes.Kind.{datum}
+use Rattle.proof_crash_machine.specs.Facts.{Datum}
+use Rattle.proof_crash_machine.specs.History.Mode.{run}
+use Rattle.proof_crash_machine.specs.History.{Inv}
+use Rattle.proof_crash_machine.specs.History.Step.{land as m-land}
+use Rattle.proof_crash_machine.specs.Memory.{Mem, Flight}
+use Rattle.proof_crash_machine.specs.Order.{Track}
+use Rattle.proof_crash_machine.specs.Val.{Val}
+use Rattle.proof_crash_machine.specs.View.Item.{chunk}
+use Rattle.proof_crash_machine.specs.View.Store.{put as m-put}
+use Rattle.proof_crash_machine.specs.View.{after, apply, In}
+use Rattle.proof_crash_calls.specs.Base.{and-fails, eqb-self, passes, slot-found, slot-any}
+use Rattle.proof_crash_calls.specs.Go.{mst, Go, go-step, go-view}
+use Rattle.proof_crash_calls.specs.Live.{Live, live-inv, live-len}
+use Rattle.proof_crash_calls.specs.Placed.{ready-data, ready-parity, drive-cases}
+use Rattle.proof_crash_calls.specs.Rel.{readyAt, SlotOf, inUse}
+use Rattle.proof_crash_calls.specs.Sending.{opened-low, slots-ok, faults-none}
+use Rattle.proof_crash_calls.specs.Sends.{value-addr, value-stamp}
+use Rattle.proof_crash_calls.specs.Slots.{slot-long}
+use Rattle.proof_crash_calls.specs.Write.{append-none}
+use Rattle.proof_crash_calls.specs.Xored.{parity-is, Fits8, good-fits, parity-wide}
+
+-- what a landing's checks say
+pub record LandAsked (p : Params) (v : View) (st : State) (d s : ℕ) : Type 0 where
+  pub drive : d < p .N
+  pub low : slotOf st s < 8
+  pub used? : inUse st (slotOf st s) ≡ true
+  pub number : stripeIn st (slotOf st s) ≡ s
+  pub fresh : isIn (landedIn st (slotOf st s)) d ≡ false
+  pub may : readyAt p s (filledIn st (slotOf st s)) d ≡ true
+  pub ok : stateOk p st ≡ true
+  pub from : 1 ≤ pointerAt v d (openSegment st)
+  pub to : pointerAt v d (openSegment st) ≤ p .S
+  pub group? : group p (pointerAt v d (openSegment st) - 1) ≡ group p s
+  pub room : seals p st (slotOf st s) d ≡ true → (e : ℕ) → e < p .N → pointerAt v e (openSegment st) + cond (eqb e d) 1 0 + footers p ≤ capacity p
+
+consIf-none : (b : Bool) (z : ℕ) (l : List ℕ) → consIf b z l ≡ [] → (b ≡ false) × (l ≡ [])
+unfolding consIf
+consIf-none true z l e = absurd (let x : _≡_ {A = ℕ} 0 1 = cc in let q : ⊥ = omega arith in q)
+consIf-none false z l e = (refl, e)
+
+slot-of : (st : State) (s : ℕ) → slotOf st s < 8 → (inUse st (slotOf st s) ≡ true) × (stripeIn st (slotOf st s) ≡ s)
+unfolding slotOf inUse
+slot-of st s l =
+    let f : ℕ → Bool = λ i. not (isFree st i) && eqb (stripeIn st i) s in
+    let e : f (indexOf f slots) ≡ true = slot-found f (slot-any f l) .1 in (
+      and-left (not (isFree st (indexOf f slots))) (eqb (stripeIn st (indexOf f slots)) s) e,
+      eqb-true (stripeIn st (indexOf f slots)) s (and-right (not (isFree st (indexOf f slots))) (eqb (stripeIn st (indexOf f slots)) s) e),
+    )
+
+ready-parts : (p : Params) (st : State) (i d : ℕ) → ready p st i d ≡ true → (isIn (landedIn st i) d ≡ false) × (readyAt p (stripeIn st i) (filledIn st i) d ≡ true)
+unfolding ready readyAt isFull
+ready-parts p st i d e =
+    let x : Bool = cond (isData p (stripeIn st i) d) (ltb (dataPosition p (stripeIn st i) d) (filledIn st i)) (leb (dataCount p) (filledIn st i)) in
+    (not-true (isIn (landedIn st i) d) (and-left (not (isIn (landedIn st i) d)) x e), and-right (not (isIn (landedIn st i) d)) x e)
+
+placed-well : (p : Params) (v : View) (d z s : ℕ) → misplaced p v d z s ≡ false → (1 ≤ pointerAt v d z) × (pointerAt v d z ≤ p .S) × (group p (pointerAt v d z - 1) ≡ group p s)
+unfolding misplaced
+placed-well p v d z s e =
+    let q : (between 1 (p .S) (pointerAt v d z) && eqb (group p (pointerAt v d z - 1)) (group p s)) ≡ true =
+    not-false (between 1 (p .S) (pointerAt v d z) && eqb (group p (pointerAt v d z - 1)) (group p s)) e in
+    let b : between 1 (p .S) (pointerAt v d z) ≡ true = and-left (between 1 (p .S) (pointerAt v d z)) (eqb (group p (pointerAt v d z - 1)) (group p s)) q in (
+      between-low 1 (p .S) (pointerAt v d z) b,
+      between-high 1 (p .S) (pointerAt v d z) b,
+      eqb-true (group p (pointerAt v d z - 1)) (group p s) (and-right (between 1 (p .S) (pointerAt v d z)) (eqb (group p (pointerAt v d z - 1)) (group p s)) q),
+    )
+
+room-of : (p : Params) (v : View) (d z : ℕ) → overfull p v d z ≡ false → (e : ℕ) → e < p .N → pointerAt v e z + cond (eqb e d) 1 0 + footers p ≤ capacity p
+unfolding overfull zoneOn drivesOf
+room-of p v d z q e l =
+    ltb-false (capacity p) (pointerAt v e z + cond (eqb e d) 1 0 + footers p)
+    (any-false (λ e. ltb (capacity p) (pointerAt v e z + cond (eqb e d) 1 0 + footers p)) (below (p .N)) q e (has-below e (p .N) l))
+
+pub land-asked : (p : Params) (long : Bool) (v : View) (m : Memory) (d s : ℕ) → firstRefusal (landChecks p long v m d s) ≡ none → LandAsked p v (m .state) d s
+unfolding landChecks
+land-asked p long v m d s e =
+    let st : State = m .state in
+    let q : (not (inRange p) ≡ false)
+    × ((not long ≡ false)
+    × ((not (eqb (st .missing) 0) ≡ false) × ((not (waiting p st d s) ≡ false) × ((stateFaults p st ++ landFaults p v m d s ≡ []) × Unit {0}))))
+    =
+    passes (landChecks p long v m d s) e in
+    let w : ((ltb d (p .N) && ltb (slotOf st s) 8) && ready p st (slotOf st s) d) ≡ true = waits (not-false (waiting p st d s) (q .1 .1 .1 .0)) in
+    let x : (ltb d (p .N) && ltb (slotOf st s) 8) ≡ true = and-left (ltb d (p .N) && ltb (slotOf st s) 8) (ready p st (slotOf st s) d) w in
+    let i : slotOf st s < 8 = ltb-true (slotOf st s) 8 (and-right (ltb d (p .N)) (ltb (slotOf st s) 8) x) in
+    let r : (isIn (landedIn st (slotOf st s)) d ≡ false) × (readyAt p (stripeIn st (slotOf st s)) (filledIn st (slotOf st s)) d ≡ true) =
+    ready-parts p st (slotOf st s) d (and-right (ltb d (p .N) && ltb (slotOf st s) 8) (ready p st (slotOf st s) d) w) in
+    let f : (stateFaults p st ≡ []) × (landFaults p v m d s ≡ []) = append-none (stateFaults p st) (landFaults p v m d s) (q .1 .1 .1 .1 .0) in
+    let g : (misplaced p v d (openSegment st) s ≡ false) × ((seals p st (slotOf st s) d && overfull p v d (openSegment st)) ≡ false) = faults (f .1) in
+    let z : (1 ≤ pointerAt v d (openSegment st)) × (pointerAt v d (openSegment st) ≤ p .S) × (group p (pointerAt v d (openSegment st) - 1) ≡ group p s) = placed-well p v d (openSegment st) s (g .0) in
+    let o : (inUse st (slotOf st s) ≡ true) × (stripeIn st (slotOf st s) ≡ s) = slot-of st s i in
+    record {
+      drive = ltb-true d (p .N) (and-left (ltb d (p .N)) (ltb (slotOf st s) 8) x);
+      low = i;
+      used? = o .0;
+      number = o .1;
+      fresh = r .0;
+      may = subst (λ (k : ℕ). readyAt p k (filledIn st (slotOf st s)) d ≡ true) (o .1) (r .1);
+      ok = faults-none p st (f .0);
+      from = z .0;
+      to = z .1;
+      group? = z .2;
+      room = λ t. room-of p v d (openSegment st) (and-fails (seals p st (slotOf st s) d) (overfull p v d (openSegment st)) (g .1) t);
+    }
+  where
+    waits : waiting p (m .state) d s ≡ true → ((ltb d (p .N) && ltb (slotOf (m .state) s) 8) && ready p (m .state) (slotOf (m .state) s) d) ≡ true
+    waits x = unfold waiting slotCount in x
+
+    faults : landFaults p v m d s ≡ [] → (misplaced p v d (openSegment (m .state)) s ≡ false) × ((seals p (m .state) (slotOf (m .state) s) d && overfull p v d (openSegment (m .state))) ≡ false)
+    faults x = unfold landFaults zoneOn in
+        let zs : List ℕ = cond (completes p (m .state) (slotOf (m .state) s) d) (flat (entryFaults p v (m .addresses)) (entriesIn (m .state) (slotOf (m .state) s))) [] in
+        let a : (misplaced p v d (openSegment (m .state)) s ≡ false)
+        × (consIf (seals p (m .state) (slotOf (m .state) s) d && overfull p v d (openSegment (m .state))) (openSegment (m .state)) zs ≡ []) =
+        consIf-none (misplaced p v d (openSegment (m .state)) s) (openSegment (m .state))
+        (consIf (seals p (m .state) (slotOf (m .state) s) d && overfull p v d (openSegment (m .state))) (openSegment (m .state)) zs) x in
+        (a .0, consIf-none (seals p (m .state) (slotOf (m .state) s) d && overfull p v d (openSegment (m .state))) (openSegment (m .state)) zs (a .1) .0)
+
+-- ---- the chunk
+
+module _ (p : Params) (h : Ranged p) (v : View) (m : Memory) (ss : List Send) (n : ℕ) (l : Live p h v (m .state) (m .inflight) (m .addresses) ss n) (fits : length (m .inflight) ≡ inflightLen p)
+    (d s : ℕ) (A : LandAsked p v (m .state) d s) where
+  abbrev st : State
+  st = m .state
+
+  abbrev fl : List ℕ
+  fl = m .inflight
+
+  abbrev i : ℕ
+  i = slotOf (m .state) s
+
+  abbrev M : Mem
+  M = l .M
+
+  abbrev z : ℕ
+  z = l .M .zone
+
+  I : Inv (parOf p h) (mst (l .g) (itemsIn p v) (l .a) (l .c) (run (l .M)))
+  I = live-inv p h v (m .state) (m .inflight) (m .addresses) ss n l
+
+  -- the stripe of the eighth is s
+  pub land-slot : SlotOf p (itemsIn p v) (m .state) (m .inflight) (l .M .zone) (slotOf (m .state) s) (l .M .F s) (l .M .ready s)
+  land-slot = subst (λ (x : ℕ). SlotOf p (itemsIn p v) st fl z i (M .F x) (M .ready x)) (A .number) (l .rel .slot i (A .low) (A .used?))
+
+  pub land-flies : l .M .fly s ≡ true
+  land-flies = subst (λ (x : ℕ). M .fly x ≡ true) (A .number) (l .rel .flying i (A .low) (A .used?))
+
+  pub land-flight : (l .M .is-open ≡ true) × (s < l .M .next) × Flight (parOf p h) (l .g) (itemsIn p v) (l .M .zone) s (l .M .F s) (l .M .ready s)
+  land-flight = I .mode .flies s land-flies
+
+  pub land-open : l .M .is-open ≡ true
+  land-open = land-flight .0
+
+  pub land-zone : openSegment (m .state) ≡ l .M .zone
+  unfolding openSegment
+  land-zone = let e : m .state .opened ≡ suc (l .M .zone) = l .rel .zone land-open in omega arith
+
+  pub zone-in : l .M .zone < p .Z
+  zone-in = omega (arith, l .rel .zone land-open, opened-low p st (A .ok))
+
+  from : 1 ≤ pointerAt v d z
+  from = subst (λ (x : ℕ). 1 ≤ pointerAt v d x) land-zone (A .from)
+
+  to : pointerAt v d z ≤ p .S
+  to = subst (λ (x : ℕ). pointerAt v d x ≤ p .S) land-zone (A .to)
+
+  may : M .ready s d ≡ true
+  may = subst (λ (x : ℕ). M .ready s d ≡ readyAt p x (filledIn st i) d) (A .number) (land-slot .may d (A .drive)) ∙ A .may
+
+  number-low : s < p .S
+  number-low = subst (λ (x : ℕ). x < p .S) (A .number) (slots-ok p st (A .ok) i (A .low) .0)
+
+  -- ---- its record
+
+  good : (x : Val) → Datum (parOf p h) s (M .F s) x → Fits8 x
+  good x t = good-fits p h (mst (l .g) (itemsIn p v) (l .a) (l .c) (run (l .M))) M I (I .mode) (subst (λ (k : ℕ). k < 256 ^ 8) (sym (l .rel .stamp)) (l .rel .stamp-fits)) x (land-flight .2 .good x t)
+
+  -- a filled position
+  pub land-held : (k : ℕ) → k < filledIn (m .state) (slotOf (m .state) s)
+      → (l .M .F s (dataDrive p s k)
+      ≡ valueOf (slotBlock p (m .inflight) (slotOf (m .state) s) (dataDrive p s k)) (entryIn (m .state) (slotOf (m .state) s) k))
+      × ((entryIn (m .state) (slotOf (m .state) s) k .address < 256 ^ 8) × (entryIn (m .state) (slotOf (m .state) s) k .stamp < 256 ^ 8))
+  land-held k b = (e, fit)
+    where
+      b′ : k < dataCount p
+      b′ = omega (arith, b, land-slot .most)
+
+      e : M .F s (dataDrive p s k) ≡ valueOf (slotBlock p fl i (dataDrive p s k)) (entryIn st i k)
+      e = subst (λ (x : ℕ). M .F s (dataDrive p x k) ≡ valueOf (slotBlock p fl i (dataDrive p x k)) (entryIn st i k)) (A .number) (land-slot .held k b)
+
+      f : Fits8 (valueOf (slotBlock p fl i (dataDrive p s k)) (entryIn st i k))
+      f = good (valueOf (slotBlock p fl i (dataDrive p s k)) (entryIn st i k)) (record { d = dataDrive p s k; lt = data-drive-lt p s k b′; data? = λ q. data-not-parity p s k q; val = e })
+
+      fit : (entryIn st i k .address < 256 ^ 8) × (entryIn st i k .stamp < 256 ^ 8)
+      fit = (
+        subst (λ (x : ℕ). x < 256 ^ 8) (value-addr (slotBlock p fl i (dataDrive p s k)) (entryIn st i k)) (f .addr),
+        subst (λ (x : ℕ). x < 256 ^ 8) (value-stamp (slotBlock p fl i (dataDrive p s k)) (entryIn st i k)) (f .stamp),
+      )
+
+  -- the chunk's value, its number, and that it fits
+  pub record ChunkIs (r : Rec) : Type 0 where
+    pub val : valueOf (slotBlock p (m .inflight) (slotOf (m .state) s) d) r ≡ l .M .F s d
+    pub stripe : r .stripe ≡ s
+    pub wide : Wide r
+
+  chunk-data : (k : ℕ) → k < dataCount p → d ≡ dataDrive p s k → ChunkIs (flightRec p st i d)
+  chunk-data k b e = subst ChunkIs (sym is) (record {
+    val = ap (λ (x : ℕ). valueOf (slotBlock p fl i x) (entryIn st i k)) e ∙ sym (land-held k f .0) ∙ ap (M .F s) (sym e);
+    stripe = number;
+    wide = record { address = land-held k f .1 .0; stamp = land-held k f .1 .1; stripe = subst (λ (x : ℕ). x < 256 ^ 4) (sym number) (omega (arith, number-low, h .stripes-high)) };
+  })
+    where
+      f : k < filledIn st i
+      f = ltb-true k (filledIn st i) (sym (ready-data p s (filledIn st i) k) ∙ ap (readyAt p s (filledIn st i)) (sym e) ∙ A .may)
+
+      number : entryIn st i k .stripe ≡ s
+      number = let x : entryIn st i k .stripe ≡ stripeIn st i = unfold entryIn in refl in x ∙ A .number
+
+      is : flightRec p st i d ≡ entryIn st i k
+      is = unfold flightRec in (
+          ap (λ (x : ℕ). cond (isData p x d) (entryIn st i (dataPosition p x d)) (parityRec x (entriesIn st i))) (A .number)
+          ∙ cond-true (isData p s d) (entryIn st i (dataPosition p s d)) (parityRec s (entriesIn st i)) (ap (isData p s) e ∙ drive-is-data p s k)
+          ∙ ap (entryIn st i) (ap (dataPosition p s) e ∙ position-drive p s k))
+
+  chunk-parity : d ≡ parityDrive p s → ChunkIs (flightRec p st i d)
+  chunk-parity e = subst ChunkIs (sym is) (record {
+    val = ap (λ (x : ℕ). valueOf (slotBlock p fl i x) (parityRec s (map (entryIn st i) (below (filledIn st i))))) e
+        ∙ subst (λ (x : ℕ). valueOf (slotBlock p fl i (parityDrive p x)) (parityRec x (map (entryIn st i) (below (filledIn st i)))) ≡ M .F s (parityDrive p x)) (A .number)
+        (parity-is p h (λ e. itemsIn p v e z) (slotBlock p fl i) (entryIn st i) (offsetIn st i) (stripeIn st i) (filledIn st i) (landedIn st i) (M .F s) (M .ready s) land-slot
+        (λ x b. slot-long p fl fits i x (A .low) b) full (land-flight .2 .xor))
+        ∙ ap (M .F s) (sym e);
+    stripe = unfold parityRec in refl;
+    wide = parity-wide s (filledIn st i) (entryIn st i) (omega (arith, number-low, h .stripes-high)) (λ j b. land-held j b .1);
+  })
+    where
+      full : filledIn st i ≡ dataCount p
+      full =
+          let b : dataCount p ≤ filledIn st i = leb-true (dataCount p) (filledIn st i) (sym (ready-parity p s (filledIn st i)) ∙ ap (readyAt p s (filledIn st i)) (sym e) ∙ A .may) in
+          omega (arith, b, land-slot .most)
+
+      is : flightRec p st i d ≡ parityRec s (map (entryIn st i) (below (filledIn st i)))
+      is = unfold flightRec entriesIn in (
+          ap (λ (x : ℕ). cond (isData p x d) (entryIn st i (dataPosition p x d)) (parityRec x (map (entryIn st i) (below (filledIn st i))))) (A .number)
+          ∙ cond-false (isData p s d) (entryIn st i (dataPosition p s d)) (parityRec s (map (entryIn st i) (below (filledIn st i)))) (ap (isData p s) e ∙ none))
+        where
+          none : isData p s (parityDrive p s) ≡ false
+          none = unfold isData in ap not (eqb-self (parityDrive p s))
+
+  pub chunk-is : ChunkIs (flightRec p (m .state) (slotOf (m .state) s) d)
+  chunk-is = ⊎-elim (λ (w : (j : ℕ) × (j < dataCount p) × (d ≡ dataDrive p s j)). chunk-data (w .0) (w .1) (w .2)) (λ w. chunk-parity w) (drive-cases p s d (A .drive))
+
+  -- ---- its store
+
+  -- what is put, and where
+  abbrev pub landPut : Store
+  landPut = put d (l .M .zone) (slotBlock p (m .inflight) (slotOf (m .state) s) d) (recordBytes (flightRec p (m .state) (slotOf (m .state) s) d))
+
+  pub land-store-is : landStore p v m d s ≡ landPut
+  unfolding landStore zoneOn
+  land-store-is = ap (λ (x : ℕ). put d x (slotBlock p fl i d) (recordBytes (flightRec p st i d))) land-zone
+
+  abbrev at-o : ℕ
+  at-o = pointerAt v d (l .M .zone) - 1
+
+  kind : Kind p d z (zoneAt v d z) (slotBlock p fl i d) (recordBytes (flightRec p st i d))
+  kind = datum at-o (slotBlock p fl i d) (flightRec p st i d) at (let b : at-o < p .S = omega (arith, from, to) in b) (slot-long p fl fits i d (A .low) (A .drive)) (chunk-is .wide)
+    where
+      at : zoneAt v d z .pointer ≡ suc at-o
+      at = unfold pointerAt in (let e : pointerAt v d z ≡ suc (pointerAt v d z - 1) = omega (arith, from) in e)
+
+  pub land-sound : Sound p v landPut
+  land-sound = (A .drive, zone-in, kind)
+
+  item-is : storeItem p v landPut ≡ m-put d z (chunk s (M .F s d))
+  unfolding kind
+  item-is = store-put p v d z (slotBlock p fl i d) (recordBytes (flightRec p st i d)) kind ∙ same
+    where
+      same : m-put d z (kindItem p d z (zoneAt v d z) (slotBlock p fl i d) (recordBytes (flightRec p st i d)) kind) ≡ m-put d z (chunk s (M .F s d))
+      same = unfold kindItem in ap₂ (λ (x : ℕ) (y : Val). m-put d z (chunk x y)) (chunk-is .stripe) (chunk-is .val)
+
+  -- the drives afterwards
+  abbrev pub landView : View
+  landView = storeView landPut v
+
+  pub land-items : itemsIn p landView ≡ after (itemsIn p v) d (l .M .zone) (chunk s (l .M .F s d))
+  land-items = items-store p v landPut (l .reached .shape) (sound-fits p h v landPut (l .reached .shape) land-sound) ∙ ap (apply (itemsIn p v)) item-is ∙ (unfold apply in refl)
+
+  len : length (itemsIn p v d z) ≡ pointerAt v d z
+  len = live-len p h v (m .state) (m .inflight) (m .addresses) ss n l d z (A .drive) zone-in
+
+  pub land-step : (T : Track) → Go (parOf p h) (mst (l .g) (itemsIn p v) (l .a) (l .c) (run (l .M))) (mst (l .g) (itemsIn p landView) (l .a) (l .c) (run (l .M))) T T
+  land-step T =
+      go-view (parOf p h) (mst (l .g) (itemsIn p v) (l .a) (l .c) (run (l .M))) (l .g) (after (itemsIn p v) d z (chunk s (M .F s d)))
+      (itemsIn p landView) (l .a) (l .c) (run (l .M)) T T (sym land-items)
+      (go-step (parOf p h) (mst (l .g) (itemsIn p v) (l .a) (l .c) (run (l .M))) (mst (l .g) (after (itemsIn p v) d z (chunk s (M .F s d))) (l .a) (l .c) (run (l .M))) T
+      (m-land (mst (l .g) (itemsIn p v) (l .a) (l .c) (run (l .M))) M d s refl (A .drive) land-flies
+      (λ x k. land-slot .out d (A .drive) (A .fresh) x (subst (λ (y : ℕ). In (chunk y x) (itemsIn p v d z)) (sym (A .number)) k)) may
+      (λ k e. let f : pointerAt v d z ≡ suc k = sym len ∙ e in
+      let o : pointerAt v d z - 1 ≡ k = omega (arith, f) in
+      (omega (arith, f, to), sym (ap (λ (x : ℕ). group p (pointerAt v d x - 1)) (sym land-zone) ∙ A .group?) ∙ ap (group p) o))))

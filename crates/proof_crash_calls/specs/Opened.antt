@@ -1,0 +1,231 @@
+-- A segment is opened: headers in the lowest zone empty on all drives. Assumes nothing.
+use mathlib.Core.Path.{_≡_, refl, sym, ap, ap₂, _∙_}
+use mathlib.Core.List.{List, [], _∷_}
+use mathlib.Core.Bool.{Bool, true, false, not}
+use mathlib.Core.Logic.{inl, _≢_}
+use Prim.Native.Nat.{ℕ, suc, _^_, _≤_, _<_}
+use borrow.Author.Tests.{ne-eqb, eqb-true}
+use native.Mathlib.Omega.{arith}
+use lib.Dec.{eqb}
+use lib.ListN.{length, take}
+use Rattle.spec.specs.declared.Params.{Params}
+use Rattle.spec.specs.declared.State.{State}
+use Rattle.spec.specs.Answers.{kind}
+use Rattle.spec.specs.Drives.{Zone, stored, View, zoneAt, pointerAt, Store, putZone, storeView, storeAll, segmentNumbers, zoneOn, emptyOnAll, emptyZones, zeroSpare, headerStores}
+use Rattle.spec.specs.Drives.Store.{put}
+use Rattle.spec.specs.Layout.{headerBlock}
+use Rattle.spec.specs.Lists.Opt.{none}
+use Rattle.spec.specs.Lists.{below, isNil, firstOr}
+use Rattle.spec.specs.Memory.{setOpen}
+use Rattle.spec.specs.Params.{drivesOf}
+use Rattle.law_basic.specs.Geometry.{Ranged}
+use Rattle.law_basic.specs.Ranges.{all-in-below}
+use Rattle.law_views.specs.Views.{Fits}
+use Rattle.proof_crash_items.specs.Items.{itemsFrom, itemsOf, itemsIn, storeItem}
+use Rattle.proof_crash_items.specs.Member.{Has, true-false, keep-has, below-has, firstOr-has}
+use Rattle.proof_crash_items.specs.Ranges.{parOf}
+use Rattle.proof_crash_items.specs.Shape.{Shape, zone-set-other, shape-store}
+use Rattle.proof_crash_items.specs.Sound.{Sound, AllSound, sound-fits, Follows, follows-all, follows-cut, store-put, follows-list}
+use Rattle.proof_crash_items.specs.ZoneBytes.{Kind, kindItem}
+use Rattle.proof_crash_items.specs.ZoneBytes.Kind.{header}
+use Rattle.proof_crash_machine.specs.Exec.{true≢false}
+use Rattle.proof_crash_machine.specs.Facts.Pair.{alone}
+use Rattle.proof_crash_machine.specs.Facts.{Ghost}
+use Rattle.proof_crash_machine.specs.History.Mode.{off, run}
+use Rattle.proof_crash_machine.specs.History.{Inv, Opens}
+use Rattle.proof_crash_machine.specs.History.Step.{open-cut, open-done}
+use Rattle.proof_crash_machine.specs.Memory.{Mem, MemOk}
+use Rattle.proof_crash_machine.specs.Memory2.{openMem}
+use Rattle.proof_crash_machine.specs.Name.{setN-same, naming}
+use Rattle.proof_crash_machine.specs.OpenSeg.{headers, Fresh, opened}
+use Rattle.proof_crash_machine.specs.Order.{Track}
+use Rattle.proof_crash_machine.specs.Val.{Val}
+use Rattle.proof_crash_machine.specs.View.Item.{hdr}
+use Rattle.proof_crash_machine.specs.View.{View as m-View, Store as m-Store, applyAll}
+use Rattle.proof_crash_machine.specs.View.Store.{put as m-put}
+use Rattle.proof_crash_calls.specs.Base.{another}
+use Rattle.proof_crash_calls.specs.Cells.{same-used, open-same}
+use Rattle.proof_crash_calls.specs.Go.{mst, Go, go-step, go-view}
+use Rattle.proof_crash_calls.specs.Rel.{inUse, Rel, Waiting}
+
+-- ---- empty zones
+
+pub no-items : (p : Params) (v : View) (d z : ℕ) → pointerAt v d z ≡ 0 → itemsIn p v d z ≡ []
+unfolding itemsIn itemsOf stored pointerAt
+no-items p v d z e = ap (λ (n : ℕ). itemsFrom p 0 (take n (zoneAt v d z .blocks))) e ∙ (unfold itemsFrom in refl)
+
+pub empty-pointers : (p : Params) (v : View) (z : ℕ) → emptyOnAll p v z ≡ true → (d : ℕ) → d < p .N → pointerAt v d z ≡ 0
+unfolding emptyOnAll zoneOn drivesOf
+empty-pointers p v z e d l = eqb-true (pointerAt v d z) 0 (all-in-below (λ d. eqb (pointerAt v d z) 0) (p .N) d e l)
+
+pub empty-has : (p : Params) (v : View) (z : ℕ) → Has z (emptyZones p v) → (z < p .Z) × (emptyOnAll p v z ≡ true)
+unfolding emptyZones segmentNumbers
+empty-has p v z k =
+    let q : Has z (below (p .Z)) × (emptyOnAll p v z ≡ true) = keep-has (emptyOnAll p v) z (below (p .Z)) k in
+    (below-has z (p .Z) (q .0), q .1)
+
+-- two zones empty on all drives: the lowest, and another
+module _ (p : Params) (v : View) (two : 2 ≤ length (emptyZones p v)) where
+  abbrev lowest : ℕ
+  lowest = firstOr 0 (emptyZones p v)
+
+  some-empty : isNil (emptyZones p v) ≡ false
+  some-empty = go (emptyZones p v) two
+    where
+      go : (l : List ℕ) → 2 ≤ length l → isNil l ≡ false
+      go [] b = absurd (let z : ⊥ = omega arith in z)
+      go (x ∷ l) b = unfold isNil in refl
+
+  pub lowest-empty : (lowest < p .Z) × (emptyOnAll p v lowest ≡ true)
+  lowest-empty = empty-has p v lowest (firstOr-has 0 (emptyZones p v) some-empty)
+
+  pub other-empty : (j : ℕ) × (j < p .Z) × (emptyOnAll p v j ≡ true) × (j ≢ lowest)
+  other-empty = another (emptyOnAll p v) (p .Z) lowest (unfold emptyZones segmentNumbers in two)
+
+  -- what the machine asks before a segment is opened
+  pub may-open : (h : Ranged p) (g : Ghost) (M : Mem) → M .is-open ≡ false → Opens (parOf p h) g (itemsIn p v) M lowest
+  may-open h g M e = record {
+    shut? = e;
+    inZ = lowest-empty .0;
+    empty = λ d l. no-items p v d lowest (empty-pointers p v lowest (lowest-empty .1) d l);
+    space = (
+      other-empty .0,
+      other-empty .1,
+      other-empty .3,
+      λ (d, t, b). let z : ⊥ = omega (arith, b, ap length (no-items p v d (other-empty .0) (empty-pointers p v (other-empty .0) (other-empty .2) d (t .0)))) in z,
+    );
+  }
+
+-- ---- the headers are the machine's
+
+module _ (p : Params) (h : Ranged p) (g : Ghost) (w r : ℕ) (wl : w < p .Z) (rl : r < 256 ^ 8) where
+  abbrev headerPut : ℕ → Store
+  headerPut d = put d w (headerBlock p d w r 0) zeroSpare
+
+  abbrev headerItem : ℕ → m-Store
+  headerItem d = m-put d w (hdr (naming g w r 0 alone .hd .ser w) (naming g w r 0 alone .hd .cop w))
+
+  -- drives from j on are still empty
+  pub record EmptyFrom (j : ℕ) (u : View) : Type 0 where
+    pub shape : Shape p u
+    pub empty : (e : ℕ) → j ≤ e → e < p .N → pointerAt u e w ≡ 0
+
+  one-header : (j : ℕ) (u : View) → j < p .N → EmptyFrom j u → Sound p u (headerPut j) × (storeItem p u (headerPut j) ≡ headerItem j) × EmptyFrom (suc j) (storeView (headerPut j) u)
+  one-header j u l i = (sound, item?, record { shape = shape-store p u (headerPut j) (i .shape) fits; empty = λ e b c. other e b c ∙ i .empty e (omega arith) c })
+    where
+      kind : Kind p j w (zoneAt u j w) (headerBlock p j w r 0) zeroSpare
+      kind = header r 0 (unfold pointerAt in i .empty j (omega arith) l) rl (omega arith)
+
+      sound : Sound p u (headerPut j)
+      sound = (l, wl, kind)
+
+      fits : Fits p u (headerPut j)
+      fits = sound-fits p h u (headerPut j) (i .shape) sound
+
+      item? : storeItem p u (headerPut j) ≡ headerItem j
+      item? = store-put p u j w (headerBlock p j w r 0) zeroSpare kind
+          ∙ (unfold kindItem in ap₂ (λ (x y : ℕ). m-put j w (hdr x y)) (sym (setN-same (g .hd .ser) w r)) (sym (setN-same (g .hd .cop) w 0)))
+
+      other : (e : ℕ) → suc j ≤ e → e < p .N → pointerAt (storeView (headerPut j) u) e w ≡ pointerAt u e w
+      other e b c = unfold pointerAt storeView in
+          ap (λ (q : Zone). q .pointer) (zone-set-other p u (i .shape) j w (putZone (headerBlock p j w r 0) zeroSpare (zoneAt u j w)) l e w (inl (let n : e ≢ j = omega arith in n)))
+
+  pub headers-follow : (v : View) → Shape p v → ((e : ℕ) → e < p .N → pointerAt v e w ≡ 0) → Follows p v (headerStores p w r 0) (headers (parOf p h) g w r)
+  unfolding headerStores zoneOn drivesOf below headers
+  headers-follow v s q = follows-list p EmptyFrom headerPut headerItem (p .N) one-header 0 (p .N) (omega arith) v (record { shape = s; empty = λ e a b. q e b })
+
+-- ---- the call's part
+
+module _ (p : Params) (h : Ranged p) (g : Ghost) (v : View) (a : List Val) (c : Bool) (M : Mem) (s : Shape p v) (two : 2 ≤ length (emptyZones p v)) (shut? : M .is-open ≡ false)
+    (fits : suc (M .serial) < 256 ^ 8) where
+  abbrev w : ℕ
+  w = firstOr 0 (emptyZones p v)
+
+  abbrev ss : List Store
+  ss = headerStores p w (suc (M .serial)) 0
+
+  abbrev g′ : Ghost
+  g′ = naming g (firstOr 0 (emptyZones p v)) (suc (M .serial)) 0 alone
+
+  follow : Follows p v ss (headers (parOf p h) g w (suc (M .serial)))
+  follow = headers-follow p h g w (suc (M .serial)) (lowest-empty p v two .0) fits v s (empty-pointers p v w (lowest-empty p v two .1))
+
+  pub open-sound : AllSound p v ss
+  open-sound = follow .sound
+
+  pub open-go : (T : Track) → Go (parOf p h) (mst g (itemsIn p v) a c (run M)) (mst g′ (itemsIn p (storeAll storeView ss v)) a c (run (openMem M w (suc (M .serial))))) T T
+  open-go T =
+      go-view (parOf p h) (mst g (itemsIn p v) a c (run M)) g′ (applyAll (itemsIn p v) (headers (parOf p h) g w (suc (M .serial))))
+      (itemsIn p (storeAll storeView ss v)) a c (run (openMem M w (suc (M .serial)))) T T
+      (sym (follows-all p h v ss (headers (parOf p h) g w (suc (M .serial))) s follow))
+      (go-step (parOf p h) (mst g (itemsIn p v) a c (run M)) (mst g′ (applyAll (itemsIn p v) (headers (parOf p h) g w (suc (M .serial)))) a c (run (openMem M w (suc (M .serial))))) T
+      (open-done (mst g (itemsIn p v) a c (run M)) M w refl (may-open p v two h g M shut?)))
+
+  pub open-cut-go : (n : ℕ) (T : Track) → Go (parOf p h) (mst g (itemsIn p v) a c (run M)) (mst g′ (itemsIn p (storeAll storeView (take n ss) v)) a c off) T T
+  open-cut-go n T =
+      go-view (parOf p h) (mst g (itemsIn p v) a c (run M)) g′ (applyAll (itemsIn p v) (take n (headers (parOf p h) g w (suc (M .serial))))) (itemsIn p (storeAll storeView (take n ss) v)) a c off T T
+      (sym (follows-cut p h v ss (headers (parOf p h) g w (suc (M .serial))) n s follow))
+      (go-step (parOf p h) (mst g (itemsIn p v) a c (run M)) (mst g′ (applyAll (itemsIn p v) (take n (headers (parOf p h) g w (suc (M .serial))))) a c off) T
+      (open-cut (mst g (itemsIn p v) a c (run M)) M w n refl (may-open p v two h g M shut?)))
+
+  -- no other segment changes
+  pub open-other : Inv (parOf p h) (mst g (itemsIn p v) a c (run M)) → (e y : ℕ) → y ≢ w → itemsIn p (storeAll storeView ss v) e y ≡ itemsIn p v e y
+  open-other I e y n =
+      ap (λ (u : m-View). u e y) (follows-all p h v ss (headers (parOf p h) g w (suc (M .serial))) s follow)
+      ∙ opened (parOf p h) g (itemsIn p v) w (suc (M .serial)) fresh (I .facts) .2 e y n
+    where
+      m : MemOk (parOf p h) g (itemsIn p v) M
+      m = I .mode
+
+      o : Opens (parOf p h) g (itemsIn p v) M w
+      o = may-open p v two h g M shut?
+
+      fresh : Fresh (parOf p h) g (itemsIn p v) w (suc (M .serial))
+      fresh = record {
+        none = m .none;
+        no-pair = m .no-pair;
+        empty = o .empty;
+        inZ = o .inZ;
+        first = omega arith;
+        space = o .space;
+        newest = λ y k. omega (arith, m .serials y k);
+        sealed = λ y k. true≢false (sym shut? ∙ m .lone y k .0);
+      }
+
+  -- ---- memory: nothing is in flight
+  module _ (st : State) (fl : List ℕ) (R : Rel p (itemsIn p v) st fl M) (idle : (i : ℕ) → i < 8 → inUse st i ≡ false) where
+    abbrev st′ : State
+    st′ = setOpen st (firstOr 0 (emptyZones p v)) (suc (M .serial))
+
+    pub open-rel : Rel p (itemsIn p (storeAll storeView ss v)) st′ fl (openMem M w (suc (M .serial)))
+    open-rel = record {
+      long = unfold setOpen in record {
+        numbers = R .long .numbers;
+        filled = R .long .filled;
+        writes = R .long .writes;
+        landed = R .long .landed;
+        addresses = R .long .addresses;
+        stamps = R .long .stamps;
+        offsets = R .long .offsets;
+      };
+      healthy = unfold setOpen in R .healthy;
+      is-open = unfold setOpen in sym (ap not (ne-eqb (suc w) 0 (omega arith)));
+      zone = λ q. unfold setOpen in refl;
+      next = λ q. unfold setOpen in refl;
+      stamp = unfold setOpen in R .stamp;
+      serial = unfold setOpen in refl;
+      stamp-fits = unfold setOpen in R .stamp-fits;
+      serial-fits = unfold setOpen in fits;
+      flying = λ i il u. busy? i il u;
+      slot = λ i il u. busy? i il u;
+      once = λ i j il jl u q e. busy? i il u;
+      flies = λ s q. true≢false q;
+      whole = λ q x l f d b. absurd (let z : ⊥ = omega arith in z);
+      busy = λ q e. absurd (let z : ⊥ = omega (arith, e, h .stripes-low) in z);
+    }
+      where
+        busy? : {A : Type 0} (i : ℕ) → i < 8 → inUse st′ i ≡ true → A
+        busy? i il u = true-false (inUse st′ i) u (same-used st st′ i (open-same st w (suc (M .serial)) i) ∙ idle i il)
+
+    pub open-waits : (x : Val) (y : ℕ) → Waiting p st M x y → Waiting p st′ (openMem M w (suc (M .serial))) x y
+    open-waits x y q = true-false (inUse st (q .i)) (q .inUse?) (idle (q .i) (q .lt))

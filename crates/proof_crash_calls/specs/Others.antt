@@ -1,0 +1,256 @@
+-- Calls that change nothing: reads at any time, every call but restart while the power is off, and writes, landings, closings and reclaims while a drive is missing. Assumes nothing.
+use mathlib.Core.Path.{_≡_, refl, sym, ap, _∙_}
+use mathlib.Core.List.{List, [], _∷_, _++_, map, append-nil}
+use mathlib.Core.Bool.{Bool, true, false, cond, not, _&&_, _||_}
+use mathlib.Core.Logic.{_≢_}
+use Prim.Native.Nat.{ℕ, _^_, _<_}
+use borrow.Author.Tests.{le-leb, eq-eqb, ltb-true, eqb-true, not-false}
+use native.Mathlib.Omega.{arith}
+use lib.Dec.{leb, ltb, eqb}
+use lib.ListN.{length, replicate}
+use lib.Count.{ones}
+use Rattle.spec.specs.declared.Params.{Params}
+use Rattle.spec.specs.declared.State.{State}
+use Rattle.spec.specs.declared.Answer.{Answer}
+use Rattle.spec.specs.declared.Answer.the-variants.{Filled}
+use Rattle.spec.specs.Answers.{kind, isCut, finished}
+use Rattle.spec.specs.Calls.Check.{rule, zones}
+use Rattle.spec.specs.Calls.{firstRefusal, mkPlan, decided, After, mkAfter, limited, outcome}
+use Rattle.spec.specs.Calls.Verdict.{due}
+use Rattle.spec.specs.Closing.{closeChecks}
+use Rattle.spec.specs.Drives.{View, Disk, storeDisk, storeAll}
+use Rattle.spec.specs.Engine.{Call, storeCount, lentBlock, lentOk, callOn, callDisk}
+use Rattle.spec.specs.Engine.Call.{write, land, close, reclaim, read, fill, restart, rebuild}
+use Rattle.spec.specs.Faults.{imageChecks}
+use Rattle.spec.specs.History.{World, mkWorld, callOf, restartOf, before, happens, worldAfter, sentBy, ackedBy, endsRun, sentAfter, untrustedAfter, Mark, Hist, marked, step}
+use Rattle.spec.specs.History.Event.{calls}
+use Rattle.spec.specs.Landing.{landFaults, landChecks}
+use Rattle.spec.specs.Lists.{Opt, all, keep}
+use Rattle.spec.specs.Lists.Opt.{none, some}
+use Rattle.spec.specs.Memory.{Memory, slots, idleState, zeroState, slotOk, stateOk, stateFaults}
+use Rattle.spec.specs.Params.{between, inRange, placeBlock, named}
+use Rattle.spec.specs.Read.{Found, lookup, foundFaults, decodeFaults, readAnswer, readChecks}
+use Rattle.spec.specs.Read.Found.{nowhere, here, away}
+use Rattle.spec.specs.Rebuild.{namesMissing, rebuildChecks}
+use Rattle.spec.specs.Reclaim.{tableFaults, victim, victimSegment, victimLive, reclaimChecks}
+use Rattle.spec.specs.Segments.{segments}
+use Rattle.spec.specs.Write.{scarce, writeChecks}
+use Rattle.law_basic.specs.Geometry.{ranged}
+use Rattle.law_basic.specs.Ranges.{and-left, and-right}
+use Rattle.law_views.specs.Views.{seen}
+use Rattle.proof_crash_items.specs.Member.{true-false, false-of}
+use Rattle.proof_crash_items.specs.Named.{named-some}
+use Rattle.proof_crash_machine.specs.Exec.{true≢false}
+use Rattle.proof_crash_machine.specs.Untrusted.{untrusted}
+use Rattle.proof_crash_calls.specs.Base.{or-l, or-r, passes}
+use Rattle.proof_crash_calls.specs.Refusals.{Decides, decides, refused-step}
+use Rattle.proof_crash_calls.specs.Sending.{faults-none}
+use Rattle.proof_crash_calls.specs.Write.{append-none}
+
+-- ---- refused calls, whatever their answer
+
+pub refused-any :
+    (p : Params) (s : Hist) (c : Call)
+    → (firstRefusal (decides p (lentOk p (s .world .disk) (s .world .memory)) (seen p (s .world .disk)) (s .world .memory) c .checks) ≡ none → ⊥)
+    → step p s (calls c) ≡ s
+refused-any p s c out = go (firstRefusal (decides p (lentOk p (s .world .disk) (s .world .memory)) (seen p (s .world .disk)) (s .world .memory) c .checks)) refl
+  where
+    go : (o : Opt Answer) → firstRefusal (decides p (lentOk p (s .world .disk) (s .world .memory)) (seen p (s .world .disk)) (s .world .memory) c .checks) ≡ o → step p s (calls c) ≡ s
+    go none e = absurd (out e)
+    go (some a) e = refused-step p s c a e
+
+-- ---- reads
+
+-- a call whose plan stores nothing and keeps memory
+same-step : (p : Params) (s : Hist) (c : Call) (a : Answer) (b : List ℕ) → callDisk p (s .world .disk) (s .world .memory) c ≡ mkAfter a (s .world .disk) (s .world .memory) b
+    → sentAfter c a (s .sends) ≡ s .sends → untrustedAfter c a (s .untrusted) ≡ s .untrusted → finished a ≡ false → step p s (calls c) ≡ s
+unfolding step happens before callOf worldAfter
+same-step p s c a b r e f g = λ j. record {
+  world = mkWorld (r j .drives) (r j .memory);
+  sends = (ap (λ (x : After Disk). sentAfter c (x .answer) (s .sends)) r ∙ e) j;
+  untrusted = (ap (λ (x : After Disk). untrustedAfter c (x .answer) (s .untrusted)) r ∙ f) j;
+  mark = (ap (λ (x : After Disk). marked (finished (x .answer)) (mkWorld (x .drives) (x .memory)) (length (sentAfter c (x .answer) (s .sends))) (s .mark)) r
+      ∙ kept (finished a) g (mkWorld (s .world .disk) (s .world .memory)) (length (sentAfter c a (s .sends))) (s .mark)) j;
+}
+  where
+    kept : (b : Bool) → b ≡ false → (w : World) (j : ℕ) (o : Opt Mark) → marked b w j o ≡ o
+    kept true q w j o = true≢false (sym q)
+    kept false q w j o = unfold marked in refl
+
+-- a plan with no stores is done
+nothing-due : (p : Params) (k : Disk) (m : Memory) (n : ℕ) (b : List ℕ) (a : Answer) (c : List ℕ) → outcome p (storeDisk p) n k m b (due (mkPlan [] a m c)) ≡ mkAfter a k m c
+unfolding outcome
+nothing-due p k m n b a c = ap (λ (t : Bool). limited t p (storeDisk p) n k m b (mkPlan [] a m c)) (le-leb 0 n (omega arith)) ∙ (unfold limited storeAll in refl)
+
+pub read-step : (p : Params) (s : Hist) (a : ℕ) → step p s (calls (read a)) ≡ s
+read-step p s a = go (firstRefusal (D .checks)) refl
+  where
+    D : Decides p (lentOk p (s .world .disk) (s .world .memory)) (seen p (s .world .disk)) (s .world .memory) (read a)
+    D = decides p (lentOk p (s .world .disk) (s .world .memory)) (seen p (s .world .disk)) (s .world .memory) (read a)
+
+    f : Found
+    f = lookup p (s .world .memory .state .missing) (s .world .memory .addresses) a
+
+    sent : (f : Found) → sentAfter (read a) (readAnswer p f) (s .sends) ≡ s .sends
+    sent nowhere = unfold readAnswer sentAfter endsRun isCut finished kind ackedBy sentBy in append-nil (s .sends)
+    sent (here q) = unfold readAnswer sentAfter endsRun isCut finished kind ackedBy sentBy in append-nil (s .sends)
+    sent (away q) = unfold readAnswer sentAfter endsRun isCut finished kind ackedBy sentBy in append-nil (s .sends)
+
+    open? : (f : Found) → finished (readAnswer p f) ≡ false
+    open? nowhere = unfold readAnswer finished kind in refl
+    open? (here q) = unfold readAnswer finished kind in refl
+    open? (away q) = unfold readAnswer finished kind in refl
+
+    go : (o : Opt Answer) → firstRefusal (D .checks) ≡ o → step p s (calls (read a)) ≡ s
+    go (some x) e = refused-step p s (read a) x e
+    go none e = same-step p s (read a) (readAnswer p f) [] is (sent f) (unfold untrustedAfter in refl) (open? f)
+      where
+        plan-is : D .plan ≡ mkPlan [] (readAnswer p f) (s .world .memory) []
+        plan-is = unfold decides in refl
+
+        due-is : decided none (D .plan) ≡ due (mkPlan [] (readAnswer p f) (s .world .memory) [])
+        due-is = ap (decided none) plan-is ∙ (unfold decided in refl)
+
+        is : callDisk p (s .world .disk) (s .world .memory) (read a) ≡ mkAfter (readAnswer p f) (s .world .disk) (s .world .memory) []
+        is =
+            unfold callDisk callOn in (ap (outcome p (storeDisk p) (storeCount (read a)) (s .world .disk) (s .world .memory) (lentBlock (read a)))
+            (D .is ∙ ap (λ (o : Opt Answer). decided o (D .plan)) e ∙ due-is)
+            ∙ nothing-due p (s .world .disk) (s .world .memory) (storeCount (read a)) (lentBlock (read a)) (readAnswer p f) [])
+
+pub fill-step : (p : Params) (s : Hist) (a : ℕ) (b : List ℕ) → step p s (calls (fill a b)) ≡ s
+fill-step p s a b = go (firstRefusal (D .checks)) refl
+  where
+    D : Decides p (lentOk p (s .world .disk) (s .world .memory)) (seen p (s .world .disk)) (s .world .memory) (fill a b)
+    D = decides p (lentOk p (s .world .disk) (s .world .memory)) (seen p (s .world .disk)) (s .world .memory) (fill a b)
+
+    sent : sentAfter (fill a b) Filled (s .sends) ≡ s .sends
+    sent = unfold sentAfter endsRun isCut finished kind ackedBy sentBy in append-nil (s .sends)
+
+    open? : finished Filled ≡ false
+    open? = unfold finished kind in refl
+
+    go : (o : Opt Answer) → firstRefusal (D .checks) ≡ o → step p s (calls (fill a b)) ≡ s
+    go (some x) e = refused-step p s (fill a b) x e
+    go none e = same-step p s (fill a b) Filled (D .plan .block) is sent (unfold untrustedAfter in refl) open?
+      where
+        plan-is : D .plan ≡ mkPlan [] Filled (s .world .memory) (D .plan .block)
+        plan-is = unfold decides in refl
+
+        due-is : decided none (D .plan) ≡ due (mkPlan [] Filled (s .world .memory) (D .plan .block))
+        due-is = ap (decided none) plan-is ∙ (unfold decided in refl)
+
+        is : callDisk p (s .world .disk) (s .world .memory) (fill a b) ≡ mkAfter Filled (s .world .disk) (s .world .memory) (D .plan .block)
+        is =
+            unfold callDisk callOn in (ap (outcome p (storeDisk p) (storeCount (fill a b)) (s .world .disk) (s .world .memory) (lentBlock (fill a b)))
+            (D .is ∙ ap (λ (o : Opt Answer). decided o (D .plan)) e ∙ due-is)
+            ∙ nothing-due p (s .world .disk) (s .world .memory) (storeCount (fill a b)) (lentBlock (fill a b)) Filled (D .plan .block))
+
+-- ---- the power is off: the state is all zeros
+
+zero-bad : (p : Params) → stateOk p zeroState ≡ false
+zero-bad p = false-of (stateOk p zeroState) (λ q. out q)
+  where
+    live : (a b c d e f g : Bool) → (a && b && c && d && e && f && g) ≡ true → a ≡ true
+    live true b c d e f g q = refl
+    live false b c d e f g q = q
+
+    out : stateOk p zeroState ≡ true → ⊥
+    out q = unfold stateOk zeroState idleState in true-false (eqb 0 1)
+        (live (eqb 0 1) (ltb 0 (2 ^ p .N)) (leb (ones 0) 1) (leb 0 (p .Z)) (leb 0 (p .S)) (all (slotOk p zeroState) slots) (all (λ o. ltb o (p .S)) (replicate 64 0)) q) refl
+
+-- the state's numbers are out of range: a fault
+bad-fault : (p : Params) (st : State) → stateOk p st ≡ false → stateFaults p st ≡ [] → ⊥
+bad-fault p st e q = true-false (stateOk p st) (faults-none p st q) e
+
+pub off-refused : (p : Params) (long : Bool) (v : View) (m : Memory) (c : Call) → restartOf c ≡ none → m .state ≡ zeroState → firstRefusal (decides p long v m c .checks) ≡ none → ⊥
+unfolding decides
+off-refused p long v m (write a b n) r z e = unfold writeChecks in bad (passes (writeChecks p long v m a b) e .1 .1 .1 .1 .1 .1 .1 .0)
+  where
+    bad : stateFaults p (m .state) ≡ [] → ⊥
+    bad q = bad-fault p (m .state) (ap (stateOk p) z ∙ zero-bad p) q
+off-refused p long v m (land d s n) r z e = unfold landChecks in bad (append-none (stateFaults p (m .state)) (landFaults p v m d s) (passes (landChecks p long v m d s) e .1 .1 .1 .1 .0) .0)
+  where
+    bad : stateFaults p (m .state) ≡ [] → ⊥
+    bad q = bad-fault p (m .state) (ap (stateOk p) z ∙ zero-bad p) q
+off-refused p long v m (close n) r z e =
+    unfold closeChecks in bad (append-none (stateFaults p (m .state)) (cond (scarce p v 1) (tableFaults p (m .addresses)) []) (passes (closeChecks p long v m) e .1 .1 .1 .1 .0) .0)
+  where
+    bad : stateFaults p (m .state) ≡ [] → ⊥
+    bad q = bad-fault p (m .state) (ap (stateOk p) z ∙ zero-bad p) q
+off-refused p long v m (reclaim n) r z e =
+    unfold reclaimChecks in bad (append-none (stateFaults p (m .state)) (tableFaults p (m .addresses)) (append-none (stateFaults p (m .state) ++ tableFaults p (m .addresses))
+    (map (λ q. victimSegment (victim p v (m .addresses)))
+    (keep (λ q. not (between 1 (p .S) (placeBlock p q))) (victimLive (victim p v (m .addresses)))))
+    (passes (reclaimChecks p long v m (victim p v (m .addresses))) e .1 .1 .1 .1 .1 .1 .1 .0) .0) .0)
+  where
+    bad : stateFaults p (m .state) ≡ [] → ⊥
+    bad q = bad-fault p (m .state) (ap (stateOk p) z ∙ zero-bad p) q
+off-refused p long v m (read a) r z e = unfold readChecks in bad (append-none (stateFaults p (m .state)) (foundFaults p v (m .state .missing) (lookup p (m .state .missing) (m .addresses) a))
+    (passes (readChecks p long a ++ (zones (stateFaults p (m .state) ++ foundFaults p v (m .state .missing) (lookup p (m .state .missing) (m .addresses) a)) ∷ [])) e .1 .1 .1 .0) .0)
+  where
+    bad : stateFaults p (m .state) ≡ [] → ⊥
+    bad q = bad-fault p (m .state) (ap (stateOk p) z ∙ zero-bad p) q
+off-refused p long v m (fill a b) r z e = unfold readChecks in bad (append-none (stateFaults p (m .state)) (foundFaults p v (m .state .missing) (lookup p (m .state .missing) (m .addresses) a))
+    (passes (readChecks p (long && eqb (length b) (p .B)) a ++ (zones (stateFaults p (m .state) ++ foundFaults p v (m .state .missing) (lookup p (m .state .missing) (m .addresses) a))
+    ∷ zones (decodeFaults p v (m .state .missing) (m .compact) (lookup p (m .state .missing) (m .addresses) a)) ∷ [])) e .1 .1 .1 .0) .0)
+  where
+    bad : stateFaults p (m .state) ≡ [] → ⊥
+    bad q = bad-fault p (m .state) (ap (stateOk p) z ∙ zero-bad p) q
+off-refused p long v m (restart d n) r z e = absurd (let x : _≡_ {A = ℕ} 0 1 = boot r in let q : ⊥ = omega arith in q)
+  where
+    boot : restartOf (restart d n) ≡ none → _≡_ {A = ℕ} 0 1
+    boot e = unfold restartOf in cc
+off-refused p long v m (rebuild d n) r z e = unfold rebuildChecks namesMissing in
+    let q : (ltb d (p .N) && eqb (m .state .missing) (named d))
+    ≡ true = not-false (ltb d (p .N) && eqb (m .state .missing) (named d)) (or-r (not (inRange p))
+    (not (ltb d (p .N) && eqb (m .state .missing) (named d)))
+    (passes (rule 1 (not (inRange p) || not (ltb d (p .N) && eqb (m .state .missing) (named d))) ∷ rule 2 (not long) ∷ imageChecks p v (named d) (segments p v (named d))) e .0)) in
+    named-nothing (not-false (inRange p) (or-l (not (inRange p)) (not (ltb d (p .N) && eqb (m .state .missing) (named d)))
+    (passes (rule 1 (not (inRange p) || not (ltb d (p .N) && eqb (m .state .missing) (named d))) ∷ rule 2 (not long) ∷ imageChecks p v (named d) (segments p v (named d))) e .0)))
+    (ltb-true d (p .N) (and-left (ltb d (p .N)) (eqb (m .state .missing) (named d)) q))
+    (sym (eqb-true (m .state .missing) (named d) (and-right (ltb d (p .N)) (eqb (m .state .missing) (named d)) q)) ∙ none-missing)
+  where
+    none-missing : m .state .missing ≡ 0
+    none-missing = ap (λ (x : State). x .missing) z ∙ (unfold zeroState idleState in refl)
+
+    named-nothing : inRange p ≡ true → d < p .N → named d ≡ 0 → ⊥
+    named-nothing i l f = true-false (eqb (named d) 0) (eq-eqb (named d) 0 f) (named-some d (omega (arith, l, ranged p i .drives-high)))
+
+-- after a cut, and before the first restart
+pub off-step : (p : Params) (s : Hist) (c : Call) → restartOf c ≡ none → s .world .memory .state ≡ zeroState → step p s (calls c) ≡ s
+off-step p s c r z = refused-any p s c (off-refused p (lentOk p (s .world .disk) (s .world .memory)) (seen p (s .world .disk)) (s .world .memory) c r z)
+
+-- ---- a drive is missing: read-only, but for a rebuild
+
+pub missing-step : (p : Params) (s : Hist) (c : Call) → restartOf c ≡ none → ((d n : ℕ) → c ≡ rebuild d n → ⊥) → s .world .memory .state .missing ≢ 0 → step p s (calls c) ≡ s
+missing-step p s (write a b n) r nb z = refused-any p s (write a b n) (λ e. out (unfold decides in e))
+  where
+    out : firstRefusal (writeChecks p (lentOk p (s .world .disk) (s .world .memory)) (seen p (s .world .disk)) (s .world .memory) a b) ≡ none → ⊥
+    out e = z (eqb-true (s .world .memory .state .missing) 0 (not-false (eqb (s .world .memory .state .missing) 0) (unfold writeChecks in
+        (passes (writeChecks p (lentOk p (s .world .disk) (s .world .memory)) (seen p (s .world .disk)) (s .world .memory) a b) e .1 .1 .0))))
+missing-step p s (land d t n) r nb z = refused-any p s (land d t n) (λ e. out (unfold decides in e))
+  where
+    out : firstRefusal (landChecks p (lentOk p (s .world .disk) (s .world .memory)) (seen p (s .world .disk)) (s .world .memory) d t) ≡ none → ⊥
+    out e = z (eqb-true (s .world .memory .state .missing) 0 (not-false (eqb (s .world .memory .state .missing) 0) (unfold landChecks in
+        (passes (landChecks p (lentOk p (s .world .disk) (s .world .memory)) (seen p (s .world .disk)) (s .world .memory) d t) e .1 .1 .0))))
+missing-step p s (close n) r nb z = refused-any p s (close n) (λ e. out (unfold decides in e))
+  where
+    out : firstRefusal (closeChecks p (lentOk p (s .world .disk) (s .world .memory)) (seen p (s .world .disk)) (s .world .memory)) ≡ none → ⊥
+    out e = z (eqb-true (s .world .memory .state .missing) 0 (not-false (eqb (s .world .memory .state .missing) 0) (unfold closeChecks in
+        (passes (closeChecks p (lentOk p (s .world .disk) (s .world .memory)) (seen p (s .world .disk)) (s .world .memory)) e .1 .1 .0))))
+missing-step p s (reclaim n) r nb z = refused-any p s (reclaim n) (λ e. out (unfold decides in e))
+  where
+    out :
+        firstRefusal (reclaimChecks p (lentOk p (s .world .disk) (s .world .memory)) (seen p (s .world .disk)) (s .world .memory)
+        (victim p (seen p (s .world .disk)) (s .world .memory .addresses))) ≡ none
+        → ⊥
+    out e = z (eqb-true (s .world .memory .state .missing) 0 (not-false (eqb (s .world .memory .state .missing) 0) (unfold reclaimChecks in
+        (passes (reclaimChecks p (lentOk p (s .world .disk) (s .world .memory)) (seen p (s .world .disk)) (s .world .memory)
+        (victim p (seen p (s .world .disk)) (s .world .memory .addresses))) e .1 .1 .0))))
+missing-step p s (read a) r nb z = read-step p s a
+missing-step p s (fill a b) r nb z = fill-step p s a b
+missing-step p s (restart d n) r nb z = absurd (let x : _≡_ {A = ℕ} 0 1 = boot r in let q : ⊥ = omega arith in q)
+  where
+    boot : restartOf (restart d n) ≡ none → _≡_ {A = ℕ} 0 1
+    boot e = unfold restartOf in cc
+missing-step p s (rebuild d n) r nb z = absurd (nb d n refl)

@@ -1,0 +1,351 @@
+-- A table that is what the drives say, as a restart makes it, holds places of records that count. Assumes nothing.
+use mathlib.Core.Path.{_≡_, refl, sym, ap, ap₂, _∙_, subst}
+use mathlib.Core.List.{List, []}
+use mathlib.Core.Bool.{Bool, true, false}
+use mathlib.Core.Logic.{_⊎_, inl, inr, ⊎-elim, _≢_}
+use Prim.Native.Nat.{ℕ, suc, _+_, _-_, _*_, _^_, _≤_, _<_}
+use native.Mathlib.Nat.{mul-le-mul}
+use borrow.Author.Tests.{eq-eqb, eqb-true}
+use native.Mathlib.Omega.{arith}
+use lib.Dec.{eqb}
+use lib.ListN.{length, getD}
+use Rattle.spec.specs.declared.Params.{Params}
+use Rattle.spec.specs.Counts.{neverPlace}
+use Rattle.spec.specs.Drives.{noChunk, Zone, View, zoneAt, chunkAt, zoneOn, sealedIn, recordIn, recordAt}
+use Rattle.spec.specs.Layout.{recordOf}
+use Rattle.spec.specs.Lists.Opt.{none, some}
+use Rattle.spec.specs.Lists.{isIn}
+use Rattle.spec.specs.Memory.{placeAt}
+use Rattle.spec.specs.Params.{capacity, placeOf, placeBlock, placeZone, placeDrive, named}
+use Rattle.spec.specs.Parity.{mkPiece}
+use Rattle.spec.specs.Rank.{Cand, best, placeOr, candsOf}
+use Rattle.spec.specs.Segments.{segmentOf, segments, offsetOn, hasChunk, offsetOf, candOf, candidates, addressTable}
+use Rattle.law_basic.specs.Geometry.{Ranged, capacity-high, zones-all, place-block, place-zone, place-drive, place-again, place-lt}
+use Rattle.proof_crash_items.specs.Cands.{best-none, candsSeen, From, cands-from, cand-value, of-counted}
+use Rattle.proof_crash_items.specs.Items.{valueOf, chunkItem, itemsIn, items-in, chunk-of}
+use Rattle.proof_crash_items.specs.Member.{Has, cond-false, keep-has, has-keep}
+use Rattle.proof_crash_items.specs.Named.{named-none, not-named}
+use Rattle.proof_crash_items.specs.Ranges.{capacity-few, parOf}
+use Rattle.proof_crash_items.specs.Segs.{OnDrives, zone-bytes, zone-low, remaining-has}
+use Rattle.proof_crash_items.specs.Shape.{ZoneShape, shape-zone}
+use Rattle.proof_crash_items.specs.Stripes.{stored-below, pointer-is, sealed-full, offset-on, stored-piece, counted-has, pieceAt, piece-here, counted-stripe}
+use Rattle.proof_crash_items.specs.Table.{address-entry}
+use Rattle.proof_crash_items.specs.Values.{pieceValue, value-same}
+use Rattle.proof_crash_items.specs.ZoneBytes.{blockIn, by-footer}
+use Rattle.proof_crash_machine.specs.Facts.{Par, Heads, Ghost, Choice, Counted, Off}
+use Rattle.proof_crash_machine.specs.History.{Mode, Inv}
+use Rattle.proof_crash_machine.specs.Val.{Val}
+use Rattle.proof_crash_machine.specs.View.{Item, View as m-View}
+use Rattle.proof_crash_machine.specs.View.Item.{chunk}
+use Rattle.proof_crash_calls.specs.Go.{mst}
+use Rattle.proof_crash_calls.specs.Held.{Entry, TableOk}
+use Rattle.proof_crash_calls.specs.LandRel.{off-here}
+use Rattle.proof_crash_calls.specs.Sends.{value-stamp}
+
+-- counted with none missing, by any two numbers that name none
+abbrev pub counted-none : (P : Par) (hd : Heads) (v : m-View) (m n : ℕ) → P .N ≤ m → P .N ≤ n → (x : Val) → Counted P hd v m x → Counted P hd v n x
+counted-none P hd v m n a b x q = record {
+  z = q .z;
+  s = q .s;
+  f = q .f;
+  rem = record { left = λ d l k. q .rem .left d l (omega (arith, l, a)); own = λ o w e. q .rem .own o (λ d l k. w d l (omega (arith, l, b))) e };
+  st = record { on = λ d l k. q .st .on d l (omega (arith, l, a)); xor = q .st .xor };
+  dt = q .dt;
+}
+
+pub places-many : (p : Params) → Ranged p → p .N * p .Z * capacity p < neverPlace
+places-many p r =
+    let b : p .N * p .Z * capacity p ≤ 8192 * 87381 = mul-le-mul (zones-all p r) (capacity-high p r) in
+    omega (arith, b)
+
+module _ (p : Params) (h : Ranged p) (g : Ghost) (v : View) (k : OnDrives p h g v) (none? : p .N ≤ g .un) where
+  -- the number that names no drive
+  abbrev m : ℕ
+  m = 255
+
+  c : Choice (parOf p h) (g .un) 255
+  c = inl none?
+
+  no-name : named 255 ≡ 0
+  no-name = named-none 255 (omega arith)
+
+  abbrev pub said : List Cand
+  said = candidates p 0 (segments p v 0)
+
+  said-is : candsSeen p h g v k 255 c ≡ said
+  unfolding candsSeen
+  said-is = ap (λ (n : ℕ). candidates p n (segments p v n)) no-name
+
+  trust : (d : ℕ) → d < p .N → d ≢ g .un
+  trust d l = omega (arith, l, none?)
+
+  not-m : (d : ℕ) → d < p .N → d ≢ 255
+  not-m d l = omega (arith, l, h .drives-high)
+
+  -- the record at an offset, sealed or not
+  pub record-at : (d z o : ℕ) → d < p .N → z < p .Z → o < p .S → recordAt p v 0 d z o ≡ recordOf (blockIn (zoneAt v d z) (suc o) .spare)
+  unfolding recordAt zoneOn
+  record-at d z o l b ol = go (sealedIn p v 0 z) refl
+    where
+      zone-shape : ZoneShape p (zoneAt v d z)
+      zone-shape = shape-zone p v (k .shape) d z l b
+
+      spare : recordIn p false (zoneAt v d z) o ≡ recordOf (blockIn (zoneAt v d z) (suc o) .spare)
+      spare = unfold recordIn in ap (λ (i : ℕ). recordOf (getD (zoneAt v d z .blocks) i noChunk .spare)) (let i : 1 + o ≡ suc o = omega arith in i)
+
+      full : sealedIn p v 0 z ≡ true → zoneAt v d z .pointer ≡ capacity p
+      full e = pointer-is v d z ∙ sealed-full p h g v k 255 c z d (subst (λ (n : ℕ). sealedIn p v n z ≡ true) (sym no-name) e) l (not-m d l)
+
+      go : (t : Bool) → sealedIn p v 0 z ≡ t → recordIn p t (zoneAt v d z) o ≡ recordOf (blockIn (zoneAt v d z) (suc o) .spare)
+      go false e = spare
+      go true e = by-footer p h d z (zoneAt v d z) zone-shape (zone-bytes p h g v k d z l (trust d l) b) (full e) o ol ∙ spare
+
+  -- ---- a record that counts
+
+  module _ (x : Cand) (i : Has x said) where
+    from : From p h g v k 255 c x
+    from = cands-from p h g v k 255 c x (subst (λ (l : List Cand). Has x l) (sym said-is) i)
+
+    zb : from .z < p .Z
+    zb = remaining-has p h g v k 255 c (from .z) (from .rem) .0
+
+    has : hasChunk (segmentOf p v (named 255) (from .z)) (from .s) (from .d) ≡ true
+    has = counted-has p h g v k 255 c (from .z) (from .s) (from .cnt) .1 (from .d) (from .drv) (not-m (from .d) (from .drv))
+
+    o : ℕ
+    o = offsetOn (segmentOf p v (named 255) (from .z)) (from .d) (from .s)
+
+    o-low : (o < p .S) × (suc o < zoneAt v (from .d) (from .z) .pointer)
+    unfolding o
+    o-low = stored-below p (zoneAt v (from .d) (from .z)) (offsetOn (segmentOf p v (named 255) (from .z)) (from .d) (from .s))
+        (offset-on p h g v k 255 c (from .z) (from .s) (from .d) zb (from .drv) (not-m (from .d) (from .drv)) has .0)
+
+    b-low : 1 + o < capacity p
+    b-low = omega (arith, o-low .0, capacity-few p h)
+
+    place : x .place ≡ placeOf p (from .d) (from .z) (1 + o)
+    place = ap (λ (y : Cand). y .place) (from .is) ∙ here
+      where
+        off-here : offsetOf (named 255) (segmentOf p v (named 255) (from .z)) (from .s) (from .d) ≡ o
+        off-here =
+            unfold offsetOf o in cond-false (isIn (named 255) (from .d)) (from .s)
+            (offsetOn (segmentOf p v (named 255) (from .z)) (from .d) (from .s))
+            (not-named p h 255 (from .d) (from .drv) (not-m (from .d) (from .drv)))
+
+        here : candOf p (named 255) (segmentOf p v (named 255) (from .z)) (from .s) (from .d) .place ≡ placeOf p (from .d) (from .z) (1 + o)
+        here = unfold candOf zoneOn segmentOf in ap (λ (n : ℕ). placeOf p (from .d) (from .z) (1 + n)) off-here
+
+    place-d : placeDrive p (x .place) ≡ from .d
+    place-d = ap (placeDrive p) place ∙ place-drive p (from .d) (from .z) (1 + o) zb b-low
+
+    place-z : placeZone p (x .place) ≡ from .z
+    place-z = ap (placeZone p) place ∙ place-zone p (from .d) (from .z) (1 + o) zb b-low
+
+    place-b : placeBlock p (x .place) ≡ suc o
+    place-b = ap (placeBlock p) place ∙ place-block p (from .d) (from .z) (1 + o) b-low ∙ (let e : 1 + o ≡ suc o = omega arith in e)
+
+    -- where it lies
+    pub record Lies : Type 0 where
+      pub drive : placeDrive p (x .place) < p .N
+      pub zone : placeZone p (x .place) < p .Z
+      pub block-low : 1 ≤ placeBlock p (x .place)
+      pub block-high : placeBlock p (x .place) ≤ p .S
+      pub low : x .place < neverPlace
+      pub again : placeOf p (placeDrive p (x .place)) (placeZone p (x .place)) (placeBlock p (x .place)) ≡ x .place
+
+    pub lies : Lies
+    lies = record {
+      drive = subst (λ (n : ℕ). n < p .N) (sym place-d) (from .drv);
+      zone = subst (λ (n : ℕ). n < p .Z) (sym place-z) zb;
+      block-low = omega (arith, place-b);
+      block-high = omega (arith, place-b, o-low .0);
+      low = omega (arith, place, place-lt p (from .d) (from .z) (1 + o) (from .drv) zb b-low, places-many p h);
+      again = place-again p (x .place);
+    }
+
+    -- the block and record at its place
+    abbrev pub valueAt : Val
+    valueAt =
+        valueOf (chunkAt v (placeDrive p (x .place)) (placeZone p (x .place)) (placeBlock p (x .place)) .block)
+        (recordAt p v 0 (placeDrive p (x .place)) (placeZone p (x .place)) (placeBlock p (x .place) - 1))
+
+    value-here : valueAt ≡ valueOf (blockIn (zoneAt v (from .d) (from .z)) (suc o) .block) (recordOf (blockIn (zoneAt v (from .d) (from .z)) (suc o) .spare))
+    value-here =
+        (λ j. valueOf (chunkAt v (place-d j) (place-z j) (place-b j) .block) (recordAt p v 0 (place-d j) (place-z j) (place-b j - 1)))
+        ∙ ap₂ valueOf block-is (ap (recordAt p v 0 (from .d) (from .z)) (let e : suc o - 1 ≡ o = omega arith in e) ∙ record-at (from .d) (from .z) o (from .drv) zb (o-low .0))
+      where
+        block-is : chunkAt v (from .d) (from .z) (suc o) .block ≡ blockIn (zoneAt v (from .d) (from .z)) (suc o) .block
+        block-is = unfold chunkAt in refl
+
+    value-is : valueAt ≡ pieceAt p h g v k 255 c (from .z) (from .s) (from .d)
+    value-is = value-here
+        ∙ sym (piece-value ∙ value-same (blockIn (zoneAt v (from .d) (from .z)) (suc o) .block) (recordOf (blockIn (zoneAt v (from .d) (from .z)) (suc o) .spare)))
+      where
+        piece-value :
+            pieceAt p h g v k 255 c (from .z) (from .s) (from .d)
+            ≡ pieceValue
+            (mkPiece (blockIn (zoneAt v (from .d) (from .z)) (suc o) .block) (recordOf (blockIn (zoneAt v (from .d) (from .z)) (suc o) .spare)))
+        piece-value = unfold pieceAt o in ap pieceValue (piece-here p h g v k 255 c (from .z) (from .s) (from .d) (from .drv) (not-m (from .d) (from .drv))
+            ∙ stored-piece p h g v k 255 c (from .z) (from .s) (from .d) zb (from .drv) (not-m (from .d) (from .drv)) has)
+
+    counts-here : Counted (parOf p h) (g .hd) (itemsIn p v) 255 (pieceAt p h g v k 255 c (from .z) (from .s) (from .d))
+    counts-here = record {
+      z = from .z;
+      s = from .s;
+      f = pieceAt p h g v k 255 c (from .z) (from .s);
+      rem = remaining-has p h g v k 255 c (from .z) (from .rem) .1;
+      st = counted-stripe p h g v k 255 c (from .z) (from .s) zb (from .cnt);
+      dt = record { d = from .d; lt = from .drv; data? = from .dat; val = refl };
+    }
+
+    -- it counts, in the segment of its place
+    pub counted-at : (q : Counted (parOf p h) (g .hd) (itemsIn p v) (g .un) valueAt) × (q .z ≡ placeZone p (x .place))
+    unfolding counts-here
+    counted-at = subst (λ (y : Val). (q : Counted (parOf p h) (g .hd) (itemsIn p v) (g .un) y) × (q .z ≡ placeZone p (x .place))) (sym value-is)
+        (counted-none (parOf p h) (g .hd) (itemsIn p v) 255 (g .un) (omega (arith, h .drives-high)) none? (pieceAt p h g v k 255 c (from .z) (from .s) (from .d)) counts-here, sym place-z)
+
+    pub value-address : valueAt .addr ≡ x .address
+    value-address = ap (λ (y : Val). y .addr) value-is ∙ sym (cand-value p h g v k 255 c (from .z) (from .s) (from .d) .0) ∙ ap (λ (y : Cand). y .address) (sym (from .is))
+
+    pub value-stamped : valueAt .stamp ≡ x .stamp
+    value-stamped = ap (λ (y : Val). y .stamp) value-is ∙ sym (cand-value p h g v k 255 c (from .z) (from .s) (from .d) .1) ∙ ap (λ (y : Cand). y .stamp) (sym (from .is))
+
+    -- its stamp takes 8 bytes
+    pub stamp-low : x .stamp < 256 ^ 8
+    stamp-low =
+        subst (λ (n : ℕ). n < 256 ^ 8) (sym
+        (value-stamp (blockIn (zoneAt v (from .d) (from .z)) (suc o) .block) (recordOf (blockIn (zoneAt v (from .d) (from .z)) (suc o) .spare)))
+        ∙ sym (ap (λ (y : Val). y .stamp) value-here)
+        ∙ value-stamped)
+        (zone-bytes p h g v k (from .d) (from .z) (from .drv) (trust (from .d) (from .drv)) zb .wide o (o-low .0) (o-low .1) .stamp)
+
+    -- the item there
+    pub item-at : (t : ℕ) × Off (itemsIn p v (placeDrive p (x .place)) (placeZone p (x .place))) (placeBlock p (x .place)) (chunk t valueAt)
+    item-at = (
+      n,
+      subst (λ (y : ℕ). Off (itemsIn p v y (placeZone p (x .place))) (placeBlock p (x .place)) (chunk n valueAt)) (sym place-d)
+          (subst (λ (y : ℕ). Off (itemsIn p v (from .d) y) (placeBlock p (x .place)) (chunk n valueAt)) (sym place-z) (subst
+          (λ (y : ℕ). Off (itemsIn p v (from .d) (from .z)) y (chunk n valueAt)) (sym place-b)
+          (subst (λ (y : Val). Off (itemsIn p v (from .d) (from .z)) (suc o) (chunk n y)) (sym value-here) there))),
+    )
+      where
+        q : Zone
+        q = zoneAt v (from .d) (from .z)
+
+        n : ℕ
+        n = recordOf (blockIn (zoneAt v (from .d) (from .z)) (suc o) .spare) .stripe
+
+        there :
+            Off (itemsIn p v (from .d) (from .z)) (suc o)
+            (chunk n
+            (valueOf (blockIn (zoneAt v (from .d) (from .z)) (suc o) .block) (recordOf (blockIn (zoneAt v (from .d) (from .z)) (suc o) .spare))))
+        there =
+            subst (λ (l : List Item). Off l (suc o) (chunk n
+            (valueOf (blockIn (zoneAt v (from .d) (from .z)) (suc o) .block) (recordOf (blockIn (zoneAt v (from .d) (from .z)) (suc o) .spare)))))
+            (sym (items-in p v (from .d) (from .z)))
+            (unfold chunkItem in chunk-of p (zoneAt v (from .d) (from .z)) (zone-low p h g v k (from .d) (from .z) (from .drv) (trust (from .d) (from .drv)) zb) o (o-low .0) (o-low .1))
+
+    pub block-long : length (chunkAt v (placeDrive p (x .place)) (placeZone p (x .place)) (placeBlock p (x .place)) .block) ≡ p .B
+    block-long = k .shape .long (placeDrive p (x .place)) (placeZone p (x .place)) (placeBlock p (x .place)) (lies .drive) (lies .zone) (omega (arith, lies .block-high, capacity-few p h)) .0
+
+  -- ---- the best of an address
+
+  of-address : (x : Cand) (a : ℕ) → Has x (candsOf a said) → Has x said × (x .address ≡ a)
+  unfolding candsOf
+  of-address x a i = let q : Has x said × (eqb (x .address) a ≡ true) = keep-has (λ (c : Cand). eqb (c .address) a) x said i in (q .0, eqb-true (x .address) a (q .1))
+
+  pub best-said : (a : ℕ) → (best none (candsOf a said) ≡ none) ⊎ ((w : Cand) × (best none (candsOf a said) ≡ some w) × Has w said × (w .address ≡ a))
+  best-said a = ⊎-elim (λ (e : candsOf a said ≡ []). inl (ap (best none) e ∙ nothing))
+      (λ (q : (w : Cand) × (best none (candsOf a said) ≡ some w) × Has w (candsOf a said) × ((c : Cand) → Has c (candsOf a said) → c .stamp ≤ w .stamp)).
+      inr (q .0, q .1, of-address (q .0) a (q .2) .0, of-address (q .0) a (q .2) .1)) (best-none (candsOf a said))
+    where
+      nothing : best none [] ≡ none
+      nothing = unfold best in refl
+
+  -- a block that counts is beaten, or is the best
+  pub counted-beaten :
+      (x : Val)
+      → Counted (parOf p h) (g .hd) (itemsIn p v) (g .un) x
+      → (w : Cand) × (best none (candsOf (x .addr) said) ≡ some w) × Has w said × (w .address ≡ x .addr) × (x .stamp ≤ w .stamp)
+  counted-beaten x q =
+      let y : (y : Cand) × Has y (candsSeen p h g v k 255 c) × (y .address ≡ x .addr) × (y .stamp ≡ x .stamp) =
+      of-counted p h g v k 255 c x (counted-none (parOf p h) (g .hd) (itemsIn p v) (g .un) 255 none? (omega (arith, h .drives-high)) x q) in
+      let i : Has (y .0) (candsOf (x .addr) said) = at (y .0) (subst (λ (l : List Cand). Has (y .0) l) said-is (y .1)) (y .2) in
+      ⊎-elim (λ (e : candsOf (x .addr) said ≡ []). absurd (subst (λ (l : List Cand). Has (y .0) l) e i))
+      (λ (r : (w : Cand) × (best none (candsOf (x .addr) said) ≡ some w) × Has w (candsOf (x .addr) said) × ((c : Cand) → Has c (candsOf (x .addr) said) → c .stamp ≤ w .stamp)).
+      (r .0, r .1, of-address (r .0) (x .addr) (r .2) .0, of-address (r .0) (x .addr) (r .2) .1, omega (arith, r .3 (y .0) i, y .3))) (best-none (candsOf (x .addr) said))
+    where
+      at : (y : Cand) → Has y said → y .address ≡ x .addr → Has y (candsOf (x .addr) said)
+      at y i e = unfold candsOf in has-keep (λ (c : Cand). eqb (c .address) (x .addr)) y said i (eq-eqb (y .address) (x .addr) e)
+
+  -- ---- the table
+
+  module _ (tb : List ℕ) (truth : tb ≡ addressTable p (candidates p 0 (segments p v 0))) where
+    pub table-best : (a : ℕ) → a < p .L → (w : Cand) → best none (candsOf a said) ≡ some w → Has w said → placeAt tb a ≡ w .place
+    table-best a l w e i = ap (λ (t : List ℕ). placeAt t a) truth ∙ address-entry p said a l small ∙ is
+      where
+        is : placeOr (best none (candsOf a said)) ≡ w .place
+        is = ap placeOr e ∙ (unfold placeOr in refl)
+
+        small : placeOr (best none (candsOf a said)) < 256 ^ 4
+        small = omega (arith, is, lies w i .low)
+
+    -- a place of the table is that of a record that counts
+    pub table-place : (a : ℕ) → a < p .L → placeAt tb a ≢ neverPlace → (w : Cand) × Has w said × (w .address ≡ a) × (placeAt tb a ≡ w .place)
+    table-place a l n = ⊎-elim (λ (e : best none (candsOf a said) ≡ none). absurd (n (never e)))
+        (λ (q : (w : Cand) × (best none (candsOf a said) ≡ some w) × Has w said × (w .address ≡ a)). (q .0, q .2, q .3, table-best a l (q .0) (q .1) (q .2))) (best-said a)
+      where
+        never : best none (candsOf a said) ≡ none → placeAt tb a ≡ neverPlace
+        never e =
+            let is : placeOr (best none (candsOf a said)) ≡ neverPlace = ap placeOr e ∙ (let z : placeOr none ≡ neverPlace = unfold placeOr in refl in z) in
+            ap (λ (t : List ℕ). placeAt t a) truth ∙ address-entry p said a l (let b : placeOr (best none (candsOf a said)) < 256 ^ 4 = omega (arith, is) in b) ∙ is
+
+    -- so its entries are as they should be, at the end of a restart
+    pub table-said : (a : List Val) (b : Bool) (m : Mode) → Inv (parOf p h) (mst g (itemsIn p v) a b m) → TableOk p h g (itemsIn p v) tb
+    table-said acks b m I a al =
+        ⊎-elim (λ (e : best none (candsOf a said) ≡ none). inl (
+          never e,
+          ⊎-elim (λ f. f) (λ (w : (y : Val) × Counted (parOf p h) (g .hd) (itemsIn p v) (g .un) y × (y .addr ≡ a) × (g .base a ≤ y .stamp)).
+              absurd (unread e w)) (I .facts .content .floor a),
+        ))
+        (λ (q : (w : Cand) × (best none (candsOf a said) ≡ some w) × Has w said × (w .address ≡ a)).
+        inr (subst (λ (y : ℕ). Entry p h g (itemsIn p v) y a) (sym (table-best a al (q .0) (q .1) (q .2))) (record {
+          s = item-at (q .0) (q .2) .0;
+          x = valueAt (q .0) (q .2);
+          drive = lies (q .0) (q .2) .drive;
+          zone = lies (q .0) (q .2) .zone;
+          at = item-at (q .0) (q .2) .1;
+          counts = counted-at (q .0) (q .2) .0;
+          same = counted-at (q .0) (q .2) .1;
+          addr = value-address (q .0) (q .2) ∙ q .3;
+          floor =
+              ⊎-elim (λ (f : g .base a ≡ 0). omega arith)
+              (λ (w : (y : Val) × Counted (parOf p h) (g .hd) (itemsIn p v) (g .un) y × (y .addr ≡ a) × (g .base a ≤ y .stamp)). high (q .0) (q .1)
+              (q .2) w) (I .facts .content .floor a);
+        }))) (best-said a)
+      where
+        never : best none (candsOf a said) ≡ none → placeAt tb a ≡ neverPlace
+        never e =
+            let is : placeOr (best none (candsOf a said)) ≡ neverPlace = ap placeOr e ∙ (let z : placeOr none ≡ neverPlace = unfold placeOr in refl in z) in
+            ap (λ (t : List ℕ). placeAt t a) truth ∙ address-entry p said a al (let b : placeOr (best none (candsOf a said)) < 256 ^ 4 = omega (arith, is) in b) ∙ is
+
+        unread : best none (candsOf a said) ≡ none → (y : Val) × Counted (parOf p h) (g .hd) (itemsIn p v) (g .un) y × (y .addr ≡ a) × (g .base a ≤ y .stamp) → ⊥
+        unread e (y, q, ya, ys) =
+            let w : (w : Cand) × (best none (candsOf (y .addr) said) ≡ some w) × Has w said × (w .address ≡ y .addr) × (y .stamp ≤ w .stamp) = counted-beaten y q in
+            let f : none ≡ some (w .0) = sym e ∙ ap (λ (n : ℕ). best none (candsOf n said)) (sym ya) ∙ w .1 in
+            let z : _≡_ {A = ℕ} 0 1 = cc in let r : ⊥ = omega arith in r
+
+        high :
+            (w : Cand)
+            → best none (candsOf a said) ≡ some w
+            → (i : Has w said)
+            → (y : Val) × Counted (parOf p h) (g .hd) (itemsIn p v) (g .un) y × (y .addr ≡ a) × (g .base a ≤ y .stamp)
+            → g .base a ≤ valueAt w i .stamp
+        high w e i (y, q, ya, ys) =
+            let u : (u : Cand) × (best none (candsOf (y .addr) said) ≡ some u) × Has u said × (u .address ≡ y .addr) × (y .stamp ≤ u .stamp) = counted-beaten y q in
+            let f : u .0 ≡ w = one (sym (u .1) ∙ ap (λ (n : ℕ). best none (candsOf n said)) ya ∙ e) in
+            let k : u .0 .stamp ≡ w .stamp = ap (λ (x : Cand). x .stamp) f in
+            omega (arith, ys, u .4, k, value-stamped w i)
+          where
+            one : {x y : Cand} → some x ≡ some y → x ≡ y
+            one e = cc

@@ -1,0 +1,332 @@
+-- Reclaim: a reset, or a copy. Assumes nothing.
+use mathlib.Core.Path.{_≡_, refl, sym, ap, _∙_, subst}
+use mathlib.Core.List.{List, [], _∷_, _++_, map}
+use mathlib.Core.Bool.{Bool, true, false, cond, not, _&&_, _||_}
+use mathlib.Core.Logic.{inl, ⊎-elim, _≢_}
+use Prim.Native.Nat.{ℕ, zero, suc, _+_, _-_, _≤_, _<_}
+use borrow.Author.Tests.{leb-false}
+use native.Mathlib.Omega.{arith}
+use lib.Dec.{eqb}
+use lib.ListN.{length, take}
+use Rattle.spec.specs.declared.Params.{Params}
+use Rattle.spec.specs.declared.State.{State}
+use Rattle.spec.specs.Calls.{firstRefusal, Plan}
+use Rattle.spec.specs.Counts.{neverPlace}
+use Rattle.spec.specs.Demands.{sendAt}
+use Rattle.spec.specs.Drives.{View, pointerAt, chunkAt, storeView, storeAll, zoneOn, placeSegment, emptyZones, recordAt, resetStores}
+use Rattle.spec.specs.Drives.Store.{reset}
+use Rattle.spec.specs.History.{Send}
+use Rattle.spec.specs.Layout.{Rec, mkRec}
+use Rattle.spec.specs.Lists.{Opt, upFrom, below, keep, isNil, firstOr}
+use Rattle.spec.specs.Lists.Opt.{none, some}
+use Rattle.spec.specs.Memory.{Memory, stripeIn, filledIn, landedIn, entryIn, offsetIn, stateOk, stateFaults, placeAt, slotBlock}
+use Rattle.spec.specs.Params.{between, inRange, capacity, inflightLen, placeBlock, placeZone, placeDrive, drivesOf}
+use Rattle.spec.specs.Reclaim.{placesIn, tableFaults, liveIn, flying, Victim, victim, isNone, victimSegment, victimLive, idle, reclaimChecks, resetPlan, copyPlan}
+use Rattle.spec.specs.Write.{opens, noSerial, mustWait, scarce, placed, openedBy, slotFor, begunBy, sending}
+use Rattle.law_basic.specs.Geometry.{Ranged}
+use Rattle.law_basic.specs.Ranges.{Test, test}
+use Rattle.law_basic.specs.Ranges.Test.{yes!, no! }
+use Rattle.proof_crash_items.specs.Items.{valueOf, itemsIn, storeItem, storeItems}
+use Rattle.proof_crash_items.specs.Member.{Has, true-false, cond-true, cond-false, keep-has, isNil-nil, firstOr-has}
+use Rattle.proof_crash_items.specs.Ranges.{parOf}
+use Rattle.proof_crash_items.specs.Segs.{OnDrives}
+use Rattle.proof_crash_items.specs.Sound.{Follows, follows-all, follows-cut}
+use Rattle.proof_crash_machine.specs.Exec.{true≢false}
+use Rattle.proof_crash_machine.specs.Facts.{Ghost, InV, Counted, Off, Facts}
+use Rattle.proof_crash_machine.specs.History.Mode.{off, run}
+use Rattle.proof_crash_machine.specs.History.{State as m-State, Inv}
+use Rattle.proof_crash_machine.specs.History.Step.{reset-cut, reset-done}
+use Rattle.proof_crash_machine.specs.Memory.{Mem, MemOk}
+use Rattle.proof_crash_machine.specs.Memory2.{resets-other}
+use Rattle.proof_crash_machine.specs.Order.{noTrack}
+use Rattle.proof_crash_machine.specs.Reclaim.{Quiet, reclaimed-end}
+use Rattle.proof_crash_machine.specs.Val.{Val}
+use Rattle.proof_crash_machine.specs.View.{Item, View as m-View, Store as m-Store, applyAll, In, resets}
+use Rattle.proof_crash_machine.specs.View.Item.{chunk}
+use Rattle.proof_crash_machine.specs.View.Store.{reset as m-reset}
+use Rattle.proof_crash_calls.specs.Base.{or-l, or-r, and-fails, passes}
+use Rattle.proof_crash_calls.specs.Entries.{entry-value, entry-long}
+use Rattle.proof_crash_calls.specs.Go.{mst, later-same, go-step, go-then, go-view, go-inv}
+use Rattle.proof_crash_calls.specs.Held.{Entry, table-to}
+use Rattle.proof_crash_calls.specs.Live.{Live, CallOk, live-inv, live-none, live-drives, live-after, live-cut}
+use Rattle.proof_crash_calls.specs.Rel.{slot-keep, Rel, Waiting}
+use Rattle.proof_crash_calls.specs.Sending.{Asked, faults-none, Target, sendStores, target, target-entries}
+use Rattle.proof_crash_calls.specs.Take.{takenMem, taken-rel, taken-waits, copied-go}
+use Rattle.proof_crash_calls.specs.Victim.{VictimIs, victim-is, place-has, live-has, open-unsealed, quiet, table-left}
+use Rattle.proof_crash_calls.specs.Write.{append-none}
+
+-- ---- the resets are the machine's
+
+resets-follow : (p : Params) (z : ℕ) → z < p .Z → (n d : ℕ) (v : View) → d + n ≤ p .N → Follows p v (map (λ e. reset e z) (upFrom d n)) (resets z d n)
+unfolding upFrom resets storeItems storeItem
+resets-follow p z zl zero d v b = record { sound = tt; items = refl }
+resets-follow p z zl (suc n) d v b =
+    let r : Follows p (storeView (reset d z) v) (map (λ e. reset e z) (upFrom (suc d) n)) (resets z (suc d) n) = resets-follow p z zl n (suc d) (storeView (reset d z) v) (omega arith) in
+    record { sound = ((omega arith, zl), r .sound); items = ap (λ (y : List m-Store). m-reset d z ∷ y) (r .items) }
+
+pub reset-follow : (p : Params) (v : View) (z : ℕ) → z < p .Z → Follows p v (resetStores p z) (resets z 0 (p .N))
+unfolding resetStores zoneOn drivesOf below
+reset-follow p v z zl = resets-follow p z zl (p .N) 0 v (omega arith)
+
+-- ---- memory, when a segment is emptied that isn't the open one
+
+pub emptied-rel : (p : Params) (h : Ranged p) (g : Ghost) (v u : m-View) (st : State) (fl : List ℕ) (M : Mem) → MemOk (parOf p h) g v M → Rel p v st fl M
+    → (M .is-open ≡ true → (e : ℕ) → u e (M .zone) ≡ v e (M .zone)) → Rel p u st fl M
+emptied-rel p h g v u st fl M m R same = record {
+  long = R .long;
+  healthy = R .healthy;
+  is-open = R .is-open;
+  zone = R .zone;
+  next = R .next;
+  stamp = R .stamp;
+  serial = R .serial;
+  stamp-fits = R .stamp-fits;
+  serial-fits = R .serial-fits;
+  flying = R .flying;
+  slot = λ i il q. let o : M .is-open ≡ true = m .flies (stripeIn st i) (R .flying i il q) .0 in
+      slot-keep p h (λ e. v e (M .zone)) (λ e. u e (M .zone)) (slotBlock p fl i) (slotBlock p fl i) (entryIn st i) (entryIn st i) (offsetIn st i) (offsetIn st i)
+      (stripeIn st i) (stripeIn st i) (filledIn st i) (filledIn st i) (landedIn st i) (landedIn st i) (M .F (stripeIn st i))
+      (M .ready (stripeIn st i)) refl refl refl (λ e el. refl) (λ e el. refl) (λ e el. refl)
+      (λ e j t el w. subst (λ (y : List Item). Off y j t) (sym (same o e)) w) (λ e x el w. subst (λ (y : List Item). In (chunk (stripeIn st i) x) y) (same o e) w) (R .slot i il q);
+  once = R .once;
+  flies = R .flies;
+  whole = λ o x l f e el. let w : (y : Val) × In (chunk x y) (v e (M .zone)) = R .whole o x l f e el in (w .0, subst (λ (y : List Item). In (chunk x (w .0)) y) (sym (same o e)) (w .1));
+  busy = R .busy;
+}
+
+-- what reclaim does, where it isn't refused
+unfoldable pub reclaimPlan : Params → View → Memory → Plan
+reclaimPlan p v m =
+    cond (isNil (victimLive (victim p v (m .addresses)))) (resetPlan p m (victimSegment (victim p v (m .addresses)))) (copyPlan p v m (firstOr 0 (idle p v (m .state) (victim p v (m .addresses)))))
+
+module _ (p : Params) (h : Ranged p) (v : View) (m : Memory) (ss : List Send) (n : ℕ) (l : Live p h v (m .state) (m .inflight) (m .addresses) ss n) where
+  abbrev st : State
+  st = m .state
+
+  abbrev fl : List ℕ
+  fl = m .inflight
+
+  I : Inv (parOf p h) (mst (l .g) (itemsIn p v) (l .a) (l .c) (run (l .M)))
+  I = live-inv p h v (m .state) (m .inflight) (m .addresses) ss n l
+
+  abbrev σ : m-State
+  σ = mst (l .g) (itemsIn p v) (l .a) (l .c) (run (l .M))
+
+  -- ---- reset
+
+  pub reset-ok :
+      (z : ℕ)
+      → z < p .Z
+      → ((d : ℕ) → d < p .N → pointerAt v d z ≡ capacity p)
+      → liveIn p (placesIn p (m .addresses)) z ≡ []
+      → stateOk p (m .state) ≡ true
+      → CallOk p h (l .g) v (resetPlan p m z) ss ss n
+  unfolding resetPlan
+  reset-ok z zl full dead ok = record {
+    sound = follow .sound;
+    done = live-after p h v st fl (m .addresses) ss n l (resetStores p z) (follow .sound) (l .g) (l .a) (l .c) (l .M) (l .T) st fl (m .addresses) ss (later-same (l .g))
+        (go-view (parOf p h) σ (l .g) (applyAll (itemsIn p v) (resets z 0 (p .N))) u (l .a) (l .c) (run (l .M)) (l .T) (l .T) (sym items)
+        (go-step (parOf p h) σ (mst (l .g) (applyAll (itemsIn p v) (resets z 0 (p .N))) (l .a) (l .c) (run (l .M))) (l .T) (reset-done σ (l .M) z refl silent apart)))
+        (emptied-rel p h (l .g) (itemsIn p v) u st fl (l .M) (I .mode) (l .rel)
+        (λ o e. ap (λ (x : m-View). x e (l .M .zone)) items ∙ resets-other (itemsIn p v) z 0 (p .N) e (l .M .zone) (apart o)))
+        (l .reached .logged) (l .waits) (l .reached .marked) (l .reached .still)
+        (table-left p h v st fl (m .addresses) ss n l ok z dead u facts-u
+        (λ e y b. ap (λ (x : m-View). x e y) items ∙ resets-other (itemsIn p v) z 0 (p .N) e y b));
+    cut = λ k. live-cut p h v st fl (m .addresses) ss n l (resetStores p z) (follow .sound) k (l .g) (later-same (l .g))
+        (go-view (parOf p h) σ (l .g) (applyAll (itemsIn p v) (take k (resets z 0 (p .N)))) (itemsIn p (storeAll storeView (take k (resetStores p z)) v)) (l .a) (l .c) off (l .T) (l .T)
+        (sym (follows-cut p h v (resetStores p z) (resets z 0 (p .N)) k (l .reached .shape) follow))
+        (go-step (parOf p h) σ (mst (l .g) (applyAll (itemsIn p v) (take k (resets z 0 (p .N)))) (l .a) (l .c) off) (l .T) (reset-cut σ (l .M) z k refl silent)));
+  }
+    where
+      follow : Follows p v (resetStores p z) (resets z 0 (p .N))
+      follow = reset-follow p v z zl
+
+      u : m-View
+      u = itemsIn p (storeAll storeView (resetStores p z) v)
+
+      items : u ≡ applyAll (itemsIn p v) (resets z 0 (p .N))
+      items = follows-all p h v (resetStores p z) (resets z 0 (p .N)) (l .reached .shape) follow
+
+      silent : Quiet (parOf p h) (l .g) (itemsIn p v) z
+      silent = quiet p h v st fl (m .addresses) ss n l ok z dead
+
+      facts-u : Facts (parOf p h) (l .g) u
+      facts-u = subst (Facts (parOf p h) (l .g)) (sym items) (reclaimed-end (parOf p h) (l .g) z (I .mode .none) (I .mode .no-pair) (itemsIn p v) (I .facts) silent)
+
+      apart : l .M .is-open ≡ true → l .M .zone ≢ z
+      apart = open-unsealed p h v st fl (m .addresses) ss n l ok z zl full
+
+  -- ---- copy
+
+  module _ (fits : length (m .inflight) ≡ inflightLen p) (q : ℕ) (held? : Has q (placesIn p (m .addresses))) (A : Asked p v (m .state)) where
+    k : OnDrives p h (l .g) v
+    k = live-drives p h v st fl (m .addresses) ss n l
+
+    none? : p .N ≤ l .g .un
+    none? = live-none p h v st fl (m .addresses) ss n l
+
+    found : (a : ℕ) × Entry p h (l .g) (itemsIn p v) q a
+    found =
+        let a : (a : ℕ) × (a < p .L) × (placeAt (m .addresses) a ≡ q) × (q ≢ neverPlace) = place-has p (m .addresses) q held? in
+        ⊎-elim (λ (w : (placeAt (m .addresses) (a .0) ≡ neverPlace) × (l .g .base (a .0) ≡ 0)). absurd (a .3 (sym (a .2) ∙ w .0)))
+        (λ (w : Entry p h (l .g) (itemsIn p v) (placeAt (m .addresses) (a .0)) (a .0)). (a .0, subst (λ (x : ℕ). Entry p h (l .g) (itemsIn p v) x (a .0)) (a .2) w)) (l .table (a .0) (a .1))
+
+    -- the block and the record
+    abbrev b : List ℕ
+    b = chunkAt v (placeDrive p q) (placeZone p q) (placeBlock p q) .block
+
+    abbrev r : Rec
+    r = recordAt p v 0 (placeDrive p q) (placeSegment p q) (placeBlock p q - 1)
+
+    bl : length b ≡ p .B
+    bl = entry-long p h (l .g) v k none? q (found .0) (found .1)
+
+    counts : Counted (parOf p h) (l .g .hd) (itemsIn p v) (l .g .un) (valueOf b r)
+    unfolding placeSegment
+    counts = subst (λ (x : Val). Counted (parOf p h) (l .g .hd) (itemsIn p v) (l .g .un) x) (sym (entry-value p h (l .g) v k none? q (found .0) (found .1))) (found .1 .counts)
+
+    abbrev i : ℕ
+    i = slotFor p (m .state)
+
+    abbrev st₂ : State
+    st₂ = begunBy p (m .state) (openedBy p v (m .state))
+
+    abbrev v₂ : View
+    v₂ = storeAll storeView (sendStores p v (m .state)) v
+
+    abbrev aim : Target p h (l .g) v (l .a) (l .c) (m .state) (m .inflight) (l .M) (sendStores p v (m .state)) (begunBy p (m .state) (openedBy p v (m .state))) (slotFor p (m .state))
+    aim = target p h (l .g) v (l .a) (l .c) (m .state) (m .inflight) (l .M) (l .rel) (live-inv p h v (m .state) (m .inflight) (m .addresses) ss n l) (l .reached .shape) A
+
+    I₂ : Inv (parOf p h) (mst (aim .g′) (itemsIn p v₂) (l .a) (l .c) (run (aim .M₂)))
+    I₂ = go-inv (parOf p h) σ (mst (aim .g′) (itemsIn p v₂) (l .a) (l .c) (run (aim .M₂))) noTrack noTrack (aim .go noTrack) I
+
+    abbrev Mt : Mem
+    Mt = takenMem p h (aim .g′) (itemsIn p v₂) (l .a) (l .c) st₂ fl (aim .M₂) (aim .U) (aim .rel) I₂ fits i (aim .low) (aim .used?) (aim .room) (r .address) (r .stamp) 0 b bl
+
+    same-value : valueOf b r ≡ valueOf b (mkRec (r .address) (r .stamp) (stripeIn st₂ i))
+    unfolding valueOf
+    same-value = refl
+
+    pub copy-ok : CallOk p h (l .g) v (copyPlan p v m q) ss ss n
+    unfolding copyPlan sending sendStores
+    copy-ok = record {
+      sound = aim .sound;
+      done =
+          live-after p h v st fl (m .addresses) ss n l (sendStores p v st) (aim .sound) (aim .g′) (l .a) (l .c) Mt (l .T)
+          (placed p st₂ fl i (r .address) (r .stamp) 0 b .state) (placed p st₂ fl i (r .address) (r .stamp) 0 b .inflight) (m .addresses) ss
+          (aim .later)
+          (go-then (parOf p h) σ (mst (aim .g′) (itemsIn p v₂) (l .a) (l .c) (run (aim .M₂))) (mst (aim .g′) (itemsIn p v₂) (l .a) (l .c) (run Mt)) (l .T) (l .T) (l .T) (aim .go (l .T))
+          (copied-go p h (aim .g′) (itemsIn p v₂) (l .a) (l .c) st₂ fl (aim .M₂) (aim .U) (aim .rel) I₂ fits i (aim .low) (aim .used?) (aim .room) (r .address) (r .stamp) 0 b bl (l .T)
+          (subst (λ (y : Val). Counted (parOf p h) (aim .g′ .hd) (itemsIn p v₂) (aim .g′ .un) y) same-value (aim .counts (valueOf b r) counts .0))))
+          (taken-rel p h (aim .g′) (itemsIn p v₂) (l .a) (l .c) st₂ fl (aim .M₂) (aim .U) (aim .rel) I₂ fits i (aim .low) (aim .used?) (aim .room) (r .address) (r .stamp) 0 b bl (aim .cover))
+          (l .reached .logged)
+          (λ j x y. let w : Waiting p st (l .M) (l .T .log j) (sendAt ss j .stripe) × InV (l .T .log j) (l .g .sent) × (l .T .pos (l .T .log j .stamp) ≡ j) = l .waits j x y in (
+            taken-waits p h (aim .g′) (itemsIn p v₂) (l .a) (l .c) st₂ fl (aim .M₂) (aim .U) (aim .rel) I₂ fits i (aim .low) (aim .used?) (aim .room)
+                (r .address) (r .stamp) 0 b bl (aim .cover) (inl refl)
+                (l .T .log j) (sendAt ss j .stripe) (aim .waits (l .T .log j) (sendAt ss j .stripe) (w .0)),
+            subst (λ (z : List Val). InV (l .T .log j) z) (sym (aim .sent)) (w .1),
+            w .2,
+          ))
+          (l .reached .marked) (l .reached .still)
+          (table-to p h (l .g) (aim .g′) (itemsIn p v) (itemsIn p v₂) (m .addresses) (aim .base)
+          (target-entries p h (l .g) v (l .a) (l .c) (m .state) (m .inflight) (l .M) (sendStores p v (m .state)) st₂ i aim) (l .table));
+      cut = λ k. live-cut p h v st fl (m .addresses) ss n l (sendStores p v st) (aim .sound) k (aim .cut k .0) (aim .cut k .1) (aim .cut k .2 (l .T));
+    }
+
+  -- ---- the call
+
+  -- the checks that a copy passes
+  copy-asked : mustWait p st ≡ false → noSerial p st ≡ false → (opens p st && scarce p v 1) ≡ false → stateOk p st ≡ true → Asked p v st
+  copy-asked w s o ok = record {
+    ok = ok;
+    waits = w;
+    serial = s;
+    room = λ e. room (and-fails (opens p st) (scarce p v 1) o e);
+  }
+    where
+      room : scarce p v 1 ≡ false → 2 ≤ length (emptyZones p v)
+      room x = leb-false (length (emptyZones p v)) 1 (unfold scarce in x)
+
+  pub reclaim-ok : length (m .inflight) ≡ inflightLen p → (long : Bool) → firstRefusal (reclaimChecks p long v m (victim p v (m .addresses))) ≡ none → CallOk p h (l .g) v (reclaimPlan p v m) ss ss n
+  unfolding reclaimChecks
+  reclaim-ok fits long e = go (victim p v (m .addresses)) refl (passes (reclaimChecks p long v m (victim p v (m .addresses))) e)
+    where
+      live : Opt Victim → Bool
+      live w = not (isNil (victimLive w))
+
+      Q : Opt Victim → Type 0
+      Q w =
+          (not (inRange p) ≡ false)
+          × ((not long ≡ false)
+          × ((not (eqb (st .missing) 0) ≡ false)
+          × (((isNone w || (not (isNil (victimLive w)) && isNil (idle p v st w))) ≡ false)
+          × (((not (isNil (victimLive w)) && noSerial p st) ≡ false)
+          × (((not (isNil (victimLive w)) && mustWait p st) ≡ false) × (((not (isNil (victimLive w)) && opens p st && scarce p v 1) ≡ false)
+          × ((stateFaults p st ++ tableFaults p (m .addresses) ++ map (λ q. victimSegment w) (keep (λ q. not (between 1 (p .S) (placeBlock p q))) (victimLive w)) ≡ []) × Unit {0})))))))
+
+      plan : Opt Victim → Plan
+      plan w = cond (isNil (victimLive w)) (resetPlan p m (victimSegment w)) (copyPlan p v m (firstOr 0 (idle p v st w)))
+
+      some-victim : (w : Victim) → VictimIs p v (m .addresses) w → Q (some w) → CallOk p h (l .g) v (plan (some w)) ss ss n
+      some-victim w vi q = pick? (test (isNil (victimLive (some w))))
+        where
+          ok : stateOk p st ≡ true
+          ok =
+              faults-none p st (append-none (stateFaults p st) (tableFaults p (m .addresses))
+              (append-none (stateFaults p st ++ tableFaults p (m .addresses))
+              (map (λ q. victimSegment (some w)) (keep (λ q. not (between 1 (p .S) (placeBlock p q))) (victimLive (some w))))
+              (q .1 .1 .1 .1 .1 .1 .1 .0) .0) .0)
+
+          seg : victimSegment (some w) ≡ w .segment
+          seg = unfold victimSegment in refl
+
+          alive : victimLive (some w) ≡ w .live
+          alive = unfold victimLive in refl
+
+          pick? : Test (isNil (victimLive (some w))) → CallOk p h (l .g) v (plan (some w)) ss ss n
+          pick? (yes! t) =
+              subst (λ (y : Plan). CallOk p h (l .g) v y ss ss n)
+              (sym (cond-true (isNil (victimLive (some w))) (resetPlan p m (victimSegment (some w)))
+              (copyPlan p v m (firstOr 0 (idle p v st (some w)))) t))
+              (subst (λ (z : ℕ). CallOk p h (l .g) v (resetPlan p m z) ss ss n) (sym seg)
+              (reset-ok (w .segment) (vi .low) (vi .sealed) (sym (vi .live) ∙ sym alive ∙ isNil-nil (victimLive (some w)) t) ok))
+          pick? (no! t) =
+              subst (λ (y : Plan). CallOk p h (l .g) v y ss ss n)
+              (sym (cond-false (isNil (victimLive (some w))) (resetPlan p m (victimSegment (some w)))
+              (copyPlan p v m (firstOr 0 (idle p v st (some w)))) t))
+              (copy-ok fits (firstOr 0 (idle p v st (some w))) held?
+              (copy-asked (and-fails (live (some w)) (mustWait p st) (q .1 .1 .1 .1 .1 .0) on)
+              (and-fails (live (some w)) (noSerial p st) (q .1 .1 .1 .1 .0) on) room ok))
+            where
+              on : live (some w) ≡ true
+              on = ap not t
+
+              room : (opens p st && scarce p v 1) ≡ false
+              room = spread (live (some w)) (opens p st) (scarce p v 1) (q .1 .1 .1 .1 .1 .1 .0) on
+                where
+                  spread : (a b c : Bool) → (a && b && c) ≡ false → a ≡ true → (b && c) ≡ false
+                  spread true b c e f = e
+                  spread false b c e f = true≢false f
+
+              some-idle : isNil (idle p v st (some w)) ≡ false
+              some-idle = and-fails (live (some w)) (isNil (idle p v st (some w))) (or-r (isNone (some w)) (live (some w) && isNil (idle p v st (some w))) (q .1 .1 .1 .0)) on
+
+              held? : Has (firstOr 0 (idle p v st (some w))) (placesIn p (m .addresses))
+              held? = live-has p (placesIn p (m .addresses)) (w .segment) (firstOr 0 (idle p v st (some w))) (subst (λ (y : List ℕ). Has (firstOr 0 (idle p v st (some w))) y) (alive ∙ vi .live)
+                  (from-idle (firstOr 0 (idle p v st (some w))) (firstOr-has 0 (idle p v st (some w)) some-idle)))
+                where
+                  from-idle : (x : ℕ) → Has x (idle p v st (some w)) → Has x (victimLive (some w))
+                  from-idle x i = unfold idle in keep-has (λ q. not (flying p v st q)) x (victimLive (some w)) i .0
+
+      none-taken : Q none → CallOk p h (l .g) v (plan none) ss ss n
+      none-taken q = true-false (isNone none) (unfold isNone in refl) (or-l (isNone none) (not (isNil (victimLive none)) && isNil (idle p v st none)) (q .1 .1 .1 .0))
+
+      go : (w : Opt Victim) → victim p v (m .addresses) ≡ w → Q (victim p v (m .addresses)) → CallOk p h (l .g) v (reclaimPlan p v m) ss ss n
+      go none e q = subst (λ (y : Plan). CallOk p h (l .g) v y ss ss n) (sym (is ∙ ap plan e)) (none-taken (subst Q e q))
+        where
+          is : reclaimPlan p v m ≡ plan (victim p v (m .addresses))
+          is = unfold reclaimPlan in refl
+      go (some w) e q = subst (λ (y : Plan). CallOk p h (l .g) v y ss ss n) (sym (is ∙ ap plan e)) (some-victim w (victim-is p v (m .addresses) w e) (subst Q e q))
+        where
+          is : reclaimPlan p v m ≡ plan (victim p v (m .addresses))
+          is = unfold reclaimPlan in refl

@@ -1,0 +1,185 @@
+-- A refused call, and a restart that isn't in order, leave a history as it is. Assumes nothing.
+use mathlib.Core.Path.{_≡_, refl, sym, ap, ap₂, _∙_}
+use mathlib.Core.List.{List, [], _∷_, _++_}
+use mathlib.Core.Bool.{Bool, true, false, cond, not, _&&_, _||_}
+use Prim.Native.Nat.{ℕ}
+use borrow.Author.Tests.{not-false}
+use lib.Dec.{eqb}
+use lib.ListN.{length}
+use Rattle.spec.specs.declared.Params.{Params}
+use Rattle.spec.specs.declared.Answer.{Answer}
+use Rattle.spec.specs.declared.Answer.the-variants.{Refused, Filled, Rebuilt}
+use Rattle.spec.specs.Answers.{isRefused, isCut, finished}
+use Rattle.spec.specs.Calls.{Check, ruled, firstRefusal, Plan, mkPlan, decided, After, mkAfter, outcome}
+use Rattle.spec.specs.Calls.Check.{rule, zones}
+use Rattle.spec.specs.Closing.{closeChecks, closePlan, closeVerdict}
+use Rattle.spec.specs.Counts.{lastCount}
+use Rattle.spec.specs.Drives.{View, Disk, storeDisk}
+use Rattle.spec.specs.Engine.{Call, storeCount, lentBlock, verdict, lentOk, callOn, callDisk}
+use Rattle.spec.specs.Engine.Call.{write, land, close, reclaim, read, fill, restart, rebuild}
+use Rattle.spec.specs.Faults.{imageChecks}
+use Rattle.spec.specs.History.{World, mkWorld, callOf, inOrder, swapped, before, happens, worldAfter, sentAfter, untrustedAfter, Mark, Hist, marked, step}
+use Rattle.spec.specs.History.Event.{calls, boots}
+use Rattle.spec.specs.Landing.{landChecks, landPlan, landVerdict}
+use Rattle.spec.specs.Lists.{Opt, isNil, firstOr}
+use Rattle.spec.specs.Lists.Opt.{some}
+use Rattle.spec.specs.Memory.{Memory, stateFaults}
+use Rattle.spec.specs.Params.{inRange, named}
+use Rattle.spec.specs.Read.{lookup, foundFaults, decodeFaults, readPiece, readAnswer, readChecks, readVerdict, fillVerdict}
+use Rattle.spec.specs.Rebuild.{rebuildChecks, rebuildStores, rebuildVerdict}
+use Rattle.spec.specs.Reclaim.{victim, victimSegment, victimLive, idle, reclaimChecks, resetPlan, copyPlan, reclaimVerdict}
+use Rattle.spec.specs.Restart.{freeZones, namesDrive, rewrites, restartChecks, restartPlan, restartVerdict}
+use Rattle.spec.specs.Segments.{segments, greatestSerial}
+use Rattle.spec.specs.Write.{writeChecks, writePlan, writeVerdict}
+use Rattle.law_basic.specs.Ranges.{Test, test, and-both}
+use Rattle.law_basic.specs.Ranges.Test.{yes!, no! }
+use Rattle.law_views.specs.Views.{seen}
+use Rattle.proof_crash_items.specs.Member.{true-false, cond-true, cond-false}
+use Rattle.proof_crash_machine.specs.Exec.{true≢false}
+use Rattle.proof_crash_machine.specs.Untrusted.{untrusted}
+use Rattle.proof_crash_calls.specs.Base.{or-l, or-r, refuses}
+use Rattle.proof_crash_calls.specs.Join.{refused-unfinished, sent-refused}
+
+-- ---- every verdict is decided by checks
+
+pub record Decides (p : Params) (long : Bool) (v : View) (m : Memory) (c : Call) : Type 0 where
+  pub checks : List Check
+  pub plan : Plan
+  pub is : verdict p long v m c ≡ decided (firstRefusal checks) plan
+
+unfoldable pub decides : (p : Params) (long : Bool) (v : View) (m : Memory) (c : Call) → Decides p long v m c
+unfolding verdict writeVerdict landVerdict closeVerdict reclaimVerdict readVerdict fillVerdict restartVerdict rebuildVerdict
+decides p long v m (write a b n) = record { checks = writeChecks p long v m a b; plan = writePlan p v m a b; is = refl }
+decides p long v m (land d s n) = record { checks = landChecks p long v m d s; plan = landPlan p v m d s; is = refl }
+decides p long v m (close n) = record { checks = closeChecks p long v m; plan = closePlan p m; is = refl }
+decides p long v m (reclaim n) = record {
+  checks = reclaimChecks p long v m (victim p v (m .addresses));
+  plan =
+      cond (isNil (victimLive (victim p v (m .addresses)))) (resetPlan p m (victimSegment (victim p v (m .addresses)))) (copyPlan p v m (firstOr 0 (idle p v (m .state) (victim p v (m .addresses)))));
+  is = refl;
+}
+decides p long v m (read a) = record {
+  checks = readChecks p long a ++ (zones (stateFaults p (m .state) ++ foundFaults p v (m .state .missing) (lookup p (m .state .missing) (m .addresses) a)) ∷ []);
+  plan = mkPlan [] (readAnswer p (lookup p (m .state .missing) (m .addresses) a)) m [];
+  is = refl;
+}
+decides p long v m (fill a b) = record {
+  checks = readChecks p (long && eqb (length b) (p .B)) a
+      ++ (zones (stateFaults p (m .state) ++ foundFaults p v (m .state .missing) (lookup p (m .state .missing) (m .addresses) a)) ∷ zones
+      (decodeFaults p v (m .state .missing) (m .compact) (lookup p (m .state .missing) (m .addresses) a)) ∷ []);
+  plan = mkPlan [] Filled m (readPiece p v (m .state .missing) (m .compact) (lookup p (m .state .missing) (m .addresses) a) .block);
+  is = refl;
+}
+decides p long v m (restart d n) = record { checks = restartChecks p long v d (segments p v (named d)); plan = restartPlan p v d (segments p v (named d)) (m .inflight); is = refl }
+decides p long v m (rebuild d n) = record { checks = rebuildChecks p long v m d (segments p v (named d)); plan = mkPlan (rebuildStores p d (segments p v (named d))) Rebuilt m []; is = refl }
+
+-- what a call leaves where its checks refuse it
+pub refused-after :
+    (p : Params) (k : Disk) (m : Memory) (c : Call) (a : Answer)
+    → firstRefusal (decides p (lentOk p k m) (seen p k) m c .checks) ≡ some a
+    → callDisk p k m c ≡ mkAfter a k m (lentBlock c)
+unfolding callDisk callOn
+refused-after p k m c a e =
+    ap (outcome p (storeDisk p) (storeCount c) k m (lentBlock c))
+    (decides p (lentOk p k m) (seen p k) m c .is ∙ ap (λ (o : Opt Answer). decided o (decides p (lentOk p k m) (seen p k) m c .plan)) e)
+    ∙ done
+  where
+    done : outcome p (storeDisk p) (storeCount c) k m (lentBlock c) (decided (some a) (decides p (lentOk p k m) (seen p k) m c .plan)) ≡ mkAfter a k m (lentBlock c)
+    done = unfold decided outcome in refl
+
+-- ---- a history stays as it is
+
+untrusted-refused : (c : Call) (a : Answer) (us : ℕ) → isRefused a ≡ true → untrustedAfter c a us ≡ us
+unfolding untrustedAfter
+untrusted-refused (write x y n) a us e = refl
+untrusted-refused (land d s n) a us e = refl
+untrusted-refused (close n) a us e = refl
+untrusted-refused (reclaim n) a us e = refl
+untrusted-refused (read x) a us e = refl
+untrusted-refused (fill x y) a us e = refl
+untrusted-refused (restart d n) a us e = cond-true (isRefused a) us (named d) e
+untrusted-refused (rebuild d n) a us e = cond-true (isRefused a) us (cond (isCut a) (named d) 0) e
+
+mark-refused : (a : Answer) (w : World) (j : ℕ) (o : Opt Mark) → isRefused a ≡ true → marked (finished a) w j o ≡ o
+mark-refused a w j o e = go (finished a) (refused-unfinished a e)
+  where
+    go : (b : Bool) → b ≡ false → marked b w j o ≡ o
+    go true q = true≢false (sym q)
+    go false q = unfold marked in refl
+
+-- a call that is refused
+pub refused-step :
+    (p : Params) (s : Hist) (c : Call) (a : Answer)
+    → firstRefusal (decides p (lentOk p (s .world .disk) (s .world .memory)) (seen p (s .world .disk)) (s .world .memory) c .checks) ≡ some a
+    → step p s (calls c) ≡ s
+unfolding step happens before callOf worldAfter
+refused-step p s c a e = λ j. record {
+  world = mkWorld (r j .drives) (r j .memory);
+  sends = (ap (λ (x : After Disk). sentAfter c (x .answer) (s .sends)) r ∙ sent-refused c a (s .sends) no) j;
+  untrusted = (ap (λ (x : After Disk). untrustedAfter c (x .answer) (s .untrusted)) r ∙ untrusted-refused c a (s .untrusted) no) j;
+  mark = (ap (λ (x : After Disk). marked (finished (x .answer)) (mkWorld (x .drives) (x .memory)) (length (sentAfter c (x .answer) (s .sends))) (s .mark)) r
+      ∙ mark-refused a (mkWorld (s .world .disk) (s .world .memory)) (length (sentAfter c a (s .sends))) (s .mark) no) j;
+}
+  where
+    no : isRefused a ≡ true
+    no = refuses (decides p (lentOk p (s .world .disk) (s .world .memory)) (seen p (s .world .disk)) (s .world .memory) c .checks) a e
+
+    r : callDisk p (s .world .disk) (s .world .memory) c ≡ mkAfter a (s .world .disk) (s .world .memory) (lentBlock c)
+    r = refused-after p (s .world .disk) (s .world .memory) c a e
+
+-- ---- a restart that isn't in order
+
+out-of-order : (p : Params) (k : Disk) (m : Memory) (d n : ℕ) → inOrder p (mkWorld k m) d ≡ false → (a : Answer) × (firstRefusal (decides p (lentOk p k m) (seen p k) m (restart d n) .checks) ≡ some a)
+unfolding inOrder decides restartChecks
+out-of-order p k m d n e = go (test (not (inRange p) || not (namesDrive p d))) (test (not (lentOk p k m)))
+  where
+    cs : List Check
+    cs =
+        imageChecks p (seen p k) (named d) (segments p (seen p k) (named d)) ++ (rule 6
+        (rewrites p (named d) (segments p (seen p k) (named d)) && eqb (greatestSerial (segments p (seen p k) (named d))) lastCount)
+        ∷ rule 8 (rewrites p (named d) (segments p (seen p k) (named d)) && isNil (freeZones p (segments p (seen p k) (named d)))) ∷ [])
+
+    first : (b : Bool) → b ≡ true → (rest : List Check) → firstRefusal (rule 1 b ∷ rest) ≡ some (Refused 1)
+    first b q rest = unfold firstRefusal in (ap (λ (t : Bool). ruled 1 t (firstRefusal rest)) q ∙ (unfold ruled in refl))
+
+    second : (b c : Bool) → b ≡ false → c ≡ true → (rest : List Check) → firstRefusal (rule 1 b ∷ rule 2 c ∷ rest) ≡ some (Refused 2)
+    second b c q w rest = unfold firstRefusal in (ap₂ (λ (t u : Bool). ruled 1 t (ruled 2 u (firstRefusal rest))) q w ∙ (unfold ruled in refl))
+
+    go : Test (not (inRange p) || not (namesDrive p d)) → Test (not (lentOk p k m))
+        → (a : Answer) × (firstRefusal (rule 1 (not (inRange p) || not (namesDrive p d)) ∷ rule 2 (not (lentOk p k m)) ∷ cs) ≡ some a)
+    go (yes! x) y = (Refused 1, first (not (inRange p) || not (namesDrive p d)) x (rule 2 (not (lentOk p k m)) ∷ cs))
+    go (no! x) (yes! y) = (Refused 2, second (not (inRange p) || not (namesDrive p d)) (not (lentOk p k m)) x y cs)
+    go (no! x) (no! y) = true-false (inRange p && namesDrive p d && lentOk p k m)
+        (and-both (inRange p && namesDrive p d) (lentOk p k m)
+        (and-both (inRange p) (namesDrive p d) (not-false (inRange p) (or-l (not (inRange p)) (not (namesDrive p d)) x))
+        (not-false (namesDrive p d) (or-r (not (inRange p)) (not (namesDrive p d)) x))) (not-false (lentOk p k m) y)) e
+
+-- it begins no run: the history is as it was
+pub boot-step : (p : Params) (s : Hist) (d n : ℕ) (m : Memory) (im ps : List ℕ) → inOrder p (mkWorld (s .world .disk) m) d ≡ false → step p s (boots d n m im ps) ≡ s
+unfolding step happens before callOf worldAfter
+boot-step p s d n m im ps e = λ j. record {
+  world =
+      cond-false (inOrder p (mkWorld (s .world .disk) m) d) (mkWorld (callDisk p (u .disk) (u .memory) (restart d n) .drives) (callDisk p (u .disk) (u .memory) (restart d n) .memory)) (s .world) e j;
+  sends = (ap (λ (x : After Disk). sentAfter (restart d n) (x .answer) (s .sends)) r ∙ sent-refused (restart d n) (o .0) (s .sends) no) j;
+  untrusted = (ap (λ (x : After Disk). untrustedAfter (restart d n) (x .answer) (s .untrusted)) r ∙ untrusted-refused (restart d n) (o .0) (s .untrusted) no) j;
+  mark = (ap (λ (x : After Disk). marked (finished (x .answer)) w (length (sentAfter (restart d n) (x .answer) (s .sends))) (s .mark)) r
+      ∙ mark-refused (o .0) w (length (sentAfter (restart d n) (o .0) (s .sends))) (s .mark) no) j;
+}
+  where
+    u : World
+    u = cond (inOrder p (mkWorld (s .world .disk) m) d) (mkWorld (swapped p (s .world .disk) d im ps) m) (mkWorld (s .world .disk) m)
+
+    w : World
+    w = cond (inOrder p (mkWorld (s .world .disk) m) d) (mkWorld (callDisk p (u .disk) (u .memory) (restart d n) .drives) (callDisk p (u .disk) (u .memory) (restart d n) .memory)) (s .world)
+
+    same : u ≡ mkWorld (s .world .disk) m
+    same = cond-false (inOrder p (mkWorld (s .world .disk) m) d) (mkWorld (swapped p (s .world .disk) d im ps) m) (mkWorld (s .world .disk) m) e
+
+    o : (a : Answer) × (firstRefusal (decides p (lentOk p (s .world .disk) m) (seen p (s .world .disk)) m (restart d n) .checks) ≡ some a)
+    o = out-of-order p (s .world .disk) m d n e
+
+    no : isRefused (o .0) ≡ true
+    no = refuses (decides p (lentOk p (s .world .disk) m) (seen p (s .world .disk)) m (restart d n) .checks) (o .0) (o .1)
+
+    r : callDisk p (u .disk) (u .memory) (restart d n) ≡ mkAfter (o .0) (s .world .disk) m (lentBlock (restart d n))
+    r = ap (λ (x : World). callDisk p (x .disk) (x .memory) (restart d n)) same ∙ refused-after p (s .world .disk) m (restart d n) (o .0) (o .1)

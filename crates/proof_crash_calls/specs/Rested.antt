@@ -1,0 +1,86 @@
+-- A healthy run as a finished restart leaves it: nothing in flight. Assumes nothing.
+use mathlib.Core.Path.{_≡_, refl}
+use mathlib.Core.List.{List}
+use mathlib.Core.Bool.{Bool, true, false, not}
+use mathlib.Core.Logic.{_≢_}
+use Prim.Native.Nat.{ℕ, suc, _^_, _<_}
+use native.Mathlib.Omega.{arith}
+use lib.Dec.{eqb}
+use lib.ListN.{length, length-replicate}
+use Rattle.spec.specs.declared.Params.{Params}
+use Rattle.spec.specs.Demands.{sendAt}
+use Rattle.spec.specs.Drives.{View}
+use Rattle.spec.specs.History.{Send}
+use Rattle.spec.specs.Memory.{idleState}
+use Rattle.law_basic.specs.Geometry.{Ranged}
+use Rattle.proof_crash_items.specs.Items.{itemsIn}
+use Rattle.proof_crash_items.specs.Member.{true-false, false-of}
+use Rattle.proof_crash_items.specs.RestMem.{idle-filled}
+use Rattle.proof_crash_machine.specs.Exec.{true≢false}
+use Rattle.proof_crash_machine.specs.Facts.{Ghost}
+use Rattle.proof_crash_machine.specs.History.Mode.{run}
+use Rattle.proof_crash_machine.specs.Memory2.{restMem}
+use Rattle.proof_crash_machine.specs.Order.{Track}
+use Rattle.proof_crash_machine.specs.Val.{Val}
+use Rattle.proof_crash_machine.specs.View.Item.{chunk}
+use Rattle.proof_crash_machine.specs.View.{View as m-View, In}
+use Rattle.proof_crash_calls.specs.Held.{TableOk}
+use Rattle.proof_crash_calls.specs.Live.{Reached, Live}
+use Rattle.proof_crash_calls.specs.Rel.{Long, inUse, used-filled, Rel}
+
+idle-long : (live gone t sr opened next : ℕ) → Long (idleState live gone t sr opened next)
+unfolding idleState
+idle-long live gone t sr opened next = record {
+  numbers = length-replicate {A = ℕ} 8 0;
+  filled = length-replicate {A = ℕ} 8 0;
+  writes = length-replicate {A = ℕ} 8 0;
+  landed = length-replicate {A = ℕ} 8 0;
+  addresses = length-replicate {A = ℕ} 64 0;
+  stamps = length-replicate {A = ℕ} 64 0;
+  offsets = length-replicate {A = ℕ} 64 0;
+}
+
+pub idle-unused : (live gone t sr opened next i : ℕ) → inUse (idleState live gone t sr opened next) i ≡ false
+idle-unused live gone t sr opened next i = false-of (inUse (idleState live gone t sr opened next) i)
+    (λ q. let z : ⊥ = omega (arith, used-filled (idleState live gone t sr opened next) i q, idle-filled live gone t sr opened next i) in z)
+
+-- the state of a healthy restart, and the machine's memory: the open segment, if there is one, has the stripes below next on all drives, and not all S
+pub rest-rel : (p : Params) (v : m-View) (fl : List ℕ) (live t sr opened next : ℕ) (b : Bool) (z k : ℕ) → t < 256 ^ 8 → sr < 256 ^ 8
+    → b ≡ not (eqb opened 0) → (b ≡ true → opened ≡ suc z) → (b ≡ true → k ≡ next) → (b ≡ true → k ≢ p .S)
+    → (b ≡ true → (s : ℕ) → s < k → (d : ℕ) → d < p .N → (x : Val) × In (chunk s x) (v d z)) → Rel p v (idleState live 0 t sr opened next) fl (restMem b z k t sr)
+rest-rel p v fl live t sr opened next b z k tl sl eb ez ek few whole = record {
+  long = idle-long live 0 t sr opened next;
+  healthy = unfold idleState in refl;
+  is-open = unfold idleState in eb;
+  zone = unfold idleState in ez;
+  next = unfold idleState in ek;
+  stamp = unfold idleState in refl;
+  serial = unfold idleState in refl;
+  stamp-fits = unfold idleState in tl;
+  serial-fits = unfold idleState in sl;
+  flying = λ i il q. free i q;
+  slot = λ i il q. free i q;
+  once = λ i j il jl q w e. free i q;
+  flies = λ s q. true≢false q;
+  whole = λ o s l f. whole o s l;
+  busy = λ o e. absurd (few o e);
+}
+  where
+    free : {A : Type 0} (i : ℕ) → inUse (idleState live 0 t sr opened next) i ≡ true → A
+    free i q = true-false (inUse (idleState live 0 t sr opened next) i) q (idle-unused live 0 t sr opened next i)
+
+-- so a run begins
+pub rest-live : (p : Params) (h : Ranged p) (v : View) (fl tb : List ℕ) (ss : List Send) (n : ℕ) (g : Ghost) (a : List Val) (c : Bool) (T : Track) (live t sr opened next : ℕ) (b : Bool) (z k : ℕ)
+    → Reached p h v ss n g a c (run (restMem b z k t sr)) T → Rel p (itemsIn p v) (idleState live 0 t sr opened next) fl (restMem b z k t sr)
+    → ((j : ℕ) → j < length ss → sendAt ss j .waits ≡ false) → TableOk p h g (itemsIn p v) tb → Live p h v (idleState live 0 t sr opened next) fl tb ss n
+rest-live p h v fl tb ss n g a c T live t sr opened next b z k r R idle table = record {
+  g = g;
+  a = a;
+  c = c;
+  M = restMem b z k t sr;
+  T = T;
+  reached = r;
+  rel = R;
+  waits = λ j l q. true-false (sendAt ss j .waits) q (idle j l);
+  table = table;
+}

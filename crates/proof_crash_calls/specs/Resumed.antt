@@ -1,0 +1,86 @@
+-- Across a restart or a rebuild: log and acknowledgements stay, and what is read shows what was sent. Assumes nothing.
+use mathlib.Core.Path.{_≡_, sym, ap, _∙_, subst}
+use mathlib.Core.List.{List, map}
+use mathlib.Core.Bool.{Bool, true, false}
+use mathlib.Core.Logic.{inl, inr, ⊎-elim}
+use Prim.Native.Nat.{ℕ, _≤_, _<_}
+use native.Mathlib.Omega.{arith}
+use lib.ListN.{length}
+use Rattle.spec.specs.declared.Params.{Params}
+use Rattle.spec.specs.Drives.{View, Disk}
+use Rattle.spec.specs.Engine.{lentOk}
+use Rattle.spec.specs.History.{mkWorld, Send, forget, seenAt}
+use Rattle.spec.specs.History.Seen.{unwritten}
+use Rattle.spec.specs.Memory.{Memory}
+use Rattle.spec.specs.Params.{inRange}
+use Rattle.law_basic.specs.Geometry.{Ranged, addresses-all}
+use Rattle.law_views.specs.Views.{Whole, seen}
+use Rattle.proof_crash_items.specs.Cands.{stampRead}
+use Rattle.proof_crash_items.specs.Items.{itemsIn}
+use Rattle.proof_crash_items.specs.Ranges.{parOf}
+use Rattle.proof_crash_items.specs.Reading.{Tabled, ReadsBlock, seen-is}
+use Rattle.proof_crash_items.specs.Segs.{OnDrives}
+use Rattle.proof_crash_items.specs.Shape.{Shape}
+use Rattle.proof_crash_items.specs.Sound.{BytesOk}
+use Rattle.proof_crash_machine.specs.Facts.{Ghost, InV, Choice, Counted}
+use Rattle.proof_crash_machine.specs.History.{Mode, State as m-State, Inv}
+use Rattle.proof_crash_machine.specs.Order.{Track, Tracked}
+use Rattle.proof_crash_machine.specs.Val.{Val, pads}
+use Rattle.proof_crash_calls.specs.Go.{mst}
+use Rattle.proof_crash_calls.specs.Live.{Reached}
+use Rattle.proof_crash_calls.specs.Readings.{Shows}
+use Rattle.proof_crash_calls.specs.Sends.{length-forget, forget-logged}
+
+-- fewer blocks sent
+pub tracked-less : (σ τ : m-State) (T : Track) → ((x : Val) → InV x (τ .g .sent) → InV x (σ .g .sent)) → Tracked σ T → Tracked τ T
+tracked-less σ τ T f k = record { here = λ x m. k .here x (f x m); order = λ x y m n b. k .order x y (f x m) (f y n) b }
+
+module _ (p : Params) (h : Ranged p) (v : View) (ss : List Send) (n : ℕ) (g : Ghost) (a : List Val) (c : Bool) (m : Mode) (T : Track) (r : Reached p h v ss n g a c m T) where
+  -- other drives u, ghost, mode and mark, what was acknowledged is as it was
+  pub reached-to : (u : View) (g′ : Ghost) (c′ : Bool) (m′ : Mode) (n′ : ℕ) → Inv (parOf p h) (mst g′ (itemsIn p u) a c′ m′) → Shape p u → BytesOk p (g′ .un) u
+      → ((x : Val) → InV x (g′ .sent) → InV x (g .sent)) → n′ ≤ length ss → (length ss ≡ n′ → c′ ≡ false) → Reached p h u ss n′ g′ a c′ m′ T
+  reached-to u g′ c′ m′ n′ I sh by fewer low still = record {
+    inv = I;
+    tracked = tracked-less (mst g (itemsIn p v) a c m) (mst g′ (itemsIn p u) a c′ m′) T fewer (r .tracked);
+    shape = sh;
+    bytes = by;
+    logged = r .logged;
+    marked = low;
+    still = still;
+  }
+
+  -- the run is over
+  pub reached-forget : Reached p h v (map forget ss) n g a c m T
+  reached-forget = record {
+    inv = r .inv;
+    tracked = r .tracked;
+    shape = r .shape;
+    bytes = r .bytes;
+    logged = forget-logged p a T ss (r .logged);
+    marked = omega (arith, r .marked, length-forget ss);
+    still = λ e. r .still (sym (length-forget ss) ∙ e);
+  }
+
+-- what the read calls give on a restart's tables, m missing: the block of a value sent
+pub shows-read : (p : Params) (h : Ranged p) (g : Ghost) (dk : Disk) (w : Whole p dk) (k : OnDrives p h g (seen p dk)) (known : (x : Val) → InV x (g .sent) → (0 < x .stamp) × (x .addr < p .L))
+    (m : ℕ) (c : Choice (parOf p h) (g .un) m) (mem : Memory) (t : Tabled p (seen p dk) m mem) (h₁ : inRange p ≡ true) (h₂ : lentOk p dk mem ≡ true)
+    (a : ℕ) → a < p .L → Shows p (g .sent) (stampRead p h g (seen p dk) k m c) a (seenAt p (mkWorld dk mem) a)
+shows-read p h g dk w k known m c mem t h₁ h₂ a l = ⊎-elim
+    (λ (e : (stampRead p h g (seen p dk) k m c a ≡ 0) × (seenAt p (mkWorld dk mem) a ≡ unwritten)). inl e)
+    (λ (y : ReadsBlock p h g dk w k known m c mem t h₁ h₂ a). inr (record {
+      block = y .block;
+      value = y .value;
+      sent = sent? (y .value) (y .counts) (subst (λ (i : ℕ). i < p .L) (sym (y .addr)) l);
+      addr = y .addr;
+      stamp = y .stamp;
+      long = y .long;
+      is = y .is;
+      shows = y .shows;
+    })) (seen-is p h g dk w k known m c mem t h₁ h₂ a l)
+  where
+    sent? : (y : Val) → Counted (parOf p h) (g .hd) (itemsIn p (seen p dk)) m y → y .addr < p .L → InV y (g .sent)
+    sent? y q b = ⊎-elim (λ (e : y ≡ pads). absurd (let i : ⊥ = omega (arith, pads-high y e, b, addresses-all p h) in i)) (λ (i : InV y (g .sent)). i)
+        (k .facts .parity .sound m c (q .z) (q .s) (q .f) (q .st) y (q .dt))
+      where
+        pads-high : (y : Val) → y ≡ pads → y .addr ≡ 18446744073709551615
+        pads-high y e = unfold pads in ap (λ (x : Val). x .addr) e

@@ -1,0 +1,411 @@
+-- Before a block goes in: a segment opened where one must be, a stripe begun where none is filling. Assumes nothing.
+use mathlib.Core.Path.{_≡_, refl, sym, ap, _∙_, subst}
+use mathlib.Core.List.{List, []}
+use mathlib.Core.Bool.{Bool, true, false, cond, not, _&&_, _||_}
+use mathlib.Core.Logic.{_⊎_, inl, inr, _≢_}
+use Prim.Native.Nat.{ℕ, suc, _^_, _≤_, _<_}
+use borrow.Author.Tests.{leb-true, leb-false, ltb-true, eqb-true, eqb-false, not-true, not-false}
+use native.Mathlib.Omega.{arith}
+use lib.Dec.{leb, ltb, eqb}
+use lib.ListN.{length, getD, take}
+use lib.Seq.{take-nil}
+use lib.Count.{ones}
+use Rattle.spec.specs.declared.Params.{Params}
+use Rattle.spec.specs.declared.State.{State}
+use Rattle.spec.specs.Drives.{View, Store, storeView, storeAll, emptyZones, headerStores}
+use Rattle.spec.specs.Lists.{all, any, consIf, keep, isNil, indexOf, firstOr}
+use Rattle.spec.specs.Memory.{slotCount, slots, stripeIn, filledIn, landedIn, isFree, isFull, isFilling, inFlight, freeSlot, fillingSlot, hasFilling, slotOk}
+use Rattle.spec.specs.Memory.{stateOk, stateFaults, setOpen, beginStripe}
+use Rattle.spec.specs.Params.{dataCount, placeBlock, placeZone, placeDrive}
+use Rattle.spec.specs.Write.{mustOpen, opens, noSerial, otherGroup, mustWait, openedBy, slotFor, begunBy}
+use Rattle.law_basic.specs.Geometry.{Ranged, data-count-low}
+use Rattle.law_basic.specs.Ranges.{Test, test, and-left, and-right, and-both, length-below}
+use Rattle.law_basic.specs.Ranges.Test.{yes!, no! }
+use Rattle.proof_crash_items.specs.Items.{itemsIn}
+use Rattle.proof_crash_items.specs.Member.{Has, true-false, cond-true, cond-false, false-of, and-false-1, and-false-2, has-keep, all-has, isNil-nil}
+use Rattle.proof_crash_items.specs.Ranges.{parOf}
+use Rattle.proof_crash_items.specs.Shape.{Shape}
+use Rattle.proof_crash_items.specs.Sound.{AllSound}
+use Rattle.proof_crash_machine.specs.Exec.{or-cases}
+use Rattle.proof_crash_machine.specs.Facts.Pair.{alone}
+use Rattle.proof_crash_machine.specs.Facts.{Ghost, Counted, Off}
+use Rattle.proof_crash_machine.specs.History.Step.{begin as History·begin, lose}
+use Rattle.proof_crash_machine.specs.History.Mode.{off, run}
+use Rattle.proof_crash_machine.specs.History.{State as m-State, Inv}
+use Rattle.proof_crash_machine.specs.Memory.{Mem}
+use Rattle.proof_crash_machine.specs.Memory2.{openMem}
+use Rattle.proof_crash_machine.specs.Name.{naming}
+use Rattle.proof_crash_machine.specs.Order.{Track, noTrack}
+use Rattle.proof_crash_machine.specs.Val.{Val}
+use Rattle.proof_crash_machine.specs.View.{Item}
+use Rattle.proof_crash_machine.specs.View.Item.{chunk, foot}
+use Rattle.proof_crash_calls.specs.Base.{or-l, or-r, and-fails, slot-found, has-slot, keep-rest}
+use Rattle.proof_crash_calls.specs.Begin.{begunMem, withSlot, with-here, begin-rel, begin-waits, begin-cover}
+use Rattle.proof_crash_calls.specs.Cells.{same-used, begin-filled, open-same}
+use Rattle.proof_crash_calls.specs.Go.{mst, Later, later-same, Go, go-none, go-step, go-more, go-inv}
+use Rattle.proof_crash_calls.specs.Held.{counted-kept, Entry, entry-to}
+use Rattle.proof_crash_calls.specs.Opened.{may-open, open-sound, open-go, open-cut-go, open-other, open-rel, open-waits}
+use Rattle.proof_crash_calls.specs.Rel.{inUse, free-unused, RelOn, Rel, Waiting}
+
+-- what the call's checks say
+pub record Asked (p : Params) (v : View) (st : State) : Type 0 where
+  pub ok : stateOk p st ≡ true
+  pub waits : mustWait p st ≡ false
+  pub serial : noSerial p st ≡ false
+  pub room : opens p st ≡ true → 2 ≤ length (emptyZones p v)
+
+-- ---- the state's ranges
+
+and-seven : (a b c d e f g : Bool) → (a && b && c && d && e && f && g) ≡ true → (d ≡ true) × (e ≡ true) × (f ≡ true)
+and-seven a b c d e f g q =
+    let x : (a && b && c && d && e && f) ≡ true = and-left (a && b && c && d && e && f) g q in
+    let y : (a && b && c && d && e) ≡ true = and-left (a && b && c && d && e) f x in
+    (and-right (a && b && c) d (and-left (a && b && c && d) e y), and-right (a && b && c && d) e y, and-right (a && b && c && d && e) f x)
+
+state-parts : (p : Params) (st : State) → stateOk p st ≡ true → (leb (st .opened) (p .Z) ≡ true) × (leb (st .next) (p .S) ≡ true) × (all (slotOk p st) slots ≡ true)
+unfolding stateOk
+state-parts p st e =
+    and-seven (eqb (st .live) 1) (ltb (st .missing) (2 ^ p .N)) (leb (ones (st .missing)) 1) (leb (st .opened) (p .Z)) (leb (st .next) (p .S))
+    (all (slotOk p st) slots) (all (λ o. ltb o (p .S)) (st .offsets)) e
+
+pub next-low : (p : Params) (st : State) → stateOk p st ≡ true → st .next ≤ p .S
+next-low p st e = leb-true (st .next) (p .S) (state-parts p st e .1)
+
+pub opened-low : (p : Params) (st : State) → stateOk p st ≡ true → st .opened ≤ p .Z
+opened-low p st e = leb-true (st .opened) (p .Z) (state-parts p st e .0)
+
+pub slots-ok : (p : Params) (st : State) → stateOk p st ≡ true → (i : ℕ) → i < 8 → (stripeIn st i < p .S) × (landedIn st i < 2 ^ p .N)
+slots-ok p st e i il = split (all-has (slotOk p st) slots (state-parts p st e .2) i (has-slot i il))
+  where
+    split : slotOk p st i ≡ true → (stripeIn st i < p .S) × (landedIn st i < 2 ^ p .N)
+    split q = unfold slotOk in
+        let x : (ltb (stripeIn st i) (p .S) && leb (filledIn st i) (dataCount p) && ltb (getD (st .writes) i 0) (2 ^ dataCount p)) ≡ true =
+        and-left (ltb (stripeIn st i) (p .S) && leb (filledIn st i) (dataCount p) && ltb (getD (st .writes) i 0) (2 ^ dataCount p)) (ltb (landedIn st i) (2 ^ p .N)) q in
+        let y : (ltb (stripeIn st i) (p .S) && leb (filledIn st i) (dataCount p)) ≡ true =
+        and-left (ltb (stripeIn st i) (p .S) && leb (filledIn st i) (dataCount p)) (ltb (getD (st .writes) i 0) (2 ^ dataCount p)) x in (
+          ltb-true (stripeIn st i) (p .S) (and-left (ltb (stripeIn st i) (p .S)) (leb (filledIn st i) (dataCount p)) y),
+          ltb-true (landedIn st i) (2 ^ p .N) (and-right
+              (ltb (stripeIn st i) (p .S) && leb (filledIn st i) (dataCount p) && ltb (getD (st .writes) i 0) (2 ^ dataCount p))
+              (ltb (landedIn st i) (2 ^ p .N)) q),
+        )
+
+-- no zone is bad: the state's numbers are in range
+pub faults-none : (p : Params) (st : State) → stateFaults p st ≡ [] → stateOk p st ≡ true
+unfolding stateFaults
+faults-none p st e = go (stateOk p st) refl e
+  where
+    go : (b : Bool) → stateOk p st ≡ b → consIf {A = ℕ} (not b) 0 [] ≡ [] → stateOk p st ≡ true
+    go true q e = q
+    go false q e = unfold consIf in absurd (let z : _≡_ {A = ℕ} 0 1 = cc in let x : ⊥ = omega arith in x)
+
+-- ---- the eighths
+
+pub filling-slot : (p : Params) (st : State) → hasFilling p st ≡ true → (fillingSlot p st < 8) × (inUse st (fillingSlot p st) ≡ true) × (filledIn st (fillingSlot p st) < dataCount p)
+unfolding hasFilling fillingSlot
+filling-slot p st e =
+    let q : (indexOf (isFilling p st) slots < 8) × (isFilling p st (indexOf (isFilling p st) slots) ≡ true) = slot-found (isFilling p st) e in
+    let w : (inUse st (indexOf (isFilling p st) slots) ≡ true) × (filledIn st (indexOf (isFilling p st) slots) < dataCount p) = at (indexOf (isFilling p st) slots) (q .1) in
+    (q .0, w .0, w .1)
+  where
+    at : (i : ℕ) → isFilling p st i ≡ true → (inUse st i ≡ true) × (filledIn st i < dataCount p)
+    at i w = unfold isFilling inUse isFull in (
+      and-left (not (isFree st i)) (not (leb (dataCount p) (filledIn st i))) w,
+      leb-false (dataCount p) (filledIn st i) (not-true (leb (dataCount p) (filledIn st i)) (and-right (not (isFree st i)) (not (leb (dataCount p) (filledIn st i))) w)),
+    )
+
+pub free-slot : (st : State) → length (inFlight st) < 8 → (freeSlot st < 8) × (inUse st (freeSlot st) ≡ false)
+unfolding inFlight freeSlot
+free-slot st b = go (test (any (isFree st) slots))
+  where
+    eight : length slots ≡ 8
+    eight = unfold slots slotCount in length-below 8
+
+    go : Test (any (isFree st) slots) → (indexOf (isFree st) slots < 8) × (inUse st (indexOf (isFree st) slots) ≡ false)
+    go (yes! e) = let q : (indexOf (isFree st) slots < 8) × (isFree st (indexOf (isFree st) slots) ≡ true) = slot-found (isFree st) e in (q .0, free-unused st (indexOf (isFree st) slots) (q .1))
+    go (no! e) = absurd (let z : ⊥ = omega (arith, b, keep-rest (isFree st) slots e, eight) in z)
+
+pub none-flying : (st : State) → isNil (inFlight st) ≡ true → (i : ℕ) → i < 8 → inUse st i ≡ false
+unfolding inFlight inUse
+none-flying st e i il =
+    false-of (not (isFree st i)) (λ q. absurd (subst (λ (l : List ℕ). Has i l) (isNil-nil (keep (λ i. not (isFree st i)) slots) e) (has-keep (λ i. not (isFree st i)) i slots (has-slot i il) q)))
+
+-- ---- the stripe that takes the block
+
+-- eighth i of st₂ takes it, once ss are stored
+pub record Target (p : Params) (h : Ranged p) (g : Ghost) (v : View) (a : List Val) (c : Bool) (st : State) (fl : List ℕ) (M : Mem) (ss : List Store) (st₂ : State) (i : ℕ) : Type 0 where
+  pub g′ : Ghost
+  pub M₂ : Mem
+  pub U : ℕ → Bool
+  pub sound : AllSound p v ss
+  pub go : (T : Track) → Go (parOf p h) (mst g (itemsIn p v) a c (run M)) (mst g′ (itemsIn p (storeAll storeView ss v)) a c (run M₂)) T T
+  pub rel : RelOn p (itemsIn p (storeAll storeView ss v)) st₂ fl M₂ U
+  pub low : i < 8
+  pub used? : U i ≡ true
+  pub room : filledIn st₂ i < dataCount p
+  pub cover : (j : ℕ) → j < 8 → j ≢ i → U j ≡ inUse st₂ j
+  pub waits : (x : Val) (s : ℕ) → Waiting p st M x s → Waiting p st₂ M₂ x s
+  pub stamp : M₂ .stamp ≡ M .stamp
+  pub sent : g′ .sent ≡ g .sent
+  pub later : Later g g′
+  pub base : g′ .base ≡ g .base
+  -- what counts still does, in its segment, and every item is where it was
+  pub counts : (x : Val) (q : Counted (parOf p h) (g .hd) (itemsIn p v) (g .un) x) → (c : Counted (parOf p h) (g′ .hd) (itemsIn p (storeAll storeView ss v)) (g′ .un) x) × (c .z ≡ q .z)
+  pub kept : (e y j : ℕ) (t : Item) → e < p .N → Off (itemsIn p v e y) j t → Off (itemsIn p (storeAll storeView ss v) e y) j t
+  -- and where the power is cut
+  pub cut : (n : ℕ) → (g″ : Ghost) × Later g g″ × ((T : Track) → Go (parOf p h) (mst g (itemsIn p v) a c (run M)) (mst g″ (itemsIn p (storeAll storeView (take n ss) v)) a c off) T T)
+
+module _ (p : Params) (h : Ranged p) (g : Ghost) (v : View) (a : List Val) (c : Bool) (st : State) (fl : List ℕ) (M : Mem) (R : Rel p (itemsIn p v) st fl M)
+    (I : Inv (parOf p h) (mst g (itemsIn p v) a c (run M))) (sh : Shape p v) where
+  abbrev σ : m-State
+  σ = mst g (itemsIn p v) a c (run M)
+
+  -- a cut with no store due
+  cut-none : (n : ℕ) → (g″ : Ghost) × Later g g″ × ((T : Track) → Go (parOf p h) (mst g (itemsIn p v) a c (run M)) (mst g″ (itemsIn p (storeAll storeView (take n []) v)) a c off) T T)
+  unfolding storeAll
+  cut-none n = (g, later-same g, λ T. rw (take-nil {A = Store} n) (go-step (parOf p h) σ (mst g (itemsIn p v) a c off) T (lose σ)))
+
+  -- a stripe is filling
+  target-filling : hasFilling p st ≡ true → Target p h g v a c st fl M [] st (fillingSlot p st)
+  unfolding storeAll
+  target-filling e = record {
+    g′ = g;
+    M₂ = M;
+    U = inUse st;
+    sound = tt;
+    go = λ T. go-none (parOf p h) σ T;
+    rel = R;
+    low = filling-slot p st e .0;
+    used? = filling-slot p st e .1;
+    room = filling-slot p st e .2;
+    cover = λ j l n. refl;
+    waits = λ x s q. q;
+    stamp = refl;
+    sent = refl;
+    later = later-same g;
+    base = refl;
+    counts = λ x q. (q, refl);
+    kept = λ e y j t l o. o;
+    cut = cut-none;
+  }
+
+  -- a stripe begins in the open segment
+  target-begin : M .is-open ≡ true → M .next < p .S → (i : ℕ) → i < 8 → inUse st i ≡ false → Target p h g v a c st fl M [] (beginStripe st i) i
+  unfolding storeAll
+  target-begin o nl i il free = record {
+    g′ = g;
+    M₂ = begunMem (parOf p h) M;
+    U = withSlot st i;
+    sound = tt;
+    go = λ T. go-step (parOf p h) σ (mst g (itemsIn p v) a c (run (begunMem (parOf p h) M))) T (History·begin σ M refl o nl);
+    rel = begin-rel p h g (itemsIn p v) st fl M R (I .mode) o i il free;
+    low = il;
+    used? = with-here st i;
+    room = omega (arith, begin-filled st (R .long) i il, data-count-low p h);
+    cover = begin-cover p h g (itemsIn p v) st fl M R (I .mode) o i il free;
+    waits = begin-waits p h g (itemsIn p v) st fl M R (I .mode) o i il free;
+    stamp = refl;
+    sent = refl;
+    later = later-same g;
+    base = refl;
+    counts = λ x q. (q, refl);
+    kept = λ e y j t l o. o;
+    cut = cut-none;
+  }
+
+-- a segment is opened, and a stripe begins in it
+module _ (p : Params) (h : Ranged p) (g : Ghost) (v : View) (a : List Val) (c : Bool) (st : State) (fl : List ℕ) (M : Mem) (R : Rel p (itemsIn p v) st fl M)
+    (I : Inv (parOf p h) (mst g (itemsIn p v) a c (run M))) (sh : Shape p v) (shut? : M .is-open ≡ false) (two : 2 ≤ length (emptyZones p v)) (fits : suc (M .serial) < 256 ^ 8)
+    (idle : (i : ℕ) → i < 8 → inUse st i ≡ false) (i : ℕ) (il : i < 8) where
+  abbrev w : ℕ
+  w = firstOr 0 (emptyZones p v)
+
+  abbrev hs : List Store
+  hs = headerStores p (firstOr 0 (emptyZones p v)) (suc (M .serial)) 0
+
+  abbrev v₁ : View
+  v₁ = storeAll storeView (headerStores p (firstOr 0 (emptyZones p v)) (suc (M .serial)) 0) v
+
+  abbrev st₁ : State
+  st₁ = setOpen st (firstOr 0 (emptyZones p v)) (suc (M .serial))
+
+  abbrev M₁ : Mem
+  M₁ = openMem M (firstOr 0 (emptyZones p v)) (suc (M .serial))
+
+  abbrev g₁ : Ghost
+  g₁ = naming g (firstOr 0 (emptyZones p v)) (suc (M .serial)) 0 alone
+
+  go₁ : (T : Track) → Go (parOf p h) (mst g (itemsIn p v) a c (run M)) (mst g₁ (itemsIn p v₁) a c (run M₁)) T T
+  go₁ = open-go p h g v a c M sh two shut? fits
+
+  inv₁ : Inv (parOf p h) (mst g₁ (itemsIn p v₁) a c (run M₁))
+  inv₁ = go-inv (parOf p h) (mst g (itemsIn p v) a c (run M)) (mst g₁ (itemsIn p v₁) a c (run M₁)) noTrack noTrack (go₁ noTrack) I
+
+  rel₁ : Rel p (itemsIn p v₁) st₁ fl M₁
+  rel₁ = open-rel p h g v a c M sh two shut? fits st fl R idle
+
+  free₁ : inUse st₁ i ≡ false
+  free₁ = same-used st st₁ i (open-same st w (suc (M .serial)) i) ∙ idle i il
+
+  other : (e y : ℕ) → y ≢ w → itemsIn p v₁ e y ≡ itemsIn p v e y
+  other = open-other p h g v a c M sh two shut? fits I
+
+  -- w was empty
+  used-apart : (e y j : ℕ) (t : Item) → e < p .N → Off (itemsIn p v e y) j t → y ≢ w
+  used-apart e y j t l o q = let z : ⊥ = omega (arith, o .0, ap (λ (x : ℕ). length (itemsIn p v e x)) q, ap length (may-open p v two h g M shut? .empty e l)) in z
+
+  counts : (x : Val) (q : Counted (parOf p h) (g .hd) (itemsIn p v) (g .un) x) → (c : Counted (parOf p h) (g₁ .hd) (itemsIn p v₁) (g₁ .un) x) × (c .z ≡ q .z)
+  counts x q = (counted-kept (parOf p h) g g₁ (itemsIn p v) (itemsIn p v₁) (inv₁ .facts) (inv₁ .mode .no-pair) refl x q (λ d l. other d (q .z) apart), refl)
+    where
+      apart : q .z ≢ w
+      apart = let b : 0 < length (itemsIn p v 0 (q .z)) = q .rem .left 0 (omega (arith, h .drives-low)) (omega (arith, I .mode .none, h .drives-low)) in
+          used-apart 0 (q .z) 0 (getD (itemsIn p v 0 (q .z)) 0 (foot 0)) (omega (arith, h .drives-low)) (b, refl)
+
+  pub target-open : Target p h g v a c st fl M hs (beginStripe st₁ i) i
+  target-open = record {
+    g′ = g₁;
+    M₂ = begunMem (parOf p h) M₁;
+    U = withSlot st₁ i;
+    sound = open-sound p h g v a c M sh two shut? fits;
+    go = λ T. go-more (parOf p h) (mst g (itemsIn p v) a c (run M)) (mst g₁ (itemsIn p v₁) a c (run M₁)) (mst g₁ (itemsIn p v₁) a c (run (begunMem (parOf p h) M₁))) T T (go₁ T)
+        (History·begin (mst g₁ (itemsIn p v₁) a c (run M₁)) M₁ refl refl (omega (arith, h .stripes-low)));
+    rel = begin-rel p h g₁ (itemsIn p v₁) st₁ fl M₁ rel₁ (inv₁ .mode) refl i il free₁;
+    low = il;
+    used? = with-here st₁ i;
+    room = omega (arith, begin-filled st₁ (rel₁ .long) i il, data-count-low p h);
+    cover = begin-cover p h g₁ (itemsIn p v₁) st₁ fl M₁ rel₁ (inv₁ .mode) refl i il free₁;
+    waits = λ x s q. begin-waits p h g₁ (itemsIn p v₁) st₁ fl M₁ rel₁ (inv₁ .mode) refl i il free₁ x s (open-waits p h g v a c M sh two shut? fits st fl R idle x s q);
+    stamp = refl;
+    sent = refl;
+    later = record { un = refl; last = refl; sent = λ x m. m };
+    base = refl;
+    counts = counts;
+    kept = λ e y j t l o. subst (λ (x : List Item). Off x j t) (sym (other e y (used-apart e y j t l o))) o;
+    cut = λ n. (g₁, record { un = refl; last = refl; sent = λ x m. m }, open-cut-go p h g v a c M sh two shut? fits n);
+  }
+
+-- ---- as `sending` does it
+
+-- the stores of a block sent
+unfoldable pub sendStores : Params → View → State → List Store
+sendStores p v st = cond (opens p st) (headerStores p (firstOr 0 (emptyZones p v)) (suc (st .serial .0)) 0) []
+
+stores-none : (p : Params) (v : View) (st : State) → opens p st ≡ false → sendStores p v st ≡ []
+unfolding sendStores
+stores-none p v st e = cond-false (opens p st) (headerStores p (firstOr 0 (emptyZones p v)) (suc (st .serial .0)) 0) [] e
+
+stores-some : (p : Params) (v : View) (st : State) → opens p st ≡ true → sendStores p v st ≡ headerStores p (firstOr 0 (emptyZones p v)) (suc (st .serial .0)) 0
+unfolding sendStores
+stores-some p v st e = cond-true (opens p st) (headerStores p (firstOr 0 (emptyZones p v)) (suc (st .serial .0)) 0) [] e
+
+opened-old : (p : Params) (v : View) (st : State) → opens p st ≡ false → openedBy p v st ≡ st
+unfolding openedBy
+opened-old p v st e = cond-false (opens p st) (setOpen st (firstOr 0 (emptyZones p v)) (suc (st .serial .0))) st e
+
+opened-new : (p : Params) (v : View) (st : State) → opens p st ≡ true → openedBy p v st ≡ setOpen st (firstOr 0 (emptyZones p v)) (suc (st .serial .0))
+unfolding openedBy
+opened-new p v st e = cond-true (opens p st) (setOpen st (firstOr 0 (emptyZones p v)) (suc (st .serial .0))) st e
+
+begun-old : (p : Params) (st st₁ : State) → hasFilling p st ≡ true → begunBy p st st₁ ≡ st
+unfolding begunBy
+begun-old p st st₁ e = cond-true (hasFilling p st) st (beginStripe st₁ (freeSlot st)) e
+
+begun-new : (p : Params) (st st₁ : State) → hasFilling p st ≡ false → begunBy p st st₁ ≡ beginStripe st₁ (freeSlot st)
+unfolding begunBy
+begun-new p st st₁ e = cond-false (hasFilling p st) st (beginStripe st₁ (freeSlot st)) e
+
+slot-filling : (p : Params) (st : State) → hasFilling p st ≡ true → slotFor p st ≡ fillingSlot p st
+unfolding slotFor
+slot-filling p st e = cond-true (hasFilling p st) (fillingSlot p st) (freeSlot st) e
+
+slot-free : (p : Params) (st : State) → hasFilling p st ≡ false → slotFor p st ≡ freeSlot st
+unfolding slotFor
+slot-free p st e = cond-false (hasFilling p st) (fillingSlot p st) (freeSlot st) e
+
+target-as : (p : Params) (h : Ranged p) (g : Ghost) (v : View) (a : List Val) (c : Bool) (st : State) (fl : List ℕ) (M : Mem) (ss ss′ : List Store) (st₂ st₃ : State) (i j : ℕ)
+    → ss ≡ ss′ → st₂ ≡ st₃ → i ≡ j → Target p h g v a c st fl M ss′ st₃ j → Target p h g v a c st fl M ss st₂ i
+target-as p h g v a c st fl M ss ss′ st₂ st₃ i j e f q t =
+    subst (λ (x : List Store). Target p h g v a c st fl M x st₂ i) (sym e)
+    (subst (λ (x : State). Target p h g v a c st fl M ss′ x i) (sym f) (subst (λ (x : ℕ). Target p h g v a c st fl M ss′ st₃ x) (sym q) t))
+
+module _ (p : Params) (h : Ranged p) (g : Ghost) (v : View) (a : List Val) (c : Bool) (st : State) (fl : List ℕ) (M : Mem) (R : Rel p (itemsIn p v) st fl M)
+    (I : Inv (parOf p h) (mst g (itemsIn p v) a c (run M))) (sh : Shape p v) (A : Asked p v st) where
+  module _ (not-filling : hasFilling p st ≡ false) where
+    waits? : ((leb slotCount (length (inFlight st)) || (mustOpen p st && not (isNil (inFlight st)))) || (not (mustOpen p st) && any (otherGroup p st) (inFlight st))) ≡ false
+    waits? = and-fails (not (hasFilling p st)) ((leb slotCount (length (inFlight st)) || (mustOpen p st && not (isNil (inFlight st)))) || (not (mustOpen p st) && any (otherGroup p st) (inFlight st)))
+        (unfold mustWait in A .waits) (ap not not-filling)
+
+    few : (leb slotCount (length (inFlight st)) || (mustOpen p st && not (isNil (inFlight st)))) ≡ false
+    few = or-l (leb slotCount (length (inFlight st)) || (mustOpen p st && not (isNil (inFlight st)))) (not (mustOpen p st) && any (otherGroup p st) (inFlight st)) waits?
+
+    free : (freeSlot st < 8) × (inUse st (freeSlot st) ≡ false)
+    free = free-slot st (leb-false 8 (length (inFlight st)) (unfold slotCount in or-l (leb slotCount (length (inFlight st))) (mustOpen p st && not (isNil (inFlight st))) few))
+
+    begins : mustOpen p st ≡ false → Target p h g v a c st fl M [] (beginStripe st (freeSlot st)) (freeSlot st)
+    begins e = target-begin p h g v a c st fl M R I sh o
+        (omega (arith, R .next o, next-low p st (A .ok), eqb-false (st .next) (p .S) (or-r (eqb (st .opened) 0) (eqb (st .next) (p .S)) (unfold mustOpen in e)))) (freeSlot st) (free .0) (free .1)
+      where
+        o : M .is-open ≡ true
+        o = R .is-open ∙ ap not (or-l (eqb (st .opened) 0) (eqb (st .next) (p .S)) (unfold mustOpen in e))
+
+    -- a segment must be opened: none is open, since nothing is in flight
+    opens-now :
+        mustOpen p st ≡ true
+        → Target p h g v a c st fl M (headerStores p (firstOr 0 (emptyZones p v)) (suc (st .serial .0)) 0)
+        (beginStripe (setOpen st (firstOr 0 (emptyZones p v)) (suc (st .serial .0))) (freeSlot st)) (freeSlot st)
+    opens-now e =
+        subst (λ (n : ℕ). Target p h g v a c st fl M (headerStores p (firstOr 0 (emptyZones p v)) (suc n) 0)
+        (beginStripe (setOpen st (firstOr 0 (emptyZones p v)) (suc n)) (freeSlot st)) (freeSlot st)) (R .serial)
+        (target-open p h g v a c st fl M R I sh shut? (A .room op) (omega (arith, R .serial, R .serial-fits, last)) idle (freeSlot st) (free .0))
+      where
+        op : opens p st ≡ true
+        op = unfold opens in and-both (not (hasFilling p st)) (mustOpen p st) (ap not not-filling) e
+
+        last : st .serial .0 ≢ 18446744073709551615
+        last = eqb-false (st .serial .0) 18446744073709551615 (and-fails (opens p st) (eqb (st .serial .0) 18446744073709551615) (unfold noSerial in A .serial) op)
+
+        idle : (i : ℕ) → i < 8 → inUse st i ≡ false
+        idle =
+            none-flying st (not-false (isNil (inFlight st))
+            (and-fails (mustOpen p st) (not (isNil (inFlight st)))
+            (or-r (leb slotCount (length (inFlight st))) (mustOpen p st && not (isNil (inFlight st))) few) e))
+
+        shut? : M .is-open ≡ false
+        shut? = go (M .is-open) refl
+          where
+            go : (b : Bool) → M .is-open ≡ b → M .is-open ≡ false
+            go false q = q
+            go true q = full (or-cases (eqb (st .opened) 0) (eqb (st .next) (p .S)) (unfold mustOpen in e))
+              where
+                full : (eqb (st .opened) 0 ≡ true) ⊎ (eqb (st .next) (p .S) ≡ true) → M .is-open ≡ false
+                full (inl x) = R .is-open ∙ ap not x
+                full (inr x) =
+                    let f : (s : ℕ) × (M .fly s ≡ true) = R .busy q (R .next q ∙ eqb-true (st .next) (p .S) x) in
+                    let y : (i : ℕ) × (i < 8) × (inUse st i ≡ true) × (stripeIn st i ≡ f .0) = R .flies (f .0) (f .1) in
+                    true-false (inUse st (y .0)) (y .2) (idle (y .0) (y .1))
+
+  pub target : Target p h g v a c st fl M (sendStores p v st) (begunBy p st (openedBy p v st)) (slotFor p st)
+  target = go (test (hasFilling p st)) (test (mustOpen p st))
+    where
+      go : Test (hasFilling p st) → Test (mustOpen p st) → Target p h g v a c st fl M (sendStores p v st) (begunBy p st (openedBy p v st)) (slotFor p st)
+      go (yes! e) m =
+          target-as p h g v a c st fl M (sendStores p v st) [] (begunBy p st (openedBy p v st)) st (slotFor p st) (fillingSlot p st)
+          (stores-none p v st (unfold opens in and-false-1 (not (hasFilling p st)) (mustOpen p st) (ap not e))) (begun-old p st (openedBy p v st) e) (slot-filling p st e)
+          (target-filling p h g v a c st fl M R I sh e)
+      go (no! e) (yes! m) =
+          let o : opens p st ≡ true = unfold opens in and-both (not (hasFilling p st)) (mustOpen p st) (ap not e) m in
+          target-as p h g v a c st fl M (sendStores p v st) (headerStores p (firstOr 0 (emptyZones p v)) (suc (st .serial .0)) 0)
+          (begunBy p st (openedBy p v st)) (beginStripe (setOpen st (firstOr 0 (emptyZones p v)) (suc (st .serial .0))) (freeSlot st)) (slotFor p st) (freeSlot st)
+          (stores-some p v st o) (begun-new p st (openedBy p v st) e ∙ ap (λ (x : State). beginStripe x (freeSlot st)) (opened-new p v st o)) (slot-free p st e) (opens-now e m)
+      go (no! e) (no! m) =
+          let o : opens p st ≡ false = unfold opens in and-false-2 (not (hasFilling p st)) (mustOpen p st) m in
+          target-as p h g v a c st fl M (sendStores p v st) [] (begunBy p st (openedBy p v st)) (beginStripe st (freeSlot st)) (slotFor p st) (freeSlot st)
+          (stores-none p v st o) (begun-new p st (openedBy p v st) e ∙ ap (λ (x : State). beginStripe x (freeSlot st)) (opened-old p v st o)) (slot-free p st e) (begins e m)
+
+-- the table's entries, once the stores are made
+pub target-entries :
+    (p : Params) (h : Ranged p) (g : Ghost) (v : View) (a : List Val) (c : Bool) (st : State) (fl : List ℕ) (M : Mem) (ss : List Store) (st₂ : State)
+    (i : ℕ) (t : Target p h g v a c st fl M ss st₂ i)
+    → (q b : ℕ) → Entry p h g (itemsIn p v) q b → Entry p h (t .g′) (itemsIn p (storeAll storeView ss v)) q b
+target-entries p h g v a c st fl M ss st₂ i t q b e = entry-to p h g (t .g′) (itemsIn p v) (itemsIn p (storeAll storeView ss v)) q b e
+    (t .kept (placeDrive p q) (placeZone p q) (placeBlock p q) (chunk (e .s) (e .x)) (e .drive) (e .at)) (t .counts (e .x) (e .counts) .0) (t .counts (e .x) (e .counts) .1 ∙ e .same)
+    (subst (λ (f : ℕ → ℕ). f b ≤ e .x .stamp) (sym (t .base)) (e .floor))

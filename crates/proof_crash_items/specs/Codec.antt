@@ -1,0 +1,154 @@
+-- Fields, records, headers and footers: what is read is what was written. Assumes nothing.
+use mathlib.Core.Path.{_≡_, refl, sym, ap, ap₂, _∙_}
+use mathlib.Core.List.{List, [], _∷_, _++_, append-nil, append-assoc}
+use Prim.Native.Nat.{ℕ, zero, suc, _+_, _-_, _*_, _/_, _%_, _^_, min, _≤_, _<_}
+use native.Mathlib.Nat.{mod-lt, suc-mul, mul-suc, zero-mul, mul-le-mul-right, div-add-mod'}
+use native.Mathlib.Omega.{arith}
+use lib.ListN.{length, getD, take, drop, replicate, length-append, length-take, length-drop, length-replicate}
+use lib.Seq.{getD-take, getD-drop, take-at, drop-append-add}
+use Rattle.spec.specs.declared.Params.{Params}
+use Rattle.spec.specs.Bytes.{toBe, part, field, bytesOf, readField}
+use Rattle.spec.specs.Drives.{zeroSpare}
+use Rattle.spec.specs.Layout.{headerWidths, headerValues, headerFields, headerBlock, headerSerial, headerCopied, Rec, mkRec, recordFields, recordBytes, recordOf, footerBlock}
+use Rattle.spec.specs.Lists.{flat, total, padTo, zipped}
+use Rattle.spec.specs.Params.{recordWidths, spareLen, perFooter}
+use Rattle.law_basic.specs.Be.{length-toBe}
+use Rattle.law_basic.specs.Fields.{readField-bytesOf}
+use Rattle.law_basic.specs.Geometry.{Ranged, per-footer-low, per-footer-fits}
+use Rattle.law_basic.specs.Ranges.{length-padTo}
+use Rattle.law_basic.specs.Xor.{AllLong}
+
+-- ---- fields
+
+abbrev pub fieldBytes : List ℕ → List ℕ → List ℕ
+fieldBytes ws vs = bytesOf (zipped field ws vs)
+
+pub length-fields : (ws vs : List ℕ) → length vs ≡ length ws → length (fieldBytes ws vs) ≡ total ws
+unfolding zipped bytesOf total
+length-fields [] vs e = refl
+length-fields (w ∷ ws) [] e = absurd (let q : ⊥ = omega arith in q)
+length-fields (w ∷ ws) (x ∷ vs) e =
+    length-append (toBe w x) (bytesOf (zipped field ws vs)) ∙ ap₂ (λ (a b : ℕ). a + b) (length-toBe w x) (length-fields ws vs (omega arith))
+
+-- ---- records
+
+-- a record that its bytes hold
+pub record Wide (r : Rec) : Type 0 where
+  pub address : r .address < 256 ^ 8
+  pub stamp : r .stamp < 256 ^ 8
+  pub stripe : r .stripe < 256 ^ 4
+
+pub record-bytes : (r : Rec) → Wide r → recordOf (recordBytes r) ≡ r
+unfolding recordOf recordBytes recordFields recordWidths
+record-bytes r w = λ j. mkRec (a j) (t j) (s j)
+  where
+    vs : List ℕ
+    vs = r .address ∷ r .stamp ∷ r .stripe ∷ []
+
+    back : (i : ℕ) → readField recordWidths i (fieldBytes recordWidths vs) ≡ readField recordWidths i (fieldBytes recordWidths vs ++ [])
+    back i = ap (readField recordWidths i) (sym (append-nil (fieldBytes recordWidths vs)))
+
+    a : readField recordWidths 0 (fieldBytes recordWidths vs) ≡ r .address
+    a = back 0 ∙ readField-bytesOf recordWidths vs 0 [] (omega arith) (omega arith) (w .address)
+
+    t : readField recordWidths 1 (fieldBytes recordWidths vs) ≡ r .stamp
+    t = back 1 ∙ readField-bytesOf recordWidths vs 1 [] (omega arith) (omega arith) (w .stamp)
+
+    s : readField recordWidths 2 (fieldBytes recordWidths vs) ≡ r .stripe
+    s = back 2 ∙ readField-bytesOf recordWidths vs 2 [] (omega arith) (omega arith) (w .stripe)
+
+pub length-record : (r : Rec) → length (recordBytes r) ≡ spareLen
+unfolding recordBytes recordFields spareLen recordWidths
+length-record r = length-fields (8 ∷ 8 ∷ 4 ∷ []) (r .address ∷ r .stamp ∷ r .stripe ∷ []) refl
+
+pub length-zeroSpare : length zeroSpare ≡ spareLen
+unfolding zeroSpare
+length-zeroSpare = length-replicate spareLen 0
+
+-- ---- headers
+
+module _ (p : Params) (d z serial copied : ℕ) where
+  values : List ℕ
+  values = headerValues p d z serial copied
+
+  pub length-header : 64 ≤ p .B → length (headerBlock p d z serial copied) ≡ p .B
+  unfolding headerBlock headerFields headerValues headerWidths total
+  length-header h = length-padTo (p .B) (fieldBytes headerWidths (headerValues p d z serial copied)) (omega (arith, length-fields headerWidths (headerValues p d z serial copied) refl))
+
+  pub header-serial : serial < 256 ^ 8 → headerSerial (headerBlock p d z serial copied) ≡ serial
+  unfolding headerSerial headerBlock headerFields headerValues headerWidths padTo
+  header-serial l = readField-bytesOf headerWidths (headerValues p d z serial copied) 9
+      (replicate (p .B - length (fieldBytes headerWidths (headerValues p d z serial copied))) 0) (omega arith) (omega arith) l
+
+  pub header-copied : copied < 256 ^ 8 → headerCopied (headerBlock p d z serial copied) ≡ copied
+  unfolding headerCopied headerBlock headerFields headerValues headerWidths padTo
+  header-copied l = readField-bytesOf headerWidths (headerValues p d z serial copied) 10
+      (replicate (p .B - length (fieldBytes headerWidths (headerValues p d z serial copied))) 0) (omega arith) (omega arith) l
+
+-- ---- footers
+
+abbrev pub joined : List (List ℕ) → List ℕ
+joined ss = flat (λ (b : List ℕ). b) ss
+
+pub length-joined : (n : ℕ) (ss : List (List ℕ)) → AllLong n ss → length (joined ss) ≡ length ss * n
+unfolding flat
+length-joined n [] h = sym (zero-mul n)
+length-joined n (s ∷ ss) h =
+    length-append s (joined ss) ∙ ap₂ (λ (a b : ℕ). a + b) (h .0) (length-joined n ss (h .1)) ∙ omega (arith, suc-mul (length ss) n)
+
+pub part-joined : (n : ℕ) (ss : List (List ℕ)) (k : ℕ) (r : List ℕ) → AllLong n ss → k < length ss → part (n * k) n (joined ss ++ r) ≡ getD ss k []
+unfolding flat part
+part-joined n [] k r h l = absurd (let q : ⊥ = omega arith in q)
+part-joined n (s ∷ ss) zero r h l =
+    let e : n * 0 ≡ 0 = omega arith in
+    ap (λ (i : ℕ). take n (drop i ((s ++ joined ss) ++ r))) e ∙ ap (take n) (append-assoc s (joined ss) r) ∙ take-at s (joined ss ++ r) n (h .0)
+part-joined n (s ∷ ss) (suc k) r h l =
+    let e : n * suc k ≡ length s + n * k = omega (arith, mul-suc n k, h .0) in
+    ap (λ (i : ℕ). take n (drop i ((s ++ joined ss) ++ r))) e
+    ∙ ap (λ (x : List ℕ). take n (drop (length s + n * k) x)) (append-assoc s (joined ss) r)
+    ∙ ap (take n) (drop-append-add s (joined ss ++ r) (n * k))
+    ∙ part-joined n ss k r (h .1) (omega arith)
+
+pub long-take : (n : ℕ) (k : ℕ) (ss : List (List ℕ)) → AllLong n ss → AllLong n (take k ss)
+long-take n zero ss h = tt
+long-take n (suc k) [] h = tt
+long-take n (suc k) (s ∷ ss) h = (h .0, long-take n k ss (h .1))
+
+pub long-drop : (n : ℕ) (k : ℕ) (ss : List (List ℕ)) → AllLong n ss → AllLong n (drop k ss)
+long-drop n zero ss h = h
+long-drop n (suc k) [] h = tt
+long-drop n (suc k) (s ∷ ss) h = long-drop n k ss (h .1)
+
+module _ (p : Params) (h : Ranged p) (ss : List (List ℕ)) (long : AllLong spareLen ss) where
+  -- the records of block i
+  abbrev row : ℕ → List (List ℕ)
+  row i = take (perFooter p) (drop (i * perFooter p) ss)
+
+  row-long : (i : ℕ) → AllLong spareLen (row i)
+  row-long i = long-take spareLen (perFooter p) (drop (i * perFooter p) ss) (long-drop spareLen (i * perFooter p) ss long)
+
+  length-row : (i : ℕ) → length (row i) ≡ min (perFooter p) (length ss - i * perFooter p)
+  length-row i = length-take (perFooter p) (drop (i * perFooter p) ss) ∙ ap (min (perFooter p)) (length-drop (i * perFooter p) ss)
+
+  pub length-footer : (i : ℕ) → length (footerBlock p ss i) ≡ p .B
+  unfolding footerBlock
+  length-footer i = length-padTo (p .B) (joined (row i)) fits
+    where
+      fits : length (joined (row i)) ≤ p .B
+      fits =
+          let a : length (row i) ≤ perFooter p = omega (arith, length-row i) in
+          let b : length (row i) * spareLen ≤ perFooter p * spareLen = mul-le-mul-right spareLen a in
+          omega (arith, b, per-footer-fits p h, length-joined spareLen (row i) (row-long i))
+
+  -- record o of the zone is in block o / (records a block)
+  pub footer-record : (o : ℕ) → o < length ss → part (spareLen * (o % perFooter p)) spareLen (footerBlock p ss (o / perFooter p)) ≡ getD ss o []
+  unfolding footerBlock padTo
+  footer-record o l =
+      let m : 0 < perFooter p = omega (arith, per-footer-low p h) in
+      let e : o / perFooter p * perFooter p + o % perFooter p ≡ o = div-add-mod' o (perFooter p) in
+      let r : o % perFooter p < perFooter p = mod-lt o m in
+      let k : o % perFooter p < length (row (o / perFooter p)) = omega (arith, length-row (o / perFooter p), e, r, l) in
+      part-joined spareLen (row (o / perFooter p)) (o % perFooter p) (replicate (p .B - length (joined (row (o / perFooter p)))) 0) (row-long (o / perFooter p)) k
+      ∙ getD-take (perFooter p) (drop (o / perFooter p * perFooter p) ss) (o % perFooter p) [] r
+      ∙ getD-drop (o / perFooter p * perFooter p) ss (o % perFooter p) []
+      ∙ ap (λ (i : ℕ). getD ss i []) e

@@ -1,0 +1,49 @@
+-- Parameters in range, as facts; and the machine's parameters from them. Assumes nothing.
+use mathlib.Core.Path.{_≡_}
+use Prim.Native.Nat.{ℕ, _+_, _-_, _*_, _/_, _%_, _^_, _<_}
+use native.Mathlib.Nat.{mod-lt, div-add-mod', div-lt-iff-lt-mul}
+use native.Mathlib.Omega.{arith}
+use Rattle.spec.specs.declared.Params.{Params}
+use Rattle.spec.specs.Calls.Check.{zones}
+use Rattle.spec.specs.Layout.{parityDrive, group}
+use Rattle.spec.specs.Params.{perFooter, footers, capacity}
+use Rattle.law_basic.specs.Geometry.{Ranged, per-footer-low, footers-low, capacity-high}
+use Rattle.proof_crash_machine.specs.Facts.{Par}
+
+module _ (p : Params) (h : Ranged p) where
+  -- every data offset has its footer block
+  pub footer-of : (o : ℕ) → o < p .S → o / perFooter p < footers p
+  unfolding footers
+  footer-of o l =
+      let m : 0 < perFooter p = omega (arith, per-footer-low p h) in
+      let x : ℕ = p .S + perFooter p - 1 in
+      let e : x / perFooter p * perFooter p + x % perFooter p ≡ x = div-add-mod' x (perFooter p) in
+      let r : x % perFooter p < perFooter p = mod-lt x m in
+      div-lt-iff-lt-mul m .1 (omega (arith, e, r, l))
+
+  pub capacity-few : 1 + p .S < capacity p
+  unfolding capacity
+  capacity-few = omega (arith, footers-low p h)
+
+  pub capacity-many : capacity p < 256 ^ 4
+  capacity-many = omega (arith, capacity-high p h)
+
+pub parity-on : (p : Params) → Ranged p → (s : ℕ) → parityDrive p s < p .N
+unfolding parityDrive
+parity-on p h s = omega (arith, h .drives-low)
+
+-- the machine's parameters
+abbrev pub parOf : (p : Params) → Ranged p → Par
+parOf p h = record {
+  N = p .N;
+  Z = p .Z;
+  S = p .S;
+  cap = capacity p;
+  addrs = p .L;
+  par = parityDrive p;
+  grp = group p;
+  three = h .drives-low;
+  zones = omega (arith, h .zones-low);
+  on-drive = parity-on p h;
+  fits = omega (arith, capacity-few p h);
+}

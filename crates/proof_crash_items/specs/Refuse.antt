@@ -1,0 +1,425 @@
+-- No restart that names an allowed drive, or none, is refused 9 or 8 on drives with the facts. Assumes nothing.
+use mathlib.Core.Path.{_≡_, refl, sym, ap, ap₂, _∙_, subst}
+use mathlib.Core.List.{List, [], _∷_, _++_, map}
+use mathlib.Core.Bool.{Bool, true, false, cond, not, _&&_, _||_}
+use mathlib.Core.Logic.{inl, inr, _≢_}
+use Prim.Native.Nat.{ℕ, zero, suc, _+_, _≤_, _<_}
+use native.Mathlib.Decide.{ℕ-discrete}
+use borrow.Author.Tests.{lt-leb, lt-ltb, le-ltb, eq-eqb, ne-eqb, eqb-false, not-true}
+use native.Mathlib.Omega.{arith}
+use lib.Dec.{leb, ltb, eqb}
+use lib.ListN.{length, getD, take, drop, length-drop, length-map}
+use lib.Seq.{getD-take, getD-drop, ext-getD, length-take-le}
+use Rattle.spec.specs.declared.Params.{Params}
+use Rattle.spec.specs.Calls.{Check, ninth, ruled, firstRefusal}
+use Rattle.spec.specs.Calls.Check.{rule}
+use Rattle.spec.specs.Counts.{paddingAddress, lastCount}
+use Rattle.spec.specs.Drives.{Chunk, mkChunk, noChunk, Zone, noZone, View, zoneAt, pointerAt, chunkAt, segmentNumbers, zoneOn, dataStored, blocksOf, footersOf, zeroSpare}
+use Rattle.spec.specs.Faults.{pointerFaults, sameChunk, headerFault, serialFault, outside, twice, stripeFault, badRec, storedBad, decodedBad, addressFault}
+use Rattle.spec.specs.Faults.{footersStored, sameBlocks, footerFaultIn, footerFault, clashes, segmentFault, segmentFaults, imageChecks}
+use Rattle.spec.specs.Layout.{parityDrive, isData, group, inGroupOf, headerBlock, headerSerial, headerCopied, Rec, mkRec, recordOf, footerBlock}
+use Rattle.spec.specs.Lists.Opt.{none}
+use Rattle.spec.specs.Lists.{upFrom, below, all, any, consIf, keep, isNil, sameList}
+use Rattle.spec.specs.Params.{inRange, footers, capacity, named, present, absent}
+use Rattle.spec.specs.Restart.{freeZones, namesDrive, rewrites, restartChecks}
+use Rattle.spec.specs.Segments.{lowDrive, headerAt, leftBy1, isCopy, remaining, Segment, segmentOf, segments, recsOn, counted, pieceOf, recOf, greatestSerial, unsealed}
+use Rattle.law_basic.specs.Geometry.{Ranged, addresses-all}
+use Rattle.law_basic.specs.Ranges.{and-both, length-upFrom, getD-upFrom, getD-map, sameList-refl}
+use Rattle.proof_crash_machine.specs.Accept.{accepted}
+use Rattle.proof_crash_machine.specs.Facts.{Ghost, InV, Good, Choice, R, Off}
+use Rattle.proof_crash_machine.specs.Final.{right}
+use Rattle.proof_crash_machine.specs.History.{at}
+use Rattle.proof_crash_machine.specs.Put.{off-in}
+use Rattle.proof_crash_machine.specs.Reset.{gone}
+use Rattle.proof_crash_machine.specs.Val.{Val, pads}
+use Rattle.proof_crash_machine.specs.View.{Item}
+use Rattle.proof_crash_machine.specs.View.Item.{chunk}
+use Rattle.proof_crash_items.specs.Cands.{rec-of}
+use Rattle.proof_crash_items.specs.Items.{valueOf, chunkItem, itemsIn, items-in, chunk-of}
+use Rattle.proof_crash_items.specs.Member.{Has, false-of, or-false, and-false-1, and-false-2, keep-has, has-keep, keep-nil, upFrom-has, below-has}
+use Rattle.proof_crash_items.specs.Member.{has-below, none-any, map-has, has-getD, isNil-has}
+use Rattle.proof_crash_items.specs.Named.{has-absent, none-present}
+use Rattle.proof_crash_items.specs.Ranges.{parOf}
+use Rattle.proof_crash_items.specs.SegFacts.{segment-fields, seg-low, seg-R, begun-on, serial-is, copied-is, seg-used, ragged-of}
+use Rattle.proof_crash_items.specs.Segs.{OnDrives, zone-bytes, zone-low, zone-facts, head-serials, trusted, low-serials}
+use Rattle.proof_crash_items.specs.Shape.{ZoneShape, shape-zone}
+use Rattle.proof_crash_items.specs.Stripes.{spareRecs, length-spareRecs, getD-spareRecs, stored-below, pointer-is, zones-by, recs-on, pieceAt, counted-stripe}
+use Rattle.proof_crash_items.specs.Values.{pieceValue}
+use Rattle.proof_crash_items.specs.ZoneBytes.{sparesIn, blockIn, ZoneBytes, getD-blocks}
+
+-- ---- rising lists
+
+abbrev pub Rising : List ℕ → Type 0
+Rising [] = Unit {0}
+Rising (a ∷ l) = ((b : ℕ) → Has b l → a < b) × Rising l
+
+pub rising-upFrom : (i n : ℕ) → Rising (upFrom i n)
+unfolding upFrom
+rising-upFrom i zero = tt
+rising-upFrom i (suc n) = ((λ b h. omega (arith, upFrom-has b (suc i) n h .0)), rising-upFrom (suc i) n)
+
+pub rising-keep : (f : ℕ → Bool) (l : List ℕ) → Rising l → Rising (keep f l)
+unfolding keep
+rising-keep f [] h = tt
+rising-keep f (a ∷ l) h = go (f a) (rising-keep f l (h .1))
+  where
+    go : (b : Bool) → Rising (keep f l) → Rising (consIf b a (keep f l))
+    go true ih = unfold consIf in ((λ b i. h .0 b (keep-has f b l i .0)), ih)
+    go false ih = unfold consIf in ih
+
+pub rising-below : (n : ℕ) → Rising (below n)
+unfolding below
+rising-below n = rising-upFrom 0 n
+
+pub remaining-rising : (p : Params) (v : View) (gone : ℕ) → Rising (remaining p v gone)
+unfolding remaining leftBy1 segmentNumbers
+remaining-rising p v gone =
+    rising-keep (λ g. not (isCopy v (lowDrive p gone) (leftBy1 p v gone) g)) (keep (λ g. all (λ d. not (eqb (pointerAt v d (zoneOn g d)) 0)) (present p gone)) (below (p .Z)))
+    (rising-keep (λ g. all (λ d. not (eqb (pointerAt v d (zoneOn g d)) 0)) (present p gone)) (below (p .Z)) (rising-below (p .Z)))
+
+-- at most one passes
+few : (f : ℕ → Bool) (l : List ℕ) → Rising l → ((a b : ℕ) → Has a l → Has b l → f a ≡ true → f b ≡ true → a ≡ b) → length (keep f l) ≤ 1
+unfolding keep
+few f [] h e = omega arith
+few f (a ∷ l) h e = go (f a) refl (few f l (h .1) (λ x y i j. e x y (inr i) (inr j)))
+  where
+    go : (b : Bool) → f a ≡ b → length (keep f l) ≤ 1 → length (consIf b a (keep f l)) ≤ 1
+    go true q ih = unfold consIf in (let n : keep f l ≡ [] = keep-nil f l (λ x i. false-of (f x) (λ t. let w : a ≡ x = e a x (inl refl) (inr i) q t in let j : ⊥ = omega (arith, w, h .0 x i) in j)) in
+        let z : length (keep f l) ≡ 0 = ap length n in omega arith)
+    go false q ih = unfold consIf in ih
+
+keep-map : {A B : Type 0} (f : B → Bool) (h : A → B) (l : List A) → keep f (map h l) ≡ map h (keep (λ (a : A). f (h a)) l)
+unfolding keep
+keep-map f h [] = refl
+keep-map {A} {B} f h (a ∷ l) = go (f (h a)) (keep-map f h l)
+  where
+    go : (t : Bool) → keep f (map h l) ≡ map h (keep (λ (a : A). f (h a)) l) → consIf t (h a) (keep f (map h l)) ≡ map h (consIf t a (keep (λ (a : A). f (h a)) l))
+    go true e = unfold consIf in ap (λ (x : List B). h a ∷ x) e
+    go false e = unfold consIf in e
+
+-- ---- records by offset
+
+outside-none : (p : Params) (i : ℕ) (rs : List Rec) → ((k : ℕ) → k < length rs → inGroupOf p (i + k) (getD rs k (mkRec 0 0 0) .stripe) ≡ true) → outside p i rs ≡ false
+unfolding outside
+outside-none p i [] h = refl
+outside-none p i (x ∷ rs) h =
+    or-false (not (inGroupOf p i (x .stripe))) (outside p (suc i) rs)
+    (ap not (ap (λ (n : ℕ). inGroupOf p n (x .stripe)) (let e : i ≡ i + 0 = omega arith in e) ∙ h 0 (omega arith)))
+    (outside-none p (suc i) rs (λ k l. ap (λ (n : ℕ). inGroupOf p n (getD rs k (mkRec 0 0 0) .stripe)) (let e : suc i + k ≡ i + suc k = omega arith in e) ∙ h (suc k) (omega arith)))
+
+twice-none : (rs : List Rec) → ((j k : ℕ) → j < length rs → k < length rs → getD rs j (mkRec 0 0 0) .stripe ≡ getD rs k (mkRec 0 0 0) .stripe → j ≡ k) → twice rs ≡ false
+unfolding twice
+twice-none [] h = refl
+twice-none (x ∷ rs) h =
+    or-false (any (λ (q : Rec). eqb (q .stripe) (x .stripe)) rs) (twice rs)
+    (none-any (λ (q : Rec). eqb (q .stripe) (x .stripe)) rs (λ q i.
+    let w : (j : ℕ) × (j < length rs) × (getD rs j (mkRec 0 0 0) ≡ q) = has-getD rs q (mkRec 0 0 0) i in
+    ne-eqb (q .stripe) (x .stripe) (λ e. let z : suc (w .0) ≡ 0 = h (suc (w .0)) 0 (omega (arith, w .1)) (omega arith) (ap (λ (y : Rec). y .stripe) (w .2) ∙ e) in let n : ⊥ = omega (arith, z) in n)))
+    (twice-none rs (λ j k a b e. let z : suc j ≡ suc k = h (suc j) (suc k) (omega arith) (omega arith) e in omega (arith, z)))
+
+same-self : (l : List (List ℕ)) → sameBlocks l l ≡ true
+unfolding sameBlocks
+same-self [] = refl
+same-self (x ∷ l) = and-both (sameList x x) (sameBlocks l l) (sameList-refl x) (same-self l)
+
+same-blocks : (a b : List (List ℕ)) → a ≡ b → sameBlocks a b ≡ true
+same-blocks a b e = subst (λ (x : List (List ℕ)). sameBlocks a x ≡ true) e (same-self a)
+
+-- the footers stored in a zone are made from its spares
+footers-made : (p : Params) → Ranged p → (d z : ℕ) (q : Zone) → ZoneShape p q → ZoneBytes p d z q → footerFaultIn p q ≡ false
+unfolding footerFaultIn
+footers-made p r d z q s f = ap not (same-blocks (blocksOf (take (footersStored p q) (drop (1 + p .S) (q .blocks)))) (footersOf p q 0 (footersStored p q)) same)
+  where
+    n : ℕ
+    n = footersStored p q
+
+    few-footers : (footersStored p q ≤ footers p) × ((j : ℕ) → j < footersStored p q → suc (p .S + j) < q .pointer)
+    few-footers = unfold footersStored in (omega arith, λ j l. omega arith)
+
+    long-a : length (blocksOf (take n (drop (1 + p .S) (q .blocks)))) ≡ n
+    long-a = unfold blocksOf in (length-map (take n (drop (1 + p .S) (q .blocks))) (λ (c : Chunk). c .block)
+        ∙ length-take-le n (drop (1 + p .S) (q .blocks)) (unfold capacity in omega (arith, length-drop (1 + p .S) (q .blocks), s .count, few-footers .0)))
+
+    long-b : length (footersOf p q 0 n) ≡ n
+    long-b = unfold footersOf in (length-map (upFrom 0 n) (footerBlock p (sparesIn p q)) ∙ length-upFrom 0 n)
+
+    each : (j : ℕ) → j < n → getD (blocksOf (take n (drop (1 + p .S) (q .blocks)))) j [] ≡ getD (footersOf p q 0 n) j []
+    each j l =
+        getD-blocks (take n (drop (1 + p .S) (q .blocks))) j
+        ∙ ap (λ (c : Chunk). c .block) (getD-take n (drop (1 + p .S) (q .blocks)) j noChunk l ∙ getD-drop (1 + p .S) (q .blocks) j noChunk
+        ∙ ap (λ (i : ℕ). getD (q .blocks) i noChunk) (let e : 1 + p .S + j ≡ suc (p .S + j) = omega arith in e) ∙ f .feet j (few-footers .1 j l))
+        ∙ sym right
+      where
+        right : getD (footersOf p q 0 n) j [] ≡ footerBlock p (sparesIn p q) j
+        right = unfold footersOf in (getD-map (footerBlock p (sparesIn p q)) (upFrom 0 n) j [] 0 (omega (arith, length-upFrom 0 n))
+            ∙ ap (footerBlock p (sparesIn p q)) (getD-upFrom 0 n j 0 l ∙ (let e : 0 + j ≡ j = omega arith in e)))
+
+    same : blocksOf (take n (drop (1 + p .S) (q .blocks))) ≡ footersOf p q 0 n
+    same = ext-getD [] (blocksOf (take n (drop (1 + p .S) (q .blocks)))) (footersOf p q 0 n) (long-a ∙ sym long-b) (λ j l. each j (omega (arith, l, long-a)))
+
+module _ (p : Params) (r : Ranged p) (g : Ghost) (v : View) (k : OnDrives p r g v) (known : (x : Val) → InV x (g .sent) → (0 < x .stamp) × (x .addr < p .L))
+    (m : ℕ) (c : Choice (parOf p r) (g .un) m) where
+  abbrev G : ℕ → Segment
+  G z = segmentOf p v (named m) z
+
+  -- ---- pointers
+  pointers-fine : pointerFaults p v (named m) ≡ []
+  unfolding pointerFaults
+  pointers-fine = keep-nil (λ z. any (λ d. ltb (capacity p) (pointerAt v d z)) (present p (named m))) (below (p .Z)) (λ z i.
+      none-present p r m (λ d. ltb (capacity p) (pointerAt v d z)) (λ d l n.
+      le-ltb (capacity p) (pointerAt v d z) (subst (λ (x : ℕ). x ≤ capacity p) (pointer-is v d z) (zone-bytes p r g v k d z l (trusted p r g v k m c d l n) (below-has z (p .Z) i) .low))))
+
+  module _ (z : ℕ) (i : Has z (remaining p v (named m))) where
+    b : z < p .Z
+    b = seg-low p r g v k m c z i
+
+    R? : R (parOf p r) (g .hd) (itemsIn p v) m z
+    R? = seg-R p r g v k m c z i
+
+    begun : (d : ℕ) → d < p .N → d ≢ m → 0 < pointerAt v d z
+    begun = begun-on p r g v k m c z i
+
+    -- ---- headers
+    header-fine : headerFault p (named m) (G z) ≡ false
+    unfolding headerFault
+    header-fine = none-present p r m
+        (λ d. not (sameChunk (getD (getD (G z .zonesBy) d noZone .blocks) 0 noChunk) (headerBlock p d (zoneOn (G z .seg) d) (G z .serial) (G z .copied)) zeroSpare)) (λ d l n.
+        ap not (subst (λ (q : Zone). sameChunk (getD (q .blocks) 0 noChunk) (headerBlock p d (zoneOn (G z .seg) d) (G z .serial) (G z .copied))
+        zeroSpare
+        ≡ true) (sym (zones-by p r g v k m c z d l)) (one d l n)))
+      where
+        one : (d : ℕ) → d < p .N → d ≢ m → sameChunk (getD (zoneAt v d z .blocks) 0 noChunk) (headerBlock p d (zoneOn (G z .seg) d) (G z .serial) (G z .copied)) zeroSpare ≡ true
+        one d l n =
+            let t : d ≢ g .un = trusted p r g v k m c d l n in
+            let a : (headerSerial (headerAt v d z) ≡ g .hd .ser z) × (headerCopied (headerAt v d z) ≡ g .hd .cop z) = head-serials p r g v k d z l t b (begun d l n) in
+            let w : (headerSerial (headerAt v (lowDrive p (named m)) z) ≡ g .hd .ser z) × (headerCopied (headerAt v (lowDrive p (named m)) z) ≡ g .hd .cop z) =
+            low-serials p r g v k m c z (R? .left) in
+            let h : blockIn (zoneAt v d z) 0 ≡ mkChunk (headerBlock p d z (headerSerial (headerAt v d z)) (headerCopied (headerAt v d z))) zeroSpare = whole d l n in
+            let e : mkChunk (headerBlock p d z (headerSerial (headerAt v d z)) (headerCopied (headerAt v d z))) zeroSpare
+            ≡ mkChunk (headerBlock p d (zoneOn (G z .seg) d) (G z .serial) (G z .copied)) zeroSpare =
+            ap₂ (λ (x y : ℕ). mkChunk (headerBlock p d z x y) zeroSpare) (a .0 ∙ sym (w .0) ∙ sym (segment-fields p r g v k m c z .1)) (a .1 ∙ sym (w .1) ∙ sym (segment-fields p r g v k m c z .2))
+            ∙ ap (λ (x : ℕ). mkChunk (headerBlock p d x (G z .serial) (G z .copied)) zeroSpare) (sym (on d)) in
+            subst (λ (x : Chunk). sameChunk x (headerBlock p d (zoneOn (G z .seg) d) (G z .serial) (G z .copied)) zeroSpare ≡ true) (sym (h ∙ e))
+            (chunk-self (headerBlock p d (zoneOn (G z .seg) d) (G z .serial) (G z .copied)) zeroSpare)
+          where
+            on : (d : ℕ) → zoneOn (G z .seg) d ≡ z
+            on d = unfold zoneOn in segment-fields p r g v k m c z .0
+
+            whole : (d : ℕ) → d < p .N → d ≢ m → blockIn (zoneAt v d z) 0 ≡ mkChunk (headerBlock p d z (headerSerial (headerAt v d z)) (headerCopied (headerAt v d z))) zeroSpare
+            whole d l n = unfold headerAt chunkAt zoneOn in zone-bytes p r g v k d z l (trusted p r g v k m c d l n) b .head (subst (λ (x : ℕ). 0 < x) (sym (pointer-is v d z)) (begun d l n))
+
+            chunk-self : (x y : List ℕ) → sameChunk (mkChunk x y) x y ≡ true
+            chunk-self x y = unfold sameChunk in and-both (sameList x x) (sameList y y) (sameList-refl x) (sameList-refl y)
+
+    -- ---- stripe numbers
+    off-rec : (d o : ℕ) → d < p .N → d ≢ m → o < dataStored p (zoneAt v d z)
+        → Off (itemsIn p v d z) (suc o) (chunk (recordOf (blockIn (zoneAt v d z) (suc o) .spare) .stripe)
+        (valueOf (blockIn (zoneAt v d z) (suc o) .block) (recordOf (blockIn (zoneAt v d z) (suc o) .spare))))
+    off-rec d o l n w =
+        let s : (o < p .S) × (suc o < zoneAt v d z .pointer) = stored-below p (zoneAt v d z) o w in
+        subst (λ (y : List Item). Off y (suc o) (chunk (recordOf (blockIn (zoneAt v d z) (suc o) .spare) .stripe)
+        (valueOf (blockIn (zoneAt v d z) (suc o) .block) (recordOf (blockIn (zoneAt v d z) (suc o) .spare)))))
+        (sym (items-in p v d z)) (unfold chunkItem in chunk-of p (zoneAt v d z) (zone-low p r g v k d z l (trusted p r g v k m c d l n) b) o (s .0) (s .1))
+
+    stripes-fine : stripeFault p (named m) (G z) ≡ false
+    unfolding stripeFault
+    stripes-fine = none-present p r m (λ d. outside p 0 (recsOn (G z) d) || twice (recsOn (G z) d)) (λ d l n.
+        subst (λ (x : List Rec). (outside p 0 x || twice x) ≡ false) (sym (recs-on p r g v k m c z d b l n))
+        (or-false (outside p 0 (spareRecs p (zoneAt v d z))) (twice (spareRecs p (zoneAt v d z))) (out d l n) (once d l n)))
+      where
+        at : (d o : ℕ) → o < length (spareRecs p (zoneAt v d z)) → getD (spareRecs p (zoneAt v d z)) o (mkRec 0 0 0) ≡ recordOf (blockIn (zoneAt v d z) (suc o) .spare)
+        at d o w = getD-spareRecs p (zoneAt v d z) o (mkRec 0 0 0) (omega (arith, w, length-spareRecs p (zoneAt v d z)))
+
+        out : (d : ℕ) → d < p .N → d ≢ m → outside p 0 (spareRecs p (zoneAt v d z)) ≡ false
+        out d l n = outside-none p 0 (spareRecs p (zoneAt v d z)) (λ o w.
+            let f : (recordOf (blockIn (zoneAt v d z) (suc o) .spare) .stripe < p .S) × (o < p .S) × (group p (recordOf (blockIn (zoneAt v d z) (suc o) .spare) .stripe) ≡ group p o) =
+            zone-facts p r g v k d z l (trusted p r g v k m c d l n) .num o (recordOf (blockIn (zoneAt v d z) (suc o) .spare) .stripe)
+            (valueOf (blockIn (zoneAt v d z) (suc o) .block) (recordOf (blockIn (zoneAt v d z) (suc o) .spare))) (off-rec d o l n (omega (arith, w, length-spareRecs p (zoneAt v d z)))) in
+            ap₂ (λ (i : ℕ) (x : Rec). inGroupOf p i (x .stripe)) (let e : 0 + o ≡ o = omega arith in e) (at d o w)
+            ∙ (inside o (recordOf (blockIn (zoneAt v d z) (suc o) .spare) .stripe) (f .0) (f .2)))
+          where
+            inside : (o s : ℕ) → s < p .S → group p s ≡ group p o → inGroupOf p o s ≡ true
+            inside o s a e = unfold inGroupOf in and-both (ltb s (p .S)) (eqb (group p s) (group p o)) (lt-ltb s (p .S) a) (eq-eqb (group p s) (group p o) e)
+
+        once : (d : ℕ) → d < p .N → d ≢ m → twice (spareRecs p (zoneAt v d z)) ≡ false
+        once d l n = twice-none (spareRecs p (zoneAt v d z)) (λ i j a a′ e.
+            let ia : i < dataStored p (zoneAt v d z) = omega (arith, a, length-spareRecs p (zoneAt v d z)) in
+            let ja : j < dataStored p (zoneAt v d z) = omega (arith, a′, length-spareRecs p (zoneAt v d z)) in
+            let q : recordOf (blockIn (zoneAt v d z) (suc i) .spare) .stripe ≡ recordOf (blockIn (zoneAt v d z) (suc j) .spare) .stripe =
+            ap (λ (x : Rec). x .stripe) (sym (at d i a)) ∙ e ∙ ap (λ (x : Rec). x .stripe) (at d j a′) in
+            let w : suc i ≡ suc j = zone-facts p r g v k d z l (trusted p r g v k m c d l n) .once (suc i) (suc j) (recordOf (blockIn (zoneAt v d z) (suc j) .spare) .stripe)
+            (valueOf (blockIn (zoneAt v d z) (suc i) .block) (recordOf (blockIn (zoneAt v d z) (suc i) .spare)))
+            (valueOf (blockIn (zoneAt v d z) (suc j) .block) (recordOf (blockIn (zoneAt v d z) (suc j) .spare)))
+            (subst (λ (s : ℕ). Off (itemsIn p v d z) (suc i)
+            (chunk s (valueOf (blockIn (zoneAt v d z) (suc i) .block) (recordOf (blockIn (zoneAt v d z) (suc i) .spare))))) q
+            (off-rec d i l n ia)) (off-rec d j l n ja) in
+            omega (arith, w))
+
+    -- ---- addresses
+    good-rec : (b : List ℕ) (x : Rec) → Good g (valueOf b x) → badRec p x ≡ false
+    unfolding badRec
+    good-rec b x (inl e) =
+        let a : x .address ≡ paddingAddress = pads-address b x e in
+        or-false (leb (p .L) (x .address) && not (eqb (x .address) paddingAddress)) (ltb (x .address) (p .L) && eqb (x .stamp) 0)
+        (and-false-2 (leb (p .L) (x .address)) (not (eqb (x .address) paddingAddress)) (ap not (eq-eqb (x .address) paddingAddress a)))
+        (and-false-1 (ltb (x .address) (p .L)) (eqb (x .stamp) 0) (le-ltb (x .address) (p .L) (omega (arith, a, addresses-all p r))))
+      where
+        pads-address : (b : List ℕ) (x : Rec) → valueOf b x ≡ pads → x .address ≡ paddingAddress
+        pads-address b x e = unfold pads valueOf in ap (λ (y : Val). y .addr) e
+    good-rec b x (inr i) =
+        let w : (0 < valueOf b x .stamp) × (valueOf b x .addr < p .L) = known (valueOf b x) i in
+        or-false (leb (p .L) (x .address) && not (eqb (x .address) paddingAddress)) (ltb (x .address) (p .L) && eqb (x .stamp) 0)
+        (and-false-1 (leb (p .L) (x .address)) (not (eqb (x .address) paddingAddress)) (lt-leb (p .L) (x .address) (addr-is b x (w .1))))
+        (and-false-2 (ltb (x .address) (p .L)) (eqb (x .stamp) 0) (ne-eqb (x .stamp) 0 (λ e. let j : ⊥ = omega (arith, e, stamp-is b x (w .0)) in j)))
+      where
+        addr-is : (b : List ℕ) (x : Rec) → valueOf b x .addr < p .L → x .address < p .L
+        addr-is b x l = unfold valueOf in l
+
+        stamp-is : (b : List ℕ) (x : Rec) → 0 < valueOf b x .stamp → 0 < x .stamp
+        stamp-is b x l = unfold valueOf in l
+
+    data-drive : (s d : ℕ) → isData p s d ≡ true → d ≢ parityDrive p s
+    unfolding isData
+    data-drive s d e = eqb-false d (parityDrive p s) (not-true (eqb d (parityDrive p s)) e)
+
+    stored-fine : any (λ d. any (storedBad p d) (recsOn (G z) d)) (present p (named m)) ≡ false
+    stored-fine = none-present p r m (λ d. any (storedBad p d) (recsOn (G z) d)) (λ d l n.
+        subst (λ (y : List Rec). any (storedBad p d) y ≡ false) (sym (recs-on p r g v k m c z d b l n))
+        (none-any (storedBad p d) (spareRecs p (zoneAt v d z)) (λ x i. one d l n x (has-getD (spareRecs p (zoneAt v d z)) x (mkRec 0 0 0) i))))
+      where
+        one : (d : ℕ) → d < p .N → d ≢ m → (x : Rec) → (j : ℕ) × (j < length (spareRecs p (zoneAt v d z))) × (getD (spareRecs p (zoneAt v d z)) j (mkRec 0 0 0) ≡ x) → storedBad p d x ≡ false
+        one d l n x (j, a, e) =
+            let w : j < dataStored p (zoneAt v d z) = omega (arith, a, length-spareRecs p (zoneAt v d z)) in
+            let q : recordOf (blockIn (zoneAt v d z) (suc j) .spare) ≡ x = sym (getD-spareRecs p (zoneAt v d z) j (mkRec 0 0 0) w) ∙ e in
+            let f : Off (itemsIn p v d z) (suc j) (chunk (x .stripe) (valueOf (blockIn (zoneAt v d z) (suc j) .block) x)) =
+            subst (λ (y : Rec). Off (itemsIn p v d z) (suc j) (chunk (y .stripe) (valueOf (blockIn (zoneAt v d z) (suc j) .block) y))) q (off-rec d j l n w) in
+            case (isData p (x .stripe) d) refl f
+          where
+            case : (t : Bool) → isData p (x .stripe) d ≡ t → Off (itemsIn p v d z) (suc j) (chunk (x .stripe) (valueOf (blockIn (zoneAt v d z) (suc j) .block) x)) → storedBad p d x ≡ false
+            case false e f = unfold storedBad in and-false-1 (isData p (x .stripe) d) (badRec p x) e
+            case true e f = unfold storedBad in and-false-2 (isData p (x .stripe) d) (badRec p x) (good-rec (blockIn (zoneAt v d z) (suc j) .block) x
+                (zone-facts p r g v k d z l (trusted p r g v k m c d l n) .origin (x .stripe) (valueOf (blockIn (zoneAt v d z) (suc j) .block) x)
+                (off-in (itemsIn p v d z) (suc j) (chunk (x .stripe) (valueOf (blockIn (zoneAt v d z) (suc j) .block) x)) f) (data-drive (x .stripe) d e)))
+
+    decoded-fine : any (λ d. any (decodedBad p (named m) (G z) d) (counted p (named m) (G z))) (absent p (named m)) ≡ false
+    decoded-fine = none-any (λ d. any (decodedBad p (named m) (G z) d) (counted p (named m) (G z))) (absent p (named m)) (λ d j.
+        none-any (decodedBad p (named m) (G z) d) (counted p (named m) (G z)) (λ s i. one d (has-absent p r m d j .0) s i (isData p s d) refl))
+      where
+        one : (d : ℕ) → d < p .N → (s : ℕ) → Has s (counted p (named m) (G z)) → (t : Bool) → isData p s d ≡ t → decodedBad p (named m) (G z) d s ≡ false
+        one d l s i false e = unfold decodedBad in and-false-1 (isData p s d) (badRec p (recOf p (named m) (G z) s d)) e
+        one d l s i true e = unfold decodedBad in and-false-2 (isData p s d) (badRec p (recOf p (named m) (G z) s d)) (
+            subst (λ (x : Rec). badRec p x ≡ false) (rec-of p (named m) (G z) s d) (good-rec (pieceOf p (named m) (G z) s d .block) (pieceOf p (named m) (G z) s d .rec) (good d l s i e)))
+          where
+            good : (d : ℕ) → d < p .N → (s : ℕ) → Has s (counted p (named m) (G z)) → isData p s d ≡ true → Good g (valueOf (pieceOf p (named m) (G z) s d .block) (pieceOf p (named m) (G z) s d .rec))
+            good d l s i e = unfold pieceAt pieceValue in k .facts .parity .sound m c z s (pieceAt p r g v k m c z s) (counted-stripe p r g v k m c z s b i) (pieceAt p r g v k m c z s d)
+                (record { d = d; lt = l; data? = data-drive s d e; val = refl })
+
+    addresses-fine : addressFault p (named m) (G z) ≡ false
+    unfolding addressFault
+    addresses-fine =
+        or-false (any (λ d. any (storedBad p d) (recsOn (G z) d)) (present p (named m)))
+        (any (λ d. any (decodedBad p (named m) (G z) d) (counted p (named m) (G z))) (absent p (named m))) stored-fine decoded-fine
+
+    -- ---- footers
+    footers-fine : footerFault p (named m) (G z) ≡ false
+    unfolding footerFault
+    footers-fine = and-false-2 (not (G z .full)) (any (λ d. footerFaultIn p (getD (G z .zonesBy) d noZone)) (present p (named m)))
+        (none-present p r m (λ d. footerFaultIn p (getD (G z .zonesBy) d noZone)) (λ d l n.
+        ap (footerFaultIn p) (zones-by p r g v k m c z d l)
+        ∙ footers-made p r d z (zoneAt v d z) (shape-zone p v (k .shape) d z l b) (zone-bytes p r g v k d z l (trusted p r g v k m c d l n) b)))
+
+  -- ---- serials
+  serials-fine : (z : ℕ) → Has z (remaining p v (named m)) → serialFault (segments p v (named m)) (G z) ≡ false
+  unfolding serialFault segments
+  serials-fine z i = or-false (leb (G z .serial) (G z .copied)) (any test? (map (segmentOf p v (named m)) (remaining p v (named m))))
+      (lt-leb (G z .serial) (G z .copied) (omega (arith, serial-is p r g v k m c z i, copied-is p r g v k m c z i, k .facts .swap .below z (seg-used p r g v k m c z i))))
+      (none-any test? (map (segmentOf p v (named m)) (remaining p v (named m))) (λ h j. one h (map-has (segmentOf p v (named m)) h (remaining p v (named m)) j)))
+    where
+      test? : Segment → Bool
+      test? h = not (eqb (h .seg) (G z .seg)) && eqb (h .serial) (G z .serial)
+
+      one : (h : Segment) → (y : ℕ) × Has y (remaining p v (named m)) × (h ≡ G y) → test? h ≡ false
+      one h (y, j, e) = rw e (go (ℕ-discrete y z))
+        where
+          go : Dec (y ≡ z) → test? (G y) ≡ false
+          go (yes q) =
+              and-false-1 (not (eqb (G y .seg) (G z .seg))) (eqb (G y .serial) (G z .serial))
+              (ap not (eq-eqb (G y .seg) (G z .seg) (segment-fields p r g v k m c y .0 ∙ q ∙ sym (segment-fields p r g v k m c z .0))))
+          go (no q) = and-false-2 (not (eqb (G y .seg) (G z .seg))) (eqb (G y .serial) (G z .serial)) (ne-eqb (G y .serial) (G z .serial) (λ w.
+              q (k .facts .swap .serials y z (seg-used p r g v k m c y j) (seg-used p r g v k m c z i) (sym (serial-is p r g v k m c y j) ∙ w ∙ serial-is p r g v k m c z i))))
+
+  -- ---- one unsealed segment
+  pub one-unsealed : length (unsealed (segments p v (named m))) ≤ 1
+  unfolding unsealed segments
+  one-unsealed =
+      let e : keep (λ (g : Segment). not (g .full)) (map (segmentOf p v (named m)) (remaining p v (named m))) ≡ map (segmentOf p v (named m)) (keep (λ z. not (G z .full)) (remaining p v (named m))) =
+      keep-map (λ (g : Segment). not (g .full)) (segmentOf p v (named m)) (remaining p v (named m)) in
+      let n : length (keep (λ z. not (G z .full)) (remaining p v (named m))) ≤ 1 = few (λ z. not (G z .full)) (remaining p v (named m)) (remaining-rising p v (named m)) (λ y z i j a b.
+      accepted (parOf p r) g (itemsIn p v) (k .facts) m c .one y z (R? y i) (R? z j) (ragged-of p r g v k m c y i (not-true (G y .full) a)) (ragged-of p r g v k m c z j (not-true (G z .full) b))) in
+      omega (arith, n, ap length e ∙ length-map (keep (λ z. not (G z .full)) (remaining p v (named m))) (segmentOf p v (named m)))
+
+  segment-fine : (z : ℕ) → Has z (remaining p v (named m)) → segmentFault p (named m) (segments p v (named m)) (G z) ≡ false
+  unfolding segmentFault clashes
+  segment-fine z i =
+      let gs : List Segment = segments p v (named m) in
+      let h₁ : (headerFault p (named m) (G z) || serialFault gs (G z)) ≡ false = or-false (headerFault p (named m) (G z)) (serialFault gs (G z)) (header-fine z i) (serials-fine z i) in
+      let h₂ : (headerFault p (named m) (G z) || serialFault gs (G z) || stripeFault p (named m) (G z)) ≡ false =
+      or-false (headerFault p (named m) (G z) || serialFault gs (G z)) (stripeFault p (named m) (G z)) h₁ (stripes-fine z i) in
+      let h₃ : (headerFault p (named m) (G z) || serialFault gs (G z) || stripeFault p (named m) (G z) || addressFault p (named m) (G z)) ≡ false =
+      or-false (headerFault p (named m) (G z) || serialFault gs (G z) || stripeFault p (named m) (G z)) (addressFault p (named m) (G z)) h₂ (addresses-fine z i) in
+      let h₄ : (headerFault p (named m) (G z) || serialFault gs (G z) || stripeFault p (named m) (G z) || addressFault p (named m) (G z) || footerFault p (named m) (G z)) ≡ false =
+      or-false (headerFault p (named m) (G z) || serialFault gs (G z) || stripeFault p (named m) (G z) || addressFault p (named m) (G z)) (footerFault p (named m) (G z)) h₃ (footers-fine z i) in
+      or-false (headerFault p (named m) (G z)
+      || serialFault gs (G z)
+      || stripeFault p (named m) (G z)
+      || addressFault p (named m) (G z)
+      || footerFault p (named m) (G z)) (not (G z .full) && leb 2 (length (unsealed gs))) h₄
+      (and-false-2 (not (G z .full)) (leb 2 (length (unsealed gs))) (lt-leb 2 (length (unsealed gs)) (omega (arith, one-unsealed))))
+
+  segments-fine : segmentFaults p (named m) (segments p v (named m)) ≡ []
+  unfolding segmentFaults
+  segments-fine = ap (map (λ (g : Segment). g .seg)) (keep-nil (segmentFault p (named m) (segments p v (named m))) (segments p v (named m)) (λ h j. one h (each h j)))
+    where
+      each : (h : Segment) → Has h (segments p v (named m)) → (y : ℕ) × Has y (remaining p v (named m)) × (h ≡ G y)
+      each h j = unfold segments in map-has (segmentOf p v (named m)) h (remaining p v (named m)) j
+
+      one : (h : Segment) → (y : ℕ) × Has y (remaining p v (named m)) × (h ≡ G y) → segmentFault p (named m) (segments p v (named m)) h ≡ false
+      one h (y, i, e) = rw e (segment-fine y i)
+
+  -- ---- 8: a zone is free
+  pub free-zone : isNil (freeZones p (segments p v (named m))) ≡ false
+  unfolding freeZones segmentNumbers
+  free-zone =
+      let a : (z : ℕ) × (z < p .Z) × (R (parOf p r) (g .hd) (itemsIn p v) m z → ⊥) = accepted (parOf p r) g (itemsIn p v) (k .facts) m c .room in
+      isNil-has (keep (λ z. not (any (λ (g : Segment). eqb (g .seg) z) (segments p v (named m)))) (below (p .Z))) (a .0)
+      (has-keep (λ z. not (any (λ (g : Segment). eqb (g .seg) z) (segments p v (named m)))) (a .0) (below (p .Z)) (has-below (a .0) (p .Z) (a .1))
+      (ap not (none-any (λ (g : Segment). eqb (g .seg) (a .0)) (segments p v (named m)) (λ h j. one (a .0) (a .2) h (each h j)))))
+    where
+      each : (h : Segment) → Has h (segments p v (named m)) → (y : ℕ) × Has y (remaining p v (named m)) × (h ≡ G y)
+      each h j = unfold segments in map-has (segmentOf p v (named m)) h (remaining p v (named m)) j
+
+      one : (z : ℕ) → (R (parOf p r) (g .hd) (itemsIn p v) m z → ⊥) → (h : Segment) → (y : ℕ) × Has y (remaining p v (named m)) × (h ≡ G y) → eqb (h .seg) z ≡ false
+      one z n h (y, i, e) = rw e (ne-eqb (G y .seg) z (λ w. n (subst (λ (x : ℕ). R (parOf p r) (g .hd) (itemsIn p v) m x) (sym (segment-fields p r g v k m c y .0) ∙ w) (R? y i))))
+
+  -- ---- the image passes, and with it the restart (but for 6)
+  pub image-passes : (cs : List Check) → firstRefusal (imageChecks p v (named m) (segments p v (named m)) ++ cs) ≡ firstRefusal cs
+  unfolding imageChecks firstRefusal ninth isNil
+  image-passes cs =
+      let e₁ : pointerFaults p v (named m) ≡ [] = pointers-fine in
+      let e₂ : segmentFaults p (named m) (segments p v (named m)) ≡ [] = segments-fine in
+      ap₂ (λ (ps ss : List ℕ). ninth ps (ninth (cond (isNil ps) ss []) (firstRefusal cs))) e₁ e₂
+
+  pub not-refused : inRange p ≡ true → namesDrive p m ≡ true → (long : Bool) → long ≡ true
+      → (rewrites p (named m) (segments p v (named m)) && eqb (greatestSerial (segments p v (named m))) lastCount) ≡ false
+      → firstRefusal (restartChecks p long v m (segments p v (named m))) ≡ none
+  unfolding restartChecks firstRefusal ruled
+  not-refused h₁ h₂ long h₃ h₆ =
+      let gs : List Segment = segments p v (named m) in
+      let a₁ : (not (inRange p) || not (namesDrive p m)) ≡ false = or-false (not (inRange p)) (not (namesDrive p m)) (ap not h₁) (ap not h₂) in
+      let a₂ : not long ≡ false = ap not h₃ in
+      let a₈ : (rewrites p (named m) gs && isNil (freeZones p gs)) ≡ false = and-false-2 (rewrites p (named m) gs) (isNil (freeZones p gs)) free-zone in
+      ap₂ (λ (x y : Bool). ruled 1 x (ruled 2 y (firstRefusal
+      (imageChecks p v (named m) gs ++ (rule 6 (rewrites p (named m) gs && eqb (greatestSerial gs) lastCount) ∷ rule 8
+      (rewrites p (named m) gs && isNil (freeZones p gs)) ∷ []))))) a₁ a₂
+      ∙ image-passes (rule 6 (rewrites p (named m) gs && eqb (greatestSerial gs) lastCount) ∷ rule 8 (rewrites p (named m) gs && isNil (freeZones p gs)) ∷ [])
+      ∙ ap₂ (λ (x y : Bool). ruled 6 x (ruled 8 y none)) h₆ a₈

@@ -1,0 +1,184 @@
+-- The memory that a restart leaves: its tables, and a state with nothing in flight whose numbers are in range. Assumes nothing.
+use mathlib.Core.Path.{_≡_, refl, sym, ap, ap₂, _∙_, subst}
+use mathlib.Core.List.{List, [], _∷_}
+use mathlib.Core.Bool.{Bool, true, false, cond, not, _&&_}
+use mathlib.Core.Logic.{_⊎_, inl, inr, ⊎-elim}
+use Prim.Native.Nat.{ℕ, zero, suc, _^_, _≤_, _<_}
+use native.Mathlib.Decide.{decLt}
+use borrow.Author.Tests.{le-leb, lt-ltb, eq-eqb, leb-true, ltb-true, eqb-true}
+use native.Mathlib.Omega.{arith}
+use lib.Dec.{leb, ltb, eqb}
+use lib.ListN.{length, getD, replicate, length-replicate, List·getD-eq-default, getD-replicate}
+use lib.Count.{ones, onesIn}
+use lib.Pow.{pow-lt, pow-pos}
+use Rattle.spec.specs.declared.Params.{Params}
+use Rattle.spec.specs.Drives.{View, Disk}
+use Rattle.spec.specs.Engine.{lentOk}
+use Rattle.spec.specs.Lists.{below, all, keep, powers, only}
+use Rattle.spec.specs.Memory.{slots, idleState, stripeIn, filledIn, landedIn, slotOk, stateOk}
+use Rattle.spec.specs.Params.{dataCount, imageLen, pointersLen, addressesLen, compactLen, inflightLen, noDrive, named}
+use Rattle.spec.specs.Restart.{openOf, nextOf, restartMemory, namesDrive}
+use Rattle.spec.specs.Segments.{remaining, Segment, segmentOf, segments, counts, counted, candidates, addressTable, compactTable, greatestStamp, greatestSerial, unsealed}
+use Rattle.law_basic.specs.Geometry.{Ranged}
+use Rattle.law_basic.specs.Mask.{only-pow}
+use Rattle.law_basic.specs.Ranges.{and-both, length-below, length-keep}
+use Rattle.law_views.specs.Views.{Whole}
+use Rattle.proof_crash_machine.specs.Exec.{or-cases, allB, all-true}
+use Rattle.proof_crash_machine.specs.Facts.{Ghost, Choice}
+use Rattle.proof_crash_machine.specs.History.Step.{missing}
+use Rattle.proof_crash_machine.specs.OpenSeg.{opened}
+use Rattle.proof_crash_machine.specs.Reset.{gone}
+use Rattle.proof_crash_items.specs.Member.{Has, keep-has, has-all, map-has}
+use Rattle.proof_crash_items.specs.Named.{named-none}
+use Rattle.proof_crash_items.specs.Ranges.{parOf}
+use Rattle.proof_crash_items.specs.Reading.{Tabled}
+use Rattle.proof_crash_items.specs.Segs.{OnDrives, remaining-has}
+use Rattle.proof_crash_items.specs.Table.{length-addresses, length-compact}
+
+-- ---- an idle state
+
+zeros-at : (n i : ℕ) → _≡_ {A = ℕ} (getD (replicate n 0) i 0) 0
+zeros-at n i = go (decLt i n)
+  where
+    go : Dec (i < n) → _≡_ {A = ℕ} (getD (replicate n 0) i 0) 0
+    go (yes l) = getD-replicate n i 0 0 l
+    go (no l) = List·getD-eq-default (replicate n 0) 0 {n = i} (omega (arith, length-replicate {A = ℕ} n 0))
+
+pub idle-filled : (live gone stamp serial opened next i : ℕ) → filledIn (idleState live gone stamp serial opened next) i ≡ 0
+unfolding filledIn idleState
+idle-filled live gone stamp serial opened next i = zeros-at 8 i
+
+two-pow : (k : ℕ) → 0 < 2 ^ k
+two-pow k = pow-pos k
+
+idle-slot : (p : Params) → Ranged p → (live gone stamp serial opened next i : ℕ) → slotOk p (idleState live gone stamp serial opened next) i ≡ true
+unfolding slotOk idleState stripeIn filledIn landedIn
+idle-slot p r live gone stamp serial opened next i =
+    ap₂ (λ (a b : ℕ). ltb a (p .S) && leb b (dataCount p) && ltb b (2 ^ dataCount p) && ltb b (2 ^ p .N)) (zeros-at 8 i) (zeros-at 8 i)
+    ∙ and-both (ltb 0 (p .S) && leb 0 (dataCount p) && ltb 0 (2 ^ dataCount p)) (ltb 0 (2 ^ p .N))
+    (and-both (ltb 0 (p .S) && leb 0 (dataCount p)) (ltb 0 (2 ^ dataCount p))
+    (and-both (ltb 0 (p .S)) (leb 0 (dataCount p)) (lt-ltb 0 (p .S) (omega (arith, r .stripes-low))) (le-leb 0 (dataCount p) (omega arith)))
+    (lt-ltb 0 (2 ^ dataCount p) (two-pow (dataCount p)))) (lt-ltb 0 (2 ^ p .N) (two-pow (p .N)))
+
+replicate-has : (n a x : ℕ) → Has x (replicate n a) → x ≡ a
+replicate-has zero a x i = absurd i
+replicate-has (suc n) a x (inl e) = e
+replicate-has (suc n) a x (inr i) = replicate-has n a x i
+
+pub idle-ok : (p : Params) → Ranged p → (gone stamp serial opened next : ℕ) → gone < 2 ^ p .N → ones gone ≤ 1 → opened ≤ p .Z → next ≤ p .S
+    → stateOk p (idleState 1 gone stamp serial opened next) ≡ true
+idle-ok p r gone stamp serial opened next h₁ h₂ h₃ h₄ =
+    go (all (slotOk p (idleState 1 gone stamp serial opened next)) slots)
+    (has-all (slotOk p (idleState 1 gone stamp serial opened next)) slots (λ i m. idle-slot p r 1 gone stamp serial opened next i))
+  where
+    go : (b : Bool) → b ≡ true → stateOk p (idleState 1 gone stamp serial opened next) ≡ true
+    go b e = unfold stateOk idleState in
+        and-both (eqb 1 1
+        && ltb gone (2 ^ p .N)
+        && leb (ones gone) 1
+        && leb opened (p .Z)
+        && leb next (p .S)
+        && all (slotOk p (idleState 1 gone stamp serial opened next)) slots) (all (λ o. ltb o (p .S)) (replicate 64 0))
+        (and-both (eqb 1 1 && ltb gone (2 ^ p .N) && leb (ones gone) 1 && leb opened (p .Z) && leb next (p .S)) (all (slotOk p (idleState 1 gone stamp serial opened next)) slots)
+        (and-both (eqb 1 1 && ltb gone (2 ^ p .N) && leb (ones gone) 1 && leb opened (p .Z)) (leb next (p .S))
+        (and-both (eqb 1 1 && ltb gone (2 ^ p .N) && leb (ones gone) 1) (leb opened (p .Z))
+        (and-both (eqb 1 1 && ltb gone (2 ^ p .N)) (leb (ones gone) 1) (and-both (eqb 1 1) (ltb gone (2 ^ p .N)) refl (lt-ltb gone (2 ^ p .N) h₁)) (le-leb (ones gone) 1 h₂))
+        (le-leb opened (p .Z) h₃)) (le-leb next (p .S) h₄))
+        (has-all (slotOk p (idleState 1 gone stamp serial opened next)) slots (λ i m. idle-slot p r 1 gone stamp serial opened next i)))
+        (has-all (λ o. ltb o (p .S)) (replicate 64 0) (λ o i. lt-ltb o (p .S) (omega (arith, replicate-has 64 0 o i, r .stripes-low))))
+
+-- ---- the drive that a restart names
+
+one-each : allB 8 (λ (m : ℕ). leb (ones (named m)) 1) ≡ true
+unfolding allB named only powers ones onesIn
+one-each = refl
+
+ones-zero : ones 0 ≡ 0
+unfolding ones onesIn
+ones-zero = refl
+
+pub names-cases : (p : Params) (m : ℕ) → namesDrive p m ≡ true → (m < p .N) ⊎ (m ≡ noDrive)
+unfolding namesDrive
+names-cases p m e = ⊎-elim (λ (q : ltb m (p .N) ≡ true). inl (ltb-true m (p .N) q)) (λ (q : eqb m noDrive ≡ true). inr (eqb-true m noDrive q)) (or-cases (ltb m (p .N)) (eqb m noDrive) e)
+
+pub named-ones : (m : ℕ) → ones (named m) ≤ 1
+named-ones m = go (decLt m 8)
+  where
+    go : Dec (m < 8) → ones (named m) ≤ 1
+    go (yes l) = leb-true (ones (named m)) 1 (all-true 8 (λ (m : ℕ). leb (ones (named m)) 1) one-each m l)
+    go (no l) = let e : ones (named m) ≡ 0 = ap ones (named-none m (omega arith)) ∙ ones-zero in omega arith
+
+named-pow : (m : ℕ) → m < 8 → named m ≡ 2 ^ m
+unfolding named
+named-pow m l = only-pow m l
+
+pub named-lt : (p : Params) → Ranged p → (m : ℕ) → namesDrive p m ≡ true → named m < 2 ^ p .N
+named-lt p r m e = go (names-cases p m e)
+  where
+    go : (m < p .N) ⊎ (m ≡ noDrive) → named m < 2 ^ p .N
+    go (inl l) = subst (λ (x : ℕ). x < 2 ^ p .N) (sym (named-pow m (omega (arith, l, r .drives-high)))) (pow-lt l)
+    go (inr q) = subst (λ (x : ℕ). x < 2 ^ p .N) (sym (named-none m (unfold noDrive in omega (arith, q)))) (two-pow (p .N))
+
+-- ---- the memory of a restart
+
+module _ (p : Params) (r : Ranged p) (g : Ghost) (v : View) (k : OnDrives p r g v) (m : ℕ) (c : Choice (parOf p r) (g .un) m) (nm : namesDrive p m ≡ true) (fl : List ℕ) where
+  abbrev us : List Segment
+  us = cond (eqb (named m) 0) (unsealed (segments p v (named m))) []
+
+  from-us : (q : Segment) → Has q us → Has q (segments p v (named m))
+  unfolding unsealed
+  from-us q i = go (eqb (named m) 0) i
+    where
+      go : (b : Bool) → Has q (cond b (keep (λ (g : Segment). not (g .full)) (segments p v (named m))) []) → Has q (segments p v (named m))
+      go true i = keep-has (λ (g : Segment). not (g .full)) q (segments p v (named m)) i .0
+      go false i = absurd i
+
+  seg-below : (q : Segment) → Has q (segments p v (named m)) → q .seg < p .Z
+  unfolding segments segmentOf
+  seg-below q i =
+      let a : (z : ℕ) × Has z (remaining p v (named m)) × (q ≡ segmentOf p v (named m) z) = map-has (segmentOf p v (named m)) q (remaining p v (named m)) i in
+      subst (λ (x : ℕ). x < p .Z) (sym (ap (λ (y : Segment). y .seg) (a .2))) (remaining-has p r g v k m c (a .0) (a .1) .0)
+
+  open-low : openOf us ≤ p .Z
+  open-low = go us (λ q i. seg-below q (from-us q i))
+    where
+      go : (l : List Segment) → ((q : Segment) → Has q l → q .seg < p .Z) → openOf l ≤ p .Z
+      go [] h = unfold openOf in omega arith
+      go (q ∷ l) h = unfold openOf in h q (inl refl)
+
+  next-low : nextOf p us ≤ p .S
+  next-low = go us
+    where
+      go : (l : List Segment) → nextOf p l ≤ p .S
+      go [] = unfold nextOf in omega arith
+      go (q ∷ l) = unfold nextOf counted in omega (arith, length-keep (counts p 0 q) (below (p .S)), length-below (p .S))
+
+  pub restart-tabled : Tabled p v m (restartMemory p v (named m) fl)
+  unfolding restartMemory
+  restart-tabled = record {
+    addresses = refl;
+    compact = refl;
+    missing = unfold idleState in refl;
+    ok =
+        idle-ok p r (named m) (greatestStamp (candidates p (named m) (segments p v (named m)))) (greatestSerial (segments p v (named m))) (openOf us)
+        (nextOf p us) (named-lt p r m nm) (named-ones m) open-low next-low;
+  }
+
+  pub restart-lent : (dk : Disk) → Whole p dk → length fl ≡ inflightLen p → lentOk p dk (restartMemory p v (named m) fl) ≡ true
+  unfolding lentOk restartMemory
+  restart-lent dk w l =
+      and-both (eqb (length (dk .image)) (imageLen p)
+      && eqb (length (dk .pointers)) (pointersLen p)
+      && eqb (length (addressTable p (candidates p (named m) (segments p v (named m))))) (addressesLen p)
+      && eqb (length (compactTable p (segments p v (named m)))) (compactLen p)) (eqb (length fl) (inflightLen p))
+      (and-both (eqb (length (dk .image)) (imageLen p)
+      && eqb (length (dk .pointers)) (pointersLen p)
+      && eqb (length (addressTable p (candidates p (named m) (segments p v (named m))))) (addressesLen p))
+      (eqb (length (compactTable p (segments p v (named m)))) (compactLen p))
+      (and-both (eqb (length (dk .image)) (imageLen p) && eqb (length (dk .pointers)) (pointersLen p))
+      (eqb (length (addressTable p (candidates p (named m) (segments p v (named m))))) (addressesLen p))
+      (and-both (eqb (length (dk .image)) (imageLen p)) (eqb (length (dk .pointers)) (pointersLen p))
+      (eq-eqb (length (dk .image)) (imageLen p) (w .image-long)) (eq-eqb (length (dk .pointers)) (pointersLen p) (w .pointers-long)))
+      (eq-eqb (length (addressTable p (candidates p (named m) (segments p v (named m))))) (addressesLen p) (length-addresses p (candidates p (named m) (segments p v (named m))))))
+      (eq-eqb (length (compactTable p (segments p v (named m)))) (compactLen p) (length-compact p r g v k m c)))
+      (eq-eqb (length fl) (inflightLen p) l)

@@ -1,0 +1,77 @@
+-- A remaining segment as read: its fields, its serials; an unsealed one is ragged. Assumes nothing.
+use mathlib.Core.Path.{_≡_, refl, sym, _∙_, subst}
+use mathlib.Core.List.{List, [], _∷_}
+use mathlib.Core.Bool.{Bool, true, false, _&&_}
+use mathlib.Core.Logic.{inl, inr, _≢_}
+use Prim.Native.Nat.{ℕ, _≤_, _<_}
+use borrow.Author.Tests.{eqb-false}
+use native.Mathlib.Omega.{arith}
+use lib.Dec.{eqb}
+use lib.ListN.{length}
+use Rattle.spec.specs.declared.Params.{Params}
+use Rattle.spec.specs.Drives.{View, pointerAt, zoneOn, sealedIn}
+use Rattle.spec.specs.Layout.{headerSerial, headerCopied}
+use Rattle.spec.specs.Lists.{all}
+use Rattle.spec.specs.Params.{capacity, named, present}
+use Rattle.spec.specs.Segments.{lowDrive, headerAt, remaining, Segment, segmentOf}
+use Rattle.law_basic.specs.Geometry.{Ranged}
+use Rattle.proof_crash_machine.specs.Exec.{true≢false}
+use Rattle.proof_crash_machine.specs.Facts.{Ghost, Choice, R, Used, Ragged, used}
+use Rattle.proof_crash_items.specs.Items.{itemsIn}
+use Rattle.proof_crash_items.specs.Member.{Has}
+use Rattle.proof_crash_items.specs.Named.{present-has}
+use Rattle.proof_crash_items.specs.Ranges.{parOf}
+use Rattle.proof_crash_items.specs.Segs.{OnDrives, zone-bytes, zone-len, trusted, low-serials, remaining-has}
+use Rattle.proof_crash_items.specs.Stripes.{pointer-is}
+
+pub all-false : {A : Type 0} (f : A → Bool) (l : List A) → all f l ≡ false → (a : A) × Has a l × (f a ≡ false)
+unfolding all
+all-false f [] e = true≢false (sym e)
+all-false {A} f (b ∷ l) e = go (f b) refl e (all-false f l)
+  where
+    go : (t : Bool) → f b ≡ t → (t && all f l) ≡ false → (all f l ≡ false → (a : A) × Has a l × (f a ≡ false)) → (a : A) × Has a (b ∷ l) × (f a ≡ false)
+    go true q e ih = (ih e .0, inr (ih e .1), ih e .2)
+    go false q e ih = (b, inl refl, q)
+
+module _ (p : Params) (r : Ranged p) (g : Ghost) (v : View) (k : OnDrives p r g v) (m : ℕ) (c : Choice (parOf p r) (g .un) m) where
+  abbrev G : ℕ → Segment
+  G z = segmentOf p v (named m) z
+
+  pub segment-fields :
+      (z : ℕ)
+      → (G z .seg ≡ z) × (G z .serial ≡ headerSerial (headerAt v (lowDrive p (named m)) z)) ×
+      (G z .copied ≡ headerCopied (headerAt v (lowDrive p (named m)) z)) × (G z .full ≡ sealedIn p v (named m) z)
+  unfolding segmentOf
+  segment-fields z = (refl, refl, refl, refl)
+
+  module _ (z : ℕ) (i : Has z (remaining p v (named m))) where
+    pub seg-low : z < p .Z
+    seg-low = remaining-has p r g v k m c z i .0
+
+    pub seg-R : R (parOf p r) (g .hd) (itemsIn p v) m z
+    seg-R = remaining-has p r g v k m c z i .1
+
+    pub begun-on : (d : ℕ) → d < p .N → d ≢ m → 0 < pointerAt v d z
+    begun-on d l n = omega (arith, seg-R .left d l n, zone-len p r g v k d z l (trusted p r g v k m c d l n) seg-low)
+
+    pub serial-is : G z .serial ≡ g .hd .ser z
+    serial-is = segment-fields z .1 ∙ low-serials p r g v k m c z (seg-R .left) .0
+
+    pub copied-is : G z .copied ≡ g .hd .cop z
+    copied-is = segment-fields z .2 ∙ low-serials p r g v k m c z (seg-R .left) .1
+
+    pub seg-used : Used (parOf p r) (g .un) (itemsIn p v) z
+    seg-used = used (parOf p r) g (itemsIn p v) m z c (seg-R .left)
+
+    -- an unsealed one is ragged
+    pub ragged-of : G z .full ≡ false → Ragged (parOf p r) m (itemsIn p v) z
+    unfolding sealedIn zoneOn
+    ragged-of e =
+        let a : (d : ℕ) × Has d (present p (named m)) × (eqb (pointerAt v d z) (capacity p) ≡ false) =
+        all-false (λ d. eqb (pointerAt v d z) (capacity p)) (present p (named m)) (sym (segment-fields z .3) ∙ e) in
+        let l : (a .0 < p .N) × (a .0 ≢ m) = present-has p r m (a .0) (a .1) in
+        let t : a .0 ≢ g .un = trusted p r g v k m c (a .0) (l .0) (l .1) in
+        let n : length (itemsIn p v (a .0) z) ≡ pointerAt v (a .0) z = zone-len p r g v k (a .0) z (l .0) t seg-low in
+        let w : pointerAt v (a .0) z ≢ capacity p = eqb-false (pointerAt v (a .0) z) (capacity p) (a .2) in
+        let h : pointerAt v (a .0) z ≤ capacity p = subst (λ (x : ℕ). x ≤ capacity p) (pointer-is v (a .0) z) (zone-bytes p r g v k (a .0) z (l .0) t seg-low .low) in
+        (a .0, l, omega (arith, n, begun-on (a .0) (l .0) (l .1)), omega (arith, n, w, h))

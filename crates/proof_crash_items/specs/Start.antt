@@ -1,0 +1,90 @@
+-- Empty drives have the facts: the hypotheses of this crate can be met. Assumes nothing.
+use mathlib.Core.Path.{_≡_, refl, sym, ap, _∙_, subst}
+use mathlib.Core.List.{List, []}
+use mathlib.Core.Bool.{true}
+use Prim.Native.Nat.{ℕ, _≤_, _<_}
+use native.Mathlib.Decide.{decLt}
+use borrow.Author.Tests.{eqb-true}
+use native.Mathlib.Omega.{arith}
+use lib.Dec.{eqb}
+use lib.ListN.{length, getD, take, replicate, length-replicate, List·getD-eq-default}
+use Rattle.spec.specs.declared.Params.{Params}
+use Rattle.spec.specs.Bytes.{beFrom, beOf, part}
+use Rattle.spec.specs.Drives.{Zone, noZone, stored, View, zoneAt, pointerAt, Disk, pointerByte, pointerOf}
+use Rattle.spec.specs.History.{emptyDisk}
+use Rattle.spec.specs.Lists.{sameList}
+use Rattle.spec.specs.Params.{imageLen, pointersLen}
+use Rattle.law_basic.specs.Geometry.{Ranged, pointer-within}
+use Rattle.law_basic.specs.Ranges.{and-left, and-right, sameList-true, part-replicate}
+use Rattle.law_views.specs.Views.{Whole, pointer-view, seen}
+use Rattle.proof_crash_machine.specs.Exec.{low}
+use Rattle.proof_crash_machine.specs.Facts.{Facts}
+use Rattle.proof_crash_machine.specs.History.{start, began as m-began}
+use Rattle.proof_crash_machine.specs.View.{View as m-View}
+use Rattle.proof_crash_items.specs.Items.{itemsFrom, itemsOf, itemsIn, items-in}
+use Rattle.proof_crash_items.specs.Ranges.{parOf}
+use Rattle.proof_crash_items.specs.Seen.{shape-seen}
+use Rattle.proof_crash_items.specs.Segs.{OnDrives}
+use Rattle.proof_crash_items.specs.Shape.{Shape}
+use Rattle.proof_crash_items.specs.Stripes.{pointer-is}
+use Rattle.proof_crash_items.specs.ZoneBytes.{bytes-empty}
+
+empty-pointers : (p : Params) (dk : Disk) → emptyDisk p dk ≡ true → (length (dk .image) ≡ imageLen p) × (dk .pointers ≡ replicate (pointersLen p) 0)
+unfolding emptyDisk
+empty-pointers p dk e = (
+  eqb-true (length (dk .image)) (imageLen p) (and-left (eqb (length (dk .image)) (imageLen p)) (sameList (dk .pointers) (replicate (pointersLen p) 0)) e),
+  sameList-true (dk .pointers) (replicate (pointersLen p) 0) (and-right (eqb (length (dk .image)) (imageLen p)) (sameList (dk .pointers) (replicate (pointersLen p) 0)) e),
+)
+
+-- beyond the drives, or their zones, there is nothing
+pub outside-nothing : (p : Params) (v : View) → Shape p v → (d z : ℕ) → (d < p .N → z < p .Z → ⊥) → itemsIn p v d z ≡ []
+unfolding itemsIn zoneAt
+outside-nothing p v h d z n = go (decLt d (p .N))
+  where
+    nothing : itemsOf p noZone ≡ []
+    nothing = unfold itemsOf stored itemsFrom noZone in refl
+
+    go : Dec (d < p .N) → itemsOf p (getD (getD v d []) z noZone) ≡ []
+    go (no q) = ap (λ (x : List Zone). itemsOf p (getD x z noZone)) (List·getD-eq-default v [] {n = d} (omega (arith, h .drives))) ∙ nothing
+    go (yes q) = ap (itemsOf p) (List·getD-eq-default (getD v d []) noZone {n = z} (omega (arith, h .zones d q, above))) ∙ nothing
+      where
+        above : p .Z ≤ z
+        above = low (decLt z (p .Z))
+          where
+            low : Dec (z < p .Z) → p .Z ≤ z
+            low (yes b) = absurd (n q b)
+            low (no b) = omega arith
+
+module _ (p : Params) (r : Ranged p) (dk : Disk) (e : emptyDisk p dk ≡ true) where
+  pub empty-whole : Whole p dk
+  empty-whole = record { image-long = empty-pointers p dk e .0; pointers-long = ap length (empty-pointers p dk e .1) ∙ length-replicate {A = ℕ} (pointersLen p) 0 }
+
+  four-zeros : beOf (replicate 4 0) ≡ 0
+  unfolding beOf beFrom
+  four-zeros = refl
+
+  pub empty-pointer : (d z : ℕ) → d < p .N → z < p .Z → pointerAt (seen p dk) d z ≡ 0
+  unfolding pointerOf
+  empty-pointer d z l b =
+      pointer-view p dk d z l b empty-whole
+      ∙ ap beOf (ap (part (pointerByte p d z) 4) (empty-pointers p dk e .1) ∙ part-replicate (pointersLen p) (pointerByte p d z) 4 (pointer-within p d z l b)) ∙ four-zeros
+
+  pub empty-items : itemsIn p (seen p dk) ≡ (λ d z. [])
+  empty-items = λ j d z. go d z (decLt d (p .N)) (decLt z (p .Z)) j
+    where
+      go : (d z : ℕ) → Dec (d < p .N) → Dec (z < p .Z) → itemsIn p (seen p dk) d z ≡ []
+      go d z (yes l) (yes b) = items-in p (seen p dk) d z ∙ none-stored (zoneAt (seen p dk) d z) (pointer-is (seen p dk) d z ∙ empty-pointer d z l b)
+        where
+          none-stored : (q : Zone) → q .pointer ≡ 0 → itemsOf p q ≡ []
+          none-stored q i = unfold itemsOf stored in (ap (λ (n : ℕ). itemsFrom p 0 (take n (q .blocks))) i ∙ (unfold itemsFrom in refl))
+      go d z (yes l) (no b) = outside-nothing p (seen p dk) (shape-seen p dk empty-whole) d z (λ a c. b c)
+      go d z (no l) b = outside-nothing p (seen p dk) (shape-seen p dk empty-whole) d z (λ a c. l a)
+
+  -- the machine's start is these drives
+  pub start-on : OnDrives p r (start (parOf p r) .g) (seen p dk)
+  unfolding start
+  start-on = record {
+    shape = shape-seen p dk empty-whole;
+    bytes = λ d l n z b. bytes-empty p d z (zoneAt (seen p dk) d z) (pointer-is (seen p dk) d z ∙ empty-pointer d z l b);
+    facts = subst (λ (u : m-View). Facts (parOf p r) (start (parOf p r) .g) u) (sym empty-items) (m-began (parOf p r) .facts);
+  }

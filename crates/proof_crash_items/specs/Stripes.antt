@@ -1,0 +1,276 @@
+-- Step 3 of a restart, as computed: stripes that count are the machine's stripes, stored or decoded. Assumes nothing.
+use mathlib.Core.Path.{_≡_, refl, sym, ap, ap₂, _∙_, subst}
+use mathlib.Core.List.{List, [], _∷_, map}
+use mathlib.Core.Bool.{Bool, true, false, cond, not, _||_}
+use mathlib.Core.Logic.{inl, inr, _≢_}
+use Prim.Native.Nat.{ℕ, zero, suc, _+_, _≤_, _<_}
+use native.Mathlib.Decide.{decLt}
+use borrow.Author.Tests.{eq-eqb, eqb-true}
+use native.Mathlib.Omega.{arith}
+use lib.Dec.{eqb}
+use lib.ListN.{length, getD, length-map}
+use Rattle.spec.specs.declared.Params.{Params}
+use Rattle.spec.specs.Drives.{noChunk, Zone, noZone, View, zoneAt, pointerAt, zoneOn, sealedIn, dataStored, recordIn}
+use Rattle.spec.specs.Layout.{Rec, mkRec, recordOf}
+use Rattle.spec.specs.Lists.Opt.{none}
+use Rattle.spec.specs.Lists.{below, all, any, keep, sucUnless, indexOf, isIn}
+use Rattle.spec.specs.Params.{capacity, named, drivesOf, present}
+use Rattle.spec.specs.Parity.{Piece, mkPiece, parityPiece}
+use Rattle.spec.specs.Segments.{Segment, recordsIn, segmentOf, recsOn, offsetOn, hasChunk, counts, counted, storedPiece, pieceOf, storedRec}
+use Rattle.law_basic.specs.Geometry.{Ranged}
+use Rattle.law_basic.specs.Ranges.{length-below, map-below-same, map-map, getD-map-below}
+use Rattle.proof_crash_machine.specs.Exec.{true≢false}
+use Rattle.proof_crash_machine.specs.Facts.{Ghost, Choice, Stripe, Off}
+use Rattle.proof_crash_machine.specs.History.{at}
+use Rattle.proof_crash_machine.specs.Put.{off-in}
+use Rattle.proof_crash_machine.specs.Rebuild.{in-off, once-in}
+use Rattle.proof_crash_machine.specs.Rewrite.{present as m-present, st}
+use Rattle.proof_crash_machine.specs.Val.{Val, 𝟘, _⊕_, ⊕-self, xorN, decode-all, xorN-put}
+use Rattle.proof_crash_machine.specs.View.{Item, In, in-some, chunk-hdr}
+use Rattle.proof_crash_machine.specs.View.Item.{chunk}
+use Rattle.proof_crash_items.specs.Items.{valueOf, chunkItem, itemsOf, itemsIn, items-in, of-chunk, chunk-of}
+use Rattle.proof_crash_items.specs.Member.{Has, cond-true, cond-false, keep-has, has-keep, below-has, has-below, has-any, has-map}
+use Rattle.proof_crash_items.specs.Named.{is-named, not-named, present-has, all-present, present-all}
+use Rattle.proof_crash_items.specs.Ranges.{capacity-few, parOf}
+use Rattle.proof_crash_items.specs.Segs.{OnDrives, zone-bytes, zone-low, trusted}
+use Rattle.proof_crash_items.specs.Shape.{shape-zone}
+use Rattle.proof_crash_items.specs.Values.{pieceValue, xorL, pieces-long, parity-value, onlyWhere, only-there, only-else, xor-below}
+use Rattle.proof_crash_items.specs.ZoneBytes.{blockIn, by-footer}
+
+-- ---- what a zone's spares say
+
+unfoldable pub spareRecs : Params → Zone → List Rec
+spareRecs p q = map (λ o. recordOf (blockIn q (suc o) .spare)) (below (dataStored p q))
+
+pub length-spareRecs : (p : Params) (q : Zone) → length (spareRecs p q) ≡ dataStored p q
+unfolding spareRecs
+length-spareRecs p q = length-map (below (dataStored p q)) (λ o. recordOf (blockIn q (suc o) .spare)) ∙ length-below (dataStored p q)
+
+pub getD-spareRecs : (p : Params) (q : Zone) (o : ℕ) (d : Rec) → o < dataStored p q → getD (spareRecs p q) o d ≡ recordOf (blockIn q (suc o) .spare)
+unfolding spareRecs
+getD-spareRecs p q o d l = getD-map-below (λ o. recordOf (blockIn q (suc o) .spare)) (dataStored p q) o d l
+
+pub stored-below : (p : Params) (q : Zone) (o : ℕ) → o < dataStored p q → (o < p .S) × (suc o < q .pointer)
+unfolding dataStored
+stored-below p q o l = (omega arith, omega arith)
+
+pub below-stored : (p : Params) (q : Zone) (o : ℕ) → o < p .S → suc o < q .pointer → o < dataStored p q
+unfolding dataStored
+below-stored p q o l b = omega arith
+
+pub pointer-is : (v : View) (d z : ℕ) → zoneAt v d z .pointer ≡ pointerAt v d z
+unfolding pointerAt
+pointer-is v d z = refl
+
+-- the first that passes the test
+pub index-hit : {A : Type 0} (f : A → Bool) (l : List A) (d : A) → any f l ≡ true → (indexOf f l < length l) × (f (getD l (indexOf f l) d) ≡ true)
+unfolding any indexOf
+index-hit f [] d e = true≢false e
+index-hit {A} f (a ∷ l) d e = go (f a) refl e (index-hit f l d)
+  where
+    go : (b : Bool) → f a ≡ b → (b || any f l) ≡ true → (any f l ≡ true → (indexOf f l < length l) × (f (getD l (indexOf f l) d) ≡ true))
+        → (sucUnless b (indexOf f l) < suc (length l)) × (f (getD (a ∷ l) (sucUnless b (indexOf f l)) d) ≡ true)
+    go true q e ih = unfold sucUnless in (omega arith, q)
+    go false q e ih = unfold sucUnless in (omega (arith, ih e .0), ih e .1)
+
+module _ (p : Params) (r : Ranged p) (g : Ghost) (v : View) (k : OnDrives p r g v) (m : ℕ) (c : Choice (parOf p r) (g .un) m) where
+  abbrev G : ℕ → Segment
+  G z = segmentOf p v (named m) z
+
+  -- ---- the fields of a segment as read
+
+  pub zones-by : (z d : ℕ) → d < p .N → getD (G z .zonesBy) d noZone ≡ zoneAt v d z
+  unfolding segmentOf drivesOf zoneOn
+  zones-by z d l = getD-map-below (λ d. zoneAt v d z) (p .N) d noZone l
+
+  pub sealed-full : (z d : ℕ) → sealedIn p v (named m) z ≡ true → d < p .N → d ≢ m → pointerAt v d z ≡ capacity p
+  unfolding sealedIn zoneOn
+  sealed-full z d e l n = eqb-true (pointerAt v d z) (capacity p) (all-present p r m (λ d. eqb (pointerAt v d z) (capacity p)) e d l n)
+
+  -- by footer or by spare
+  by-spare : (z d o : ℕ) (w : Bool) → sealedIn p v (named m) z ≡ w → z < p .Z → d < p .N → d ≢ m → o < p .S
+      → recordIn p w (zoneAt v d z) o ≡ recordOf (blockIn (zoneAt v d z) (suc o) .spare)
+  by-spare z d o true e b l n s =
+      by-footer p r d z (zoneAt v d z) (shape-zone p v (k .shape) d z l b) (zone-bytes p r g v k d z l (trusted p r g v k m c d l n) b)
+      (pointer-is v d z ∙ sealed-full z d e l n) o s
+      ∙ by-spare-false
+    where
+      by-spare-false : recordIn p false (zoneAt v d z) o ≡ recordOf (blockIn (zoneAt v d z) (suc o) .spare)
+      by-spare-false = unfold recordIn in ap (λ (i : ℕ). recordOf (getD (zoneAt v d z .blocks) i noChunk .spare)) (let e : 1 + o ≡ suc o = omega arith in e)
+  by-spare z d o false e b l n s = unfold recordIn in ap (λ (i : ℕ). recordOf (getD (zoneAt v d z .blocks) i noChunk .spare)) (let e : 1 + o ≡ suc o = omega arith in e)
+
+  pub recs-on : (z d : ℕ) → z < p .Z → d < p .N → d ≢ m → recsOn (G z) d ≡ spareRecs p (zoneAt v d z)
+  unfolding recsOn segmentOf drivesOf recordsIn spareRecs
+  recs-on z d b l n =
+      getD-map-below (λ d. cond (isIn (named m) d) [] (map (recordIn p (sealedIn p v (named m) z) (getD (map (λ d. zoneAt v d (zoneOn z d)) (below (p .N))) d noZone))
+      (below (dataStored p (getD (map (λ d. zoneAt v d (zoneOn z d)) (below (p .N))) d noZone))))) (p .N) d [] l
+      ∙ cond-false (isIn (named m) d) [] (map (recordIn p (sealedIn p v (named m) z) (getD (map (λ d. zoneAt v d (zoneOn z d)) (below (p .N))) d noZone))
+      (below (dataStored p (getD (map (λ d. zoneAt v d (zoneOn z d)) (below (p .N))) d noZone)))) (not-named p r m d l n)
+      ∙ ap (λ (q : Zone). map (recordIn p (sealedIn p v (named m) z) q) (below (dataStored p q))) (zones-by z d l)
+      ∙ map-below-same (recordIn p (sealedIn p v (named m) z) (zoneAt v d z)) (λ o. recordOf (blockIn (zoneAt v d z) (suc o) .spare)) (dataStored p (zoneAt v d z))
+      (λ o i. by-spare z d o (sealedIn p v (named m) z) refl b l n (stored-below p (zoneAt v d z) o i .0))
+
+  pub recs-missing : (z : ℕ) → m < p .N → recsOn (G z) m ≡ []
+  unfolding recsOn segmentOf drivesOf
+  recs-missing z l =
+      getD-map-below (λ d. cond (isIn (named m) d) [] (recordsIn p (sealedIn p v (named m) z) (getD (map (λ d. zoneAt v d (zoneOn z d)) (below (p .N))) d noZone))) (p .N) m [] l
+      ∙ cond-true (isIn (named m) m) [] (recordsIn p (sealedIn p v (named m) z) (getD (map (λ d. zoneAt v d (zoneOn z d)) (below (p .N))) m noZone)) (is-named p r m m l ∙ eq-eqb m m refl)
+
+  -- ---- chunks
+
+  abbrev is : ℕ → Rec → Bool
+  is s x = eqb (x .stripe) s
+
+  -- the offset that holds the chunk
+  pub offset-on : (z s d : ℕ) → z < p .Z → d < p .N → d ≢ m → hasChunk (G z) s d ≡ true
+      → (offsetOn (G z) d s < dataStored p (zoneAt v d z)) × (recordOf (blockIn (zoneAt v d z) (suc (offsetOn (G z) d s)) .spare) .stripe ≡ s)
+  unfolding offsetOn hasChunk
+  offset-on z s d b l n e =
+      let h : (indexOf (is s) (recsOn (G z) d) < length (recsOn (G z) d)) × (is s (getD (recsOn (G z) d) (indexOf (is s) (recsOn (G z) d)) (mkRec 0 0 0)) ≡ true) =
+      index-hit (is s) (recsOn (G z) d) (mkRec 0 0 0) e in
+      let q : length (recsOn (G z) d) ≡ dataStored p (zoneAt v d z) = ap length (recs-on z d b l n) ∙ length-spareRecs p (zoneAt v d z) in
+      let j : indexOf (is s) (recsOn (G z) d) < dataStored p (zoneAt v d z) = omega (arith, h .0, q) in
+      let x : getD (recsOn (G z) d) (indexOf (is s) (recsOn (G z) d)) (mkRec 0 0 0) ≡ recordOf (blockIn (zoneAt v d z) (suc (indexOf (is s) (recsOn (G z) d))) .spare) =
+      ap (λ (y : List Rec). getD y (indexOf (is s) (recsOn (G z) d)) (mkRec 0 0 0)) (recs-on z d b l n) ∙ getD-spareRecs p (zoneAt v d z) (indexOf (is s) (recsOn (G z) d)) (mkRec 0 0 0) j in
+      (j, ap (λ (y : Rec). y .stripe) (sym x) ∙ eqb-true (getD (recsOn (G z) d) (indexOf (is s) (recsOn (G z) d)) (mkRec 0 0 0) .stripe) s (h .1))
+
+  pub stored-rec : (z s d : ℕ) → z < p .Z → d < p .N → d ≢ m → hasChunk (G z) s d ≡ true → storedRec (G z) s d ≡ recordOf (blockIn (zoneAt v d z) (suc (offsetOn (G z) d s)) .spare)
+  unfolding storedRec
+  stored-rec z s d b l n e =
+      ap (λ (y : List Rec). getD y (offsetOn (G z) d s) (mkRec 0 0 0)) (recs-on z d b l n)
+      ∙ getD-spareRecs p (zoneAt v d z) (offsetOn (G z) d s) (mkRec 0 0 0) (offset-on z s d b l n e .0)
+
+  pub stored-piece : (z s d : ℕ) → z < p .Z → d < p .N → d ≢ m → hasChunk (G z) s d ≡ true
+      → storedPiece (G z) s d ≡ mkPiece (blockIn (zoneAt v d z) (suc (offsetOn (G z) d s)) .block) (recordOf (blockIn (zoneAt v d z) (suc (offsetOn (G z) d s)) .spare))
+  unfolding storedPiece storedRec
+  stored-piece z s d b l n e = ap₂ mkPiece
+      (ap₂ (λ (q : Zone) (i : ℕ). getD (q .blocks) i noChunk .block) (zones-by z d l) (let i : 1 + offsetOn (G z) d s ≡ suc (offsetOn (G z) d s) = omega arith in i))
+      (stored-rec z s d b l n e)
+
+  pub rec-of-piece : (z s d : ℕ) → storedPiece (G z) s d .rec ≡ storedRec (G z) s d
+  unfolding storedPiece storedRec
+  rec-of-piece z s d = refl
+
+  pub stored-long : (z s d : ℕ) → z < p .Z → d < p .N → d ≢ m → hasChunk (G z) s d ≡ true → length (storedPiece (G z) s d .block) ≡ p .B
+  stored-long z s d b l n e =
+      ap (λ (q : Piece). length (q .block)) (stored-piece z s d b l n e)
+      ∙ shape-zone p v (k .shape) d z l b .long (suc (offsetOn (G z) d s)) (omega (arith, stored-below p (zoneAt v d z) (offsetOn (G z) d s) (offset-on z s d b l n e .0) .0, capacity-few p r)) .0
+
+  -- the stored chunk is an item of the zone
+  pub stored-in : (z s d : ℕ) → z < p .Z → d < p .N → d ≢ m → hasChunk (G z) s d ≡ true → In (chunk s (pieceValue (storedPiece (G z) s d))) (itemsIn p v d z)
+  stored-in z s d b l n e =
+      let o : ℕ = offsetOn (G z) d s in
+      let q : Zone = zoneAt v d z in
+      let h : (offsetOn (G z) d s < dataStored p (zoneAt v d z)) × (recordOf (blockIn (zoneAt v d z) (suc (offsetOn (G z) d s)) .spare) .stripe ≡ s) = offset-on z s d b l n e in
+      let i : (o < p .S) × (suc o < q .pointer) = stored-below p q o (h .0) in
+      let f : Off (itemsOf p q) (suc o) (chunkItem (blockIn q (suc o))) = chunk-of p q (zone-low p r g v k d z l (trusted p r g v k m c d l n) b) o (i .0) (i .1) in
+      let x : chunkItem (blockIn q (suc o)) ≡ chunk s (pieceValue (storedPiece (G z) s d)) = named-chunk z s d b l n e in
+      subst (λ (y : List Item). In (chunk s (pieceValue (storedPiece (G z) s d))) y) (sym (items-in p v d z))
+      (subst (λ (y : Item). In y (itemsOf p q)) x (off-in (itemsOf p q) (suc o) (chunkItem (blockIn q (suc o))) f))
+    where
+      named-chunk : (z s d : ℕ) → z < p .Z → d < p .N → d ≢ m → hasChunk (G z) s d ≡ true
+          → chunkItem (blockIn (zoneAt v d z) (suc (offsetOn (G z) d s))) ≡ chunk s (pieceValue (storedPiece (G z) s d))
+      named-chunk z s d b l n e = unfold chunkItem pieceValue in
+          ap₂ chunk (offset-on z s d b l n e .1) (ap (λ (q : Piece). valueOf (q .block) (q .rec)) (sym (stored-piece z s d b l n e)))
+
+  -- and an item is a stored chunk
+  pub in-has-chunk : (z s d : ℕ) (x : Val) → z < p .Z → d < p .N → d ≢ m → In (chunk s x) (itemsIn p v d z) → hasChunk (G z) s d ≡ true
+  unfolding hasChunk
+  in-has-chunk z s d x b l n i =
+      let q : Zone = zoneAt v d z in
+      let j : (j : ℕ) × Off (itemsOf p q) j (chunk s x) = in-off (chunk s x) (itemsOf p q) (subst (λ (y : List Item). In (chunk s x) y) (items-in p v d z) i) in
+      let f : (o : ℕ) × (j .0 ≡ suc o) × (o < p .S) × (suc o < q .pointer) × (recordOf (getD (q .blocks) (suc o) noChunk .spare) .stripe ≡ s)
+      × (valueOf (getD (q .blocks) (suc o) noChunk .block) (recordOf (getD (q .blocks) (suc o) noChunk .spare)) ≡ x) =
+      of-chunk p q (zone-low p r g v k d z l (trusted p r g v k m c d l n) b) (j .0) s x (j .1) in
+      let w : f .0 < dataStored p q = below-stored p q (f .0) (f .2) (f .3) in
+      has-any (is s) (recsOn (G z) d) (recordOf (blockIn q (suc (f .0)) .spare))
+      (subst (λ (y : List Rec). Has (recordOf (blockIn q (suc (f .0)) .spare)) y) (sym (recs-on z d b l n)) (at q (f .0) w))
+      (eq-eqb (recordOf (blockIn q (suc (f .0)) .spare) .stripe) s (f .4))
+    where
+      at : (q : Zone) (o : ℕ) → o < dataStored p q → Has (recordOf (blockIn q (suc o) .spare)) (spareRecs p q)
+      at q o w = unfold spareRecs in has-map (λ o. recordOf (blockIn q (suc o) .spare)) (below (dataStored p q)) o (has-below o (dataStored p q) w)
+
+  -- ---- stripes that count
+
+  pub counted-has : (z s : ℕ) → Has s (counted p (named m) (G z)) → (s < p .S) × ((d : ℕ) → d < p .N → d ≢ m → hasChunk (G z) s d ≡ true)
+  unfolding counted counts
+  counted-has z s i =
+      let q : Has s (below (p .S)) × (all (hasChunk (G z) s) (present p (named m)) ≡ true) = keep-has (λ s. all (hasChunk (G z) s) (present p (named m))) s (below (p .S)) i in
+      (below-has s (p .S) (q .0), all-present p r m (hasChunk (G z) s) (q .1))
+
+  pub has-counted : (z s : ℕ) → s < p .S → ((d : ℕ) → d < p .N → d ≢ m → hasChunk (G z) s d ≡ true) → Has s (counted p (named m) (G z))
+  unfolding counted counts
+  has-counted z s l h = has-keep (λ s. all (hasChunk (G z) s) (present p (named m))) s (below (p .S)) (has-below s (p .S) l) (present-all p r m (hasChunk (G z) s) h)
+
+  -- the chunk of a counted stripe, as a value
+  unfoldable pub pieceAt : ℕ → ℕ → ℕ → Val
+  pieceAt z s d = pieceValue (pieceOf p (named m) (segmentOf p v (named m) z) s d)
+
+  pub piece-here : (z s d : ℕ) → d < p .N → d ≢ m → pieceOf p (named m) (G z) s d ≡ storedPiece (G z) s d
+  unfolding pieceOf
+  piece-here z s d l n = cond-false (isIn (named m) d) (parityPiece p s (map (storedPiece (G z) s) (present p (named m)))) (storedPiece (G z) s d) (not-named p r m d l n)
+
+  pub piece-lost : (z s : ℕ) → m < p .N → pieceOf p (named m) (G z) s m ≡ parityPiece p s (map (storedPiece (G z) s) (present p (named m)))
+  unfolding pieceOf
+  piece-lost z s l = cond-true (isIn (named m) m) (parityPiece p s (map (storedPiece (G z) s) (present p (named m)))) (storedPiece (G z) s m) (is-named p r m m l ∙ eq-eqb m m refl)
+
+  here-in : (z s : ℕ) → z < p .Z → ((d : ℕ) → d < p .N → d ≢ m → hasChunk (G z) s d ≡ true) → (d : ℕ) → d < p .N → d ≢ m → In (chunk s (pieceAt z s d)) (itemsIn p v d z)
+  unfolding pieceAt
+  here-in z s b h d l n = subst (λ (x : Piece). In (chunk s (pieceValue x)) (itemsIn p v d z)) (sym (piece-here z s d l n)) (stored-in z s d b l n (h d l n))
+
+  abbrev P : ℕ → Bool
+  P d = not (isIn (named m) d)
+
+  abbrev F : ℕ → ℕ → ℕ → Val
+  F z s d = pieceValue (storedPiece (G z) s d)
+
+  -- what is decoded makes the exclusive or 0
+  decoded-xor : (z s : ℕ) → z < p .Z → m < p .N → ((d : ℕ) → d < p .N → d ≢ m → hasChunk (G z) s d ≡ true) → xorN (p .N) (pieceAt z s) ≡ 𝟘
+  unfolding pieceAt present drivesOf
+  decoded-xor z s b l h =
+      let X : Val = xorN (p .N) (onlyWhere P (F z s)) in
+      let lost : pieceValue (pieceOf p (named m) (G z) s m) ≡ X =
+      ap pieceValue (piece-lost z s l)
+      ∙ parity-value p s (map (storedPiece (G z) s) (keep P (below (p .N)))) (pieces-long (p .B) (storedPiece (G z) s) (keep P (below (p .N)))
+      (λ d i. stored-long z s d b (present-has p r m d i .0) (present-has p r m d i .1) (h d (present-has p r m d i .0) (present-has p r m d i .1))))
+      ∙ ap xorL (map-map pieceValue (storedPiece (G z) s) (keep P (below (p .N)))) ∙ xor-below P (F z s) (p .N) in
+      xorN-put (p .N) m (pieceAt z s) (onlyWhere P (F z s)) l
+      (λ d j n. ap pieceValue (piece-here z s d j n) ∙ sym (only-there P (F z s) d (ap not (not-named p r m d j n))))
+      (only-else P (F z s) m (ap not (is-named p r m m l ∙ eq-eqb m m refl)))
+      ∙ ap (λ (x : Val). x ⊕ X) lost ∙ ⊕-self X
+
+  pub counted-stripe : (z s : ℕ) → z < p .Z → Has s (counted p (named m) (G z)) → Stripe (parOf p r) (itemsIn p v) m z s (pieceAt z s)
+  counted-stripe z s b i = record { on = here-in z s b (counted-has z s i .1); xor = go (decLt m (p .N)) }
+    where
+      go : Dec (m < p .N) → xorN (p .N) (pieceAt z s) ≡ 𝟘
+      go (yes l) = decoded-xor z s b l (counted-has z s i .1)
+      go (no l) = k .facts .parity .whole (none c) z s (pieceAt z s) (λ d j. here-in z s b (counted-has z s i .1) d j (omega arith))
+        where
+          none : Choice (parOf p r) (g .un) m → p .N ≤ g .un
+          none (inl q) = q
+          none (inr q) = omega arith
+
+  pub stripe-below : (z s : ℕ) (f : ℕ → Val) → Stripe (parOf p r) (itemsIn p v) m z s f → (z < p .Z) × (s < p .S)
+  stripe-below z s f st = go (m-present (parOf p r) m)
+    where
+      go : (d : ℕ) × (d < p .N) × (d ≢ m) → (z < p .Z) × (s < p .S)
+      go (d, l, n) =
+          let t : d ≢ g .un = trusted p r g v k m c d l n in
+          let i : In (chunk s (f d)) (itemsIn p v d z) = st .on d l n in
+          let b : z < p .Z = k .facts .«open» .bound z (d, (l, t), in-some (chunk s (f d)) (itemsIn p v d z) i) in
+          let j : (j : ℕ) × Off (itemsIn p v d z) j (chunk s (f d)) = in-off (chunk s (f d)) (itemsIn p v d z) i in
+          (b, num d l t i (j .0) (j .1))
+        where
+          num : (d : ℕ) → d < p .N → d ≢ g .un → In (chunk s (f d)) (itemsIn p v d z) → (j : ℕ) → Off (itemsIn p v d z) j (chunk s (f d)) → s < p .S
+          num d l t i zero o = absurd (chunk-hdr (sym (o .1) ∙ k .facts .zones d z (l, t) .head (in-some (chunk s (f d)) (itemsIn p v d z) i)))
+          num d l t i (suc j) o = k .facts .zones d z (l, t) .num j s (f d) o .0
+
+  pub stripe-counted : (z s : ℕ) (f : ℕ → Val) → Stripe (parOf p r) (itemsIn p v) m z s f → Has s (counted p (named m) (G z)) × ((d : ℕ) → d < p .N → pieceAt z s d ≡ f d)
+  stripe-counted z s f st =
+      let b : (z < p .Z) × (s < p .S) = stripe-below z s f st in
+      let i : Has s (counted p (named m) (G z)) = has-counted z s (b .1) (λ d l n. in-has-chunk z s d (f d) (b .0) l n (st .on d l n)) in
+      let st′ : Stripe (parOf p r) (itemsIn p v) m z s (pieceAt z s) = counted-stripe z s (b .0) i in (
+        i,
+        decode-all (p .N) m (pieceAt z s) f (st′ .xor ∙ sym (st .xor)) (λ d l n.
+            once-in (parOf p r) g d z (itemsIn p v d z) (k .facts .zones d z (l, trusted p r g v k m c d l n)) s (pieceAt z s d) (f d) (st′ .on d l n) (st .on d l n)),
+      )

@@ -1,0 +1,296 @@
+-- The tables that a restart makes, entry by entry. Assumes nothing.
+use mathlib.Core.Path.{_≡_, refl, sym, ap, ap₂, _∙_, subst}
+use mathlib.Core.List.{List, [], _∷_, _++_, map, append-nil}
+use mathlib.Core.Bool.{true, false, cond, _&&_}
+use mathlib.Core.Logic.{inl, inr, ⊎-elim, _≢_}
+use Prim.Native.Nat.{ℕ, zero, suc, _+_, _-_, _*_, _/_, _%_, _^_, _≤_, _<_}
+use native.Mathlib.Nat.{mod-lt, mul-assoc, suc-mul, zero-mul, add-mul, div-add-mod'}
+use native.Mathlib.Decide.{ℕ-discrete}
+use borrow.Author.Tests.{lt-ltb, eq-eqb, ne-eqb, ltb-true, eqb-true}
+use native.Mathlib.Omega.{arith}
+use lib.Dec.{ltb, eqb}
+use lib.ListN.{length, getD, replicate, length-append, List·getD-append, length-map}
+use lib.Seq.{getD-append-add}
+use lib.Arith.{digits-div, digits-lt}
+use Rattle.spec.specs.declared.Params.{Params}
+use Rattle.spec.specs.Bytes.{beOf, toBe, part}
+use Rattle.spec.specs.Drives.{Zone, View, zoneAt, pointerAt, zoneOn, dataStored}
+use Rattle.spec.specs.Layout.{group, groupOffsets, compactEntry, Rec, mkRec, recordOf}
+use Rattle.spec.specs.Lists.Opt.{none}
+use Rattle.spec.specs.Lists.{upFrom, below, isNil, flat, firstOr, padTo}
+use Rattle.spec.specs.Memory.{placeAt, compactAt, shownAt}
+use Rattle.spec.specs.Params.{addressesLen, compactLen, named, drivesOf}
+use Rattle.spec.specs.Rank.{Cand, best, placeOr, candsOf}
+use Rattle.spec.specs.Segments.{remaining, Segment, segmentOf, segments, recsOn, offsetOn, hasChunk, addressTable, compactRow, rowOf, compactTable}
+use Rattle.law_basic.specs.Be.{length-toBe, beOf-toBe}
+use Rattle.law_basic.specs.Geometry.{Ranged}
+use Rattle.law_basic.specs.Ranges.{and-left, and-right, and-both, length-below, getD-map, getD-map-below, length-padTo}
+use Rattle.law_basic.specs.Xor.{long-map}
+use Rattle.proof_crash_machine.specs.Facts.{Ghost, Choice, Off}
+use Rattle.proof_crash_machine.specs.View.{Item}
+use Rattle.proof_crash_machine.specs.View.Item.{chunk}
+use Rattle.proof_crash_items.specs.Codec.{joined, part-joined}
+use Rattle.proof_crash_items.specs.Items.{valueOf, chunkItem, itemsIn, items-in, chunk-of}
+use Rattle.proof_crash_items.specs.Member.{Has, cond-true, cond-false, keep-has, has-keep, upFrom-has, has-upFrom, isNil-has, firstOr-has}
+use Rattle.proof_crash_items.specs.Ranges.{parOf}
+use Rattle.proof_crash_items.specs.Refuse.{Rising, remaining-rising}
+use Rattle.proof_crash_items.specs.Segs.{OnDrives, zone-low, zone-facts, trusted, remaining-has}
+use Rattle.proof_crash_items.specs.Stripes.{spareRecs, length-spareRecs, getD-spareRecs, stored-below, below-stored, pointer-is, recs-on, recs-missing, offset-on}
+use Rattle.proof_crash_items.specs.ZoneBytes.{blockIn}
+
+-- ---- lists of lists of one length
+
+flat-joined : (f : ℕ → List ℕ) (l : List ℕ) → flat f l ≡ joined (map f l)
+unfolding flat
+flat-joined f [] = refl
+flat-joined f (a ∷ l) = ap (λ (x : List ℕ). f a ++ x) (flat-joined f l)
+
+pub part-flat : (f : ℕ → List ℕ) (w n k : ℕ) → ((a : ℕ) → length (f a) ≡ w) → k < n → part (w * k) w (flat f (below n)) ≡ f k
+part-flat f w n k h l =
+    ap (part (w * k) w) (flat-joined f (below n) ∙ sym (append-nil (joined (map f (below n)))))
+    ∙ part-joined w (map f (below n)) k [] (long-map w f (below n) h) (omega (arith, length-map (below n) f, length-below n, l)) ∙ getD-map-below f n k [] l
+
+getD-flat-from : (f : ℕ → List ℕ) (w i n k j : ℕ) → ((a : ℕ) → i ≤ a → a < i + n → length (f a) ≡ w) → k < n → j < w → getD (flat f (upFrom i n)) (k * w + j) 0 ≡ getD (f (i + k)) j 0
+unfolding flat upFrom
+getD-flat-from f w i zero k j h l b = absurd (let q : ⊥ = omega arith in q)
+getD-flat-from f w i (suc n) zero j h l b =
+    let e : 0 * w + j ≡ j = ap (λ (x : ℕ). x + j) (zero-mul w) ∙ omega arith in
+    ap (λ (x : ℕ). getD (f i ++ flat f (upFrom (suc i) n)) x 0) e
+    ∙ List·getD-append (f i) (flat f (upFrom (suc i) n)) 0 j (omega (arith, h i (let q : i ≤ i = omega arith in q) (let q : i < i + suc n = omega arith in q)))
+    ∙ ap (λ (x : ℕ). getD (f x) j 0) (let e : i ≡ i + 0 = omega arith in e)
+getD-flat-from f w i (suc n) (suc k) j h l b =
+    let c : length (f i) ≡ w = h i (omega arith) (omega arith) in
+    let e : suc k * w + j ≡ length (f i) + (k * w + j) = omega (arith, suc-mul k w, c) in
+    ap (λ (x : ℕ). getD (f i ++ flat f (upFrom (suc i) n)) x 0) e
+    ∙ getD-append-add (f i) (flat f (upFrom (suc i) n)) (k * w + j) 0
+    ∙ getD-flat-from f w (suc i) n k j (λ a p q. h a (omega arith) (omega arith)) (omega arith) b
+    ∙ ap (λ (x : ℕ). getD (f x) j 0) (let e : suc i + k ≡ i + suc k = omega arith in e)
+
+pub getD-flat : (f : ℕ → List ℕ) (w n k j : ℕ) → ((a : ℕ) → a < n → length (f a) ≡ w) → k < n → j < w → getD (flat f (below n)) (k * w + j) 0 ≡ getD (f k) j 0
+unfolding below
+getD-flat f w n k j h l b = getD-flat-from f w 0 n k j (λ a p q. h a (omega arith)) l b ∙ ap (λ (x : ℕ). getD (f x) j 0) (let e : 0 + k ≡ k = omega arith in e)
+
+length-flat-from : (f : ℕ → List ℕ) (w i n : ℕ) → ((a : ℕ) → i ≤ a → a < i + n → length (f a) ≡ w) → length (flat f (upFrom i n)) ≡ n * w
+unfolding flat upFrom
+length-flat-from f w i zero h = sym (zero-mul w)
+length-flat-from f w i (suc n) h =
+    length-append (f i) (flat f (upFrom (suc i) n)) ∙ ap₂ (λ (x y : ℕ). x + y) (h i (omega arith) (omega arith)) (length-flat-from f w (suc i) n (λ a p q. h a (omega arith) (omega arith)))
+    ∙ omega (arith, suc-mul n w)
+
+pub length-flat-below : (f : ℕ → List ℕ) (w n : ℕ) → ((a : ℕ) → a < n → length (f a) ≡ w) → length (flat f (below n)) ≡ n * w
+unfolding below
+length-flat-below f w n h = length-flat-from f w 0 n (λ a p q. h a (omega arith))
+
+-- ---- the address table
+
+pub length-addresses : (p : Params) (cs : List Cand) → length (addressTable p cs) ≡ addressesLen p
+unfolding addressTable addressesLen
+length-addresses p cs = length-flat-below (λ a. toBe 4 (placeOr (best none (candsOf a cs)))) 4 (p .L) (λ a l. length-toBe 4 (placeOr (best none (candsOf a cs)))) ∙ omega arith
+
+pub address-entry : (p : Params) (cs : List Cand) (a : ℕ) → a < p .L → placeOr (best none (candsOf a cs)) < 256 ^ 4 → placeAt (addressTable p cs) a ≡ placeOr (best none (candsOf a cs))
+unfolding placeAt addressTable
+address-entry p cs a l b =
+    ap beOf (part-flat (λ a. toBe 4 (placeOr (best none (candsOf a cs)))) 4 (p .L) a (λ a. length-toBe 4 (placeOr (best none (candsOf a cs)))) l)
+    ∙ beOf-toBe 4 (placeOr (best none (candsOf a cs))) b
+
+-- ---- one element of a rising list
+
+flat-none-of : {A : Type 0} (h : ℕ → List A) (z : ℕ) (l : List ℕ) → (Has z l → ⊥) → flat (λ y. cond (eqb y z) (h y) []) l ≡ []
+unfolding flat
+flat-none-of h z [] n = refl
+flat-none-of h z (y ∷ l) n =
+    ap₂ _++_ (cond-false (eqb y z) (h y) [] (ne-eqb y z (λ e. n (inl (sym e))))) (flat-none-of h z l (λ i. n (inr i)))
+
+flat-one-of : {A : Type 0} (h : ℕ → List A) (z : ℕ) (l : List ℕ) → Rising l → Has z l → flat (λ y. cond (eqb y z) (h y) []) l ≡ h z
+unfolding flat
+flat-one-of h z [] r i = absurd i
+flat-one-of h z (y ∷ l) r (inl e) =
+    ap₂ _++_ (cond-true (eqb y z) (h y) [] (eq-eqb y z (sym e)) ∙ ap h (sym e)) (flat-none-of h z l (λ i. let q : ⊥ = omega (arith, e, r .0 z i) in q)) ∙ append-nil (h z)
+flat-one-of h z (y ∷ l) r (inr i) =
+    ap₂ _++_ (cond-false (eqb y z) (h y) [] (ne-eqb y z (λ e. let q : ⊥ = omega (arith, e, r .0 z i) in q))) (flat-one-of h z l (r .1) i)
+
+flat-map : {A B C : Type 0} (f : B → List C) (h : A → B) (l : List A) → flat f (map h l) ≡ flat (λ (a : A). f (h a)) l
+unfolding flat
+flat-map f h [] = refl
+flat-map {C = C} f h (a ∷ l) = ap (λ (x : List C). f (h a) ++ x) (flat-map f h l)
+
+-- ---- the compact table
+
+module _ (p : Params) (r : Ranged p) (g : Ghost) (v : View) (k : OnDrives p r g v) (m : ℕ) (c : Choice (parOf p r) (g .un) m) where
+  abbrev G : ℕ → Segment
+  G z = segmentOf p v (named m) z
+
+  abbrev gs : List Segment
+  gs = segments p v (named m)
+
+  row-flat : (d z : ℕ) → rowOf p (segments p v (named m)) d z ≡ flat (λ y. cond (eqb y z) (recsOn (segmentOf p v (named m) y) d) []) (remaining p v (named m))
+  unfolding rowOf segments zoneOn segmentOf
+  row-flat d z = flat-map (λ (g : Segment). cond (eqb (zoneOn (g .seg) d) z) (recsOn g d) []) (segmentOf p v (named m)) (remaining p v (named m))
+
+  pub row-remaining : (d z : ℕ) → Has z (remaining p v (named m)) → rowOf p (segments p v (named m)) d z ≡ recsOn (G z) d
+  row-remaining d z i = row-flat d z ∙ flat-one-of (λ y. recsOn (segmentOf p v (named m) y) d) z (remaining p v (named m)) (remaining-rising p v (named m)) i
+
+  recs-few : (z d : ℕ) → z < p .Z → d < p .N → length (recsOn (G z) d) ≤ p .S
+  recs-few z d b l = go (ℕ-discrete d m)
+    where
+      go : Dec (d ≡ m) → length (recsOn (G z) d) ≤ p .S
+      go (yes e) = let q : length (recsOn (G z) d) ≡ 0 = ap (λ (x : ℕ). length (recsOn (G z) x)) e ∙ ap length (recs-missing p r g v k m c z (subst (λ (x : ℕ). x < p .N) e l)) in omega arith
+      go (no n) = let q : length (recsOn (G z) d) ≡ dataStored p (zoneAt v d z) = ap length (recs-on p r g v k m c z d b l n) ∙ length-spareRecs p (zoneAt v d z) in
+          omega (arith, q, few-stored (zoneAt v d z))
+        where
+          few-stored : (q : Zone) → dataStored p q ≤ p .S
+          few-stored q = unfold dataStored in omega arith
+
+  row-few : (d z : ℕ) → d < p .N → z < p .Z → length (rowOf p (segments p v (named m)) d z) ≤ p .S
+  row-few d z l b = go (has? z (remaining p v (named m)))
+    where
+      has? : (z : ℕ) (l : List ℕ) → Dec (Has z l)
+      has? z [] = no (λ i. i)
+      has? z (y ∷ l) = two (ℕ-discrete z y) (has? z l)
+        where
+          two : Dec (z ≡ y) → Dec (Has z l) → Dec (Has z (y ∷ l))
+          two (yes e) q = yes (inl e)
+          two (no e) (yes q) = yes (inr q)
+          two (no e) (no q) = no (λ i. ⊎-elim (λ (w : z ≡ y). e w) (λ (w : Has z l). q w) i)
+
+      go : Dec (Has z (remaining p v (named m))) → length (rowOf p (segments p v (named m)) d z) ≤ p .S
+      go (yes i) = subst (λ (x : List Rec). length x ≤ p .S) (sym (row-remaining d z i)) (recs-few z d b l)
+      go (no n) = subst (λ (x : List Rec). length x ≤ p .S) (sym (row-flat d z ∙ flat-none-of (λ y. recsOn (segmentOf p v (named m) y) d) z (remaining p v (named m)) n)) (omega arith)
+
+  row-long : (d z : ℕ) → d < p .N → z < p .Z → length (compactRow p (rowOf p (segments p v (named m)) d z)) ≡ p .S
+  unfolding compactRow
+  row-long d z l b = length-padTo (p .S) (map (λ (r : Rec). compactEntry p (r .stripe)) (rowOf p (segments p v (named m)) d z))
+      (omega (arith, length-map (rowOf p (segments p v (named m)) d z) (λ (r : Rec). compactEntry p (r .stripe)), row-few d z l b))
+
+  pub length-compact : length (compactTable p (segments p v (named m))) ≡ compactLen p
+  unfolding compactTable drivesOf compactLen
+  length-compact =
+      length-flat-below (λ d. flat (λ z. compactRow p (rowOf p (segments p v (named m)) d z)) (below (p .Z))) (p .Z * p .S) (p .N)
+      (λ d l. length-flat-below (λ z. compactRow p (rowOf p (segments p v (named m)) d z)) (p .S) (p .Z) (λ z b. row-long d z l b))
+      ∙ sym (mul-assoc (p .N) (p .Z) (p .S))
+
+  pub compact-entry :
+      (d z o : ℕ)
+      → d < p .N
+      → z < p .Z
+      → o < p .S
+      → getD (compactTable p (segments p v (named m))) (compactAt p d z o) 0 ≡ getD (compactRow p (rowOf p (segments p v (named m)) d z)) o 0
+  unfolding compactTable drivesOf compactAt
+  compact-entry d z o l b s =
+      let e : (d * p .Z + z) * p .S + o ≡ d * (p .Z * p .S) + (z * p .S + o) = omega (arith, add-mul (d * p .Z) z (p .S), mul-assoc d (p .Z) (p .S)) in
+      ap (λ (x : ℕ). getD (flat (λ d. flat (λ z. compactRow p (rowOf p (segments p v (named m)) d z)) (below (p .Z))) (below (p .N))) x 0) e
+      ∙ getD-flat (λ d. flat (λ z. compactRow p (rowOf p (segments p v (named m)) d z)) (below (p .Z))) (p .Z * p .S) (p .N) d (z * p .S + o)
+      (λ d l. length-flat-below (λ z. compactRow p (rowOf p (segments p v (named m)) d z)) (p .S) (p .Z) (λ z b. row-long d z l b)) l (digits-lt b s)
+      ∙ getD-flat (λ z. compactRow p (rowOf p (segments p v (named m)) d z)) (p .S) (p .Z) z o (λ z b. row-long d z l b) b s
+
+  -- the entry of a chunk of a remaining segment
+  pub compact-chunk : (d z o : ℕ) → Has z (remaining p v (named m)) → d < p .N → d ≢ m → o < dataStored p (zoneAt v d z)
+      → getD (compactTable p (segments p v (named m))) (compactAt p d z o) 0 ≡ compactEntry p (recordOf (blockIn (zoneAt v d z) (suc o) .spare) .stripe)
+  compact-chunk d z o i l n w =
+      let b : z < p .Z = remaining-has p r g v k m c z i .0 in
+      let rs : List Rec = recsOn (G z) d in
+      compact-entry d z o l b (stored-below p (zoneAt v d z) o w .0)
+      ∙ ap (λ (x : List Rec). getD (compactRow p x) o 0) (row-remaining d z i ∙ recs-on p r g v k m c z d b l n)
+      ∙ row-entry (spareRecs p (zoneAt v d z)) o (omega (arith, w, length-spareRecs p (zoneAt v d z)))
+      ∙ ap (λ (x : Rec). compactEntry p (x .stripe)) (getD-spareRecs p (zoneAt v d z) o (mkRec 0 0 0) w)
+    where
+      row-entry : (rs : List Rec) (o : ℕ) → o < length rs → getD (compactRow p rs) o 0 ≡ compactEntry p (getD rs o (mkRec 0 0 0) .stripe)
+      row-entry rs o l = unfold compactRow padTo in (
+          List·getD-append (map (λ (r : Rec). compactEntry p (r .stripe)) rs) (replicate (p .S - length (map (λ (r : Rec). compactEntry p (r .stripe)) rs)) 0) 0 o
+          (omega (arith, l, length-map rs (λ (r : Rec). compactEntry p (r .stripe))))
+          ∙ getD-map (λ (r : Rec). compactEntry p (r .stripe)) rs o 0 (mkRec 0 0 0) l)
+
+  -- ---- the table shows a stripe where it is
+
+  in-group : (o s : ℕ) → Has o (groupOffsets p s) → (o < p .S) × (group p o ≡ group p s)
+  unfolding groupOffsets group
+  in-group o s i =
+      let a : Has o (upFrom (s / p .G * p .G) (p .G)) × (ltb o (p .S) ≡ true) = keep-has (λ o. ltb o (p .S)) o (upFrom (s / p .G * p .G) (p .G)) i in
+      let b : (s / p .G * p .G ≤ o) × (o < s / p .G * p .G + p .G) = upFrom-has o (s / p .G * p .G) (p .G) (a .0) in
+      let e : s / p .G * p .G + (o - s / p .G * p .G) ≡ o = omega (arith, b .0) in
+      (ltb-true o (p .S) (a .1), ap (λ (x : ℕ). x / p .G) (sym e) ∙ digits-div (s / p .G) (let w : o - s / p .G * p .G < p .G = omega (arith, b .0, b .1) in w))
+
+  of-group : (o s : ℕ) → o < p .S → group p o ≡ group p s → Has o (groupOffsets p s)
+  unfolding groupOffsets group
+  of-group o s l e =
+      let a : o / p .G * p .G + o % p .G ≡ o = div-add-mod' o (p .G) in
+      let w : o % p .G < p .G = mod-lt o (omega (arith, r .group-low)) in
+      let q : o / p .G * p .G ≡ s / p .G * p .G = ap (λ (x : ℕ). x * p .G) e in
+      has-keep (λ o. ltb o (p .S)) o (upFrom (s / p .G * p .G) (p .G)) (has-upFrom o (s / p .G * p .G) (p .G) (omega (arith, a, q)) (omega (arith, a, q, w))) (lt-ltb o (p .S) l)
+
+  same-stripe : (s t : ℕ) → group p s ≡ group p t → compactEntry p s ≡ compactEntry p t → s ≡ t
+  unfolding group compactEntry
+  same-stripe s t e f = sym (div-add-mod' s (p .G)) ∙ ap₂ (λ (x y : ℕ). x * p .G + y) e f ∙ div-add-mod' t (p .G)
+
+  module _ (z s d : ℕ) (i : Has z (remaining p v (named m))) (l : d < p .N) (n : d ≢ m) (h : hasChunk (G z) s d ≡ true) where
+    b : z < p .Z
+    b = remaining-has p r g v k m c z i .0
+
+    q : Zone
+    q = zoneAt v d z
+
+    stripeAt : ℕ → ℕ
+    stripeAt o = recordOf (blockIn (zoneAt v d z) (suc o) .spare) .stripe
+
+    at-off :
+        (o : ℕ)
+        → o < dataStored p (zoneAt v d z)
+        → Off (itemsIn p v d z) (suc o) (chunk (recordOf (blockIn (zoneAt v d z) (suc o) .spare) .stripe)
+        (valueOf (blockIn (zoneAt v d z) (suc o) .block) (recordOf (blockIn (zoneAt v d z) (suc o) .spare))))
+    at-off o w =
+        let j : (o < p .S) × (suc o < zoneAt v d z .pointer) = stored-below p (zoneAt v d z) o w in
+        subst (λ (y : List Item). Off y (suc o) (chunk (recordOf (blockIn (zoneAt v d z) (suc o) .spare) .stripe)
+        (valueOf (blockIn (zoneAt v d z) (suc o) .block) (recordOf (blockIn (zoneAt v d z) (suc o) .spare)))))
+        (sym (items-in p v d z)) (unfold chunkItem in chunk-of p (zoneAt v d z) (zone-low p r g v k d z l (trusted p r g v k m c d l n) b) o (j .0) (j .1))
+
+    grp-at : (o : ℕ) → o < dataStored p (zoneAt v d z) → group p (recordOf (blockIn (zoneAt v d z) (suc o) .spare) .stripe) ≡ group p o
+    grp-at o w = zone-facts p r g v k d z l (trusted p r g v k m c d l n) .num o (recordOf (blockIn (zoneAt v d z) (suc o) .spare) .stripe)
+        (valueOf (blockIn (zoneAt v d z) (suc o) .block) (recordOf (blockIn (zoneAt v d z) (suc o) .spare))) (at-off o w) .2
+
+    same-off : (o j : ℕ) → o < dataStored p (zoneAt v d z) → j < dataStored p (zoneAt v d z)
+        → recordOf (blockIn (zoneAt v d z) (suc o) .spare) .stripe ≡ recordOf (blockIn (zoneAt v d z) (suc j) .spare) .stripe → o ≡ j
+    same-off o j a a′ e =
+        let w : suc o ≡ suc j = zone-facts p r g v k d z l (trusted p r g v k m c d l n) .once (suc o) (suc j) (recordOf (blockIn (zoneAt v d z) (suc j) .spare) .stripe)
+        (valueOf (blockIn (zoneAt v d z) (suc o) .block) (recordOf (blockIn (zoneAt v d z) (suc o) .spare)))
+        (valueOf (blockIn (zoneAt v d z) (suc j) .block) (recordOf (blockIn (zoneAt v d z) (suc j) .spare)))
+        (subst (λ (s : ℕ). Off (itemsIn p v d z) (suc o)
+        (chunk s (valueOf (blockIn (zoneAt v d z) (suc o) .block) (recordOf (blockIn (zoneAt v d z) (suc o) .spare))))) e (at-off o a))
+        (at-off j a′) in
+        omega (arith, w)
+
+    has-shown : Has (offsetOn (G z) d s) (shownAt p v (compactTable p (segments p v (named m))) d z s)
+    unfolding shownAt
+    has-shown =
+        let w : (offsetOn (G z) d s < dataStored p (zoneAt v d z)) × (recordOf (blockIn (zoneAt v d z) (suc (offsetOn (G z) d s)) .spare) .stripe ≡ s) = offset-on p r g v k m c z s d b l n h in
+        let j : (offsetOn (G z) d s < p .S) × (suc (offsetOn (G z) d s) < zoneAt v d z .pointer) = stored-below p (zoneAt v d z) (offsetOn (G z) d s) (w .0) in
+        has-keep (λ o. ltb (1 + o) (pointerAt v d z) && eqb (getD (compactTable p (segments p v (named m))) (compactAt p d z o) 0) (compactEntry p s)) (offsetOn (G z) d s) (groupOffsets p s)
+        (of-group (offsetOn (G z) d s) s (j .0) (sym (grp-at (offsetOn (G z) d s) (w .0)) ∙ ap (group p) (w .1)))
+        (and-both (ltb (1 + offsetOn (G z) d s) (pointerAt v d z)) (eqb (getD (compactTable p (segments p v (named m))) (compactAt p d z (offsetOn (G z) d s)) 0) (compactEntry p s))
+        (lt-ltb (1 + offsetOn (G z) d s) (pointerAt v d z) (omega (arith, j .1, pointer-is v d z)))
+        (eq-eqb (getD (compactTable p (segments p v (named m))) (compactAt p d z (offsetOn (G z) d s)) 0) (compactEntry p s)
+        (compact-chunk d z (offsetOn (G z) d s) i l n (w .0) ∙ ap (compactEntry p) (w .1))))
+
+    shown-has : (o : ℕ) → Has o (shownAt p v (compactTable p (segments p v (named m))) d z s) → o ≡ offsetOn (G z) d s
+    unfolding shownAt
+    shown-has o x =
+        let a : Has o (groupOffsets p s) × ((ltb (1 + o) (pointerAt v d z) && eqb (getD (compactTable p (segments p v (named m))) (compactAt p d z o) 0) (compactEntry p s)) ≡ true) =
+        keep-has (λ o. ltb (1 + o) (pointerAt v d z) && eqb (getD (compactTable p (segments p v (named m))) (compactAt p d z o) 0) (compactEntry p s)) o (groupOffsets p s) x in
+        let e : (o < p .S) × (group p o ≡ group p s) = in-group o s (a .0) in
+        let f : 1 + o < pointerAt v d z =
+        ltb-true (1 + o) (pointerAt v d z) (and-left (ltb (1 + o) (pointerAt v d z))
+        (eqb (getD (compactTable p (segments p v (named m))) (compactAt p d z o) 0) (compactEntry p s)) (a .1)) in
+        let w : o < dataStored p (zoneAt v d z) = below-stored p (zoneAt v d z) o (e .0) (omega (arith, f, pointer-is v d z)) in
+        let t : compactEntry p (recordOf (blockIn (zoneAt v d z) (suc o) .spare) .stripe) ≡ compactEntry p s = sym (compact-chunk d z o i l n w)
+        ∙ eqb-true (getD (compactTable p (segments p v (named m))) (compactAt p d z o) 0) (compactEntry p s)
+        (and-right (ltb (1 + o) (pointerAt v d z)) (eqb (getD (compactTable p (segments p v (named m))) (compactAt p d z o) 0) (compactEntry p s))
+        (a .1)) in
+        let u : recordOf (blockIn (zoneAt v d z) (suc o) .spare) .stripe ≡ s = same-stripe (recordOf (blockIn (zoneAt v d z) (suc o) .spare) .stripe) s (grp-at o w ∙ e .1) t in
+        let y : (offsetOn (G z) d s < dataStored p (zoneAt v d z)) × (recordOf (blockIn (zoneAt v d z) (suc (offsetOn (G z) d s)) .spare) .stripe ≡ s) = offset-on p r g v k m c z s d b l n h in
+        same-off o (offsetOn (G z) d s) w (y .0) (u ∙ sym (y .1))
+
+    pub shown-first : firstOr 0 (shownAt p v (compactTable p (segments p v (named m))) d z s) ≡ offsetOn (G z) d s
+    shown-first = shown-has (firstOr 0 (shownAt p v (compactTable p (segments p v (named m))) d z s))
+        (firstOr-has 0 (shownAt p v (compactTable p (segments p v (named m))) d z s) (isNil-has (shownAt p v (compactTable p (segments p v (named m))) d z s) (offsetOn (G z) d s) has-shown))
+
+    pub shown-some : isNil (shownAt p v (compactTable p (segments p v (named m))) d z s) ≡ false
+    shown-some = isNil-has (shownAt p v (compactTable p (segments p v (named m))) d z s) (offsetOn (G z) d s) has-shown

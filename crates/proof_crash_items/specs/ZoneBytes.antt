@@ -1,0 +1,227 @@
+-- What items forget, zone by zone: headers and footers in full, records that their bytes hold; kept by each kind of store. Assumes nothing.
+use mathlib.Core.Path.{_≡_, refl, sym, ap, ap₂, _∙_, subst}
+use mathlib.Core.List.{List, [], _∷_}
+use mathlib.Core.Bool.{true, false}
+use Prim.Native.Nat.{ℕ, zero, suc, _+_, _-_, _*_, _/_, _%_, _^_, _≤_, _<_}
+use native.Mathlib.Decide.{ℕ-discrete}
+use native.Mathlib.Omega.{arith}
+use lib.ListN.{length, getD, take, drop, set, length-drop, length-map}
+use lib.Seq.{getD-take, getD-drop, take-set-le, getD-set-same, getD-set-other, drop-set-add, length-take-le}
+use Rattle.spec.specs.declared.Params.{Params}
+use Rattle.spec.specs.Bytes.{part}
+use Rattle.spec.specs.Drives.{Chunk, mkChunk, noChunk, Zone, putZone, resetZone, blocksOf, sparesOf, recordIn, zeroSpare}
+use Rattle.spec.specs.Layout.{headerBlock, headerSerial, headerCopied, Rec, recordBytes, recordOf, footerBlock, footerRecord}
+use Rattle.spec.specs.Params.{spareLen, perFooter, footers, capacity}
+use Rattle.law_basic.specs.Geometry.{Ranged}
+use Rattle.law_basic.specs.Xor.{AllLong}
+use Rattle.proof_crash_machine.specs.Exec.{low}
+use Rattle.proof_crash_machine.specs.Reset.{same}
+use Rattle.proof_crash_machine.specs.View.{Item}
+use Rattle.proof_crash_machine.specs.View.Item.{hdr, chunk, foot}
+use Rattle.proof_crash_items.specs.Codec.{Wide, record-bytes, length-record, length-zeroSpare, length-header, header-serial, header-copied, length-footer, footer-record}
+use Rattle.proof_crash_items.specs.Items.{valueOf, chunkItem, itemAt, item-data, item-foot}
+use Rattle.proof_crash_items.specs.Ranges.{footer-of, capacity-few}
+use Rattle.proof_crash_items.specs.Shape.{ZoneShape}
+
+-- the spares of a zone's data blocks
+abbrev pub sparesIn : Params → Zone → List (List ℕ)
+sparesIn p q = sparesOf (take (p .S) (drop 1 (q .blocks)))
+
+abbrev pub blockIn : Zone → ℕ → Chunk
+blockIn q k = getD (q .blocks) k noChunk
+
+-- D1, D2 and D6 in full, of one trusted zone
+pub record ZoneBytes (p : Params) (d z : ℕ) (q : Zone) : Type 0 where
+  pub low : q .pointer ≤ capacity p
+  pub head : 0 < q .pointer → blockIn q 0 ≡ mkChunk (headerBlock p d z (headerSerial (blockIn q 0 .block)) (headerCopied (blockIn q 0 .block))) zeroSpare
+  pub serials : 0 < q .pointer → (headerSerial (blockIn q 0 .block) < 256 ^ 8) × (headerCopied (blockIn q 0 .block) < 256 ^ 8)
+  pub wide : (o : ℕ) → o < p .S → suc o < q .pointer → Wide (recordOf (blockIn q (suc o) .spare))
+  pub feet : (j : ℕ) → suc (p .S + j) < q .pointer → blockIn q (suc (p .S + j)) ≡ mkChunk (footerBlock p (sparesIn p q) j) zeroSpare
+
+-- the kinds of put, by the pointer
+pub data Kind (p : Params) (d z : ℕ) (q : Zone) : List ℕ → List ℕ → Type 0 where
+  header : (ser cop : ℕ) → q .pointer ≡ 0 → ser < 256 ^ 8 → cop < 256 ^ 8 → Kind p d z q (headerBlock p d z ser cop) zeroSpare
+  datum : (o : ℕ) (b : List ℕ) (r : Rec) → q .pointer ≡ suc o → o < p .S → length b ≡ p .B → Wide r → Kind p d z q b (recordBytes r)
+  footer : (j : ℕ) → q .pointer ≡ suc (p .S + j) → j < footers p → Kind p d z q (footerBlock p (sparesIn p q) j) zeroSpare
+
+-- ---- spares
+
+pub long-spares : (cs : List Chunk) → ((k : ℕ) → k < length cs → length (getD cs k noChunk .spare) ≡ spareLen) → AllLong spareLen (sparesOf cs)
+unfolding sparesOf
+long-spares [] h = tt
+long-spares (c ∷ cs) h = (h 0 (omega arith), long-spares cs (λ k l. h (suc k) (omega arith)))
+
+pub getD-spares : (cs : List Chunk) (k : ℕ) → getD (sparesOf cs) k [] ≡ getD cs k noChunk .spare
+unfolding sparesOf noChunk
+getD-spares [] k = refl
+getD-spares (c ∷ cs) zero = refl
+getD-spares (c ∷ cs) (suc k) = getD-spares cs k
+
+pub getD-blocks : (cs : List Chunk) (k : ℕ) → getD (blocksOf cs) k [] ≡ getD cs k noChunk .block
+unfolding blocksOf noChunk
+getD-blocks [] k = refl
+getD-blocks (c ∷ cs) zero = refl
+getD-blocks (c ∷ cs) (suc k) = getD-blocks cs k
+
+pub length-sparesOf : (cs : List Chunk) → length (sparesOf cs) ≡ length cs
+unfolding sparesOf
+length-sparesOf cs = length-map cs (λ (c : Chunk). c .spare)
+
+module _ (p : Params) (h : Ranged p) (q : Zone) (s : ZoneShape p q) where
+  length-data : length (take (p .S) (drop 1 (q .blocks))) ≡ p .S
+  length-data = length-take-le (p .S) (drop 1 (q .blocks)) (omega (arith, length-drop 1 (q .blocks), s .count, capacity-few p h))
+
+  pub length-sparesIn : length (sparesIn p q) ≡ p .S
+  length-sparesIn = length-sparesOf (take (p .S) (drop 1 (q .blocks))) ∙ length-data
+
+  pub spare-in : (o : ℕ) → o < p .S → getD (sparesIn p q) o [] ≡ blockIn q (suc o) .spare
+  spare-in o l =
+      getD-spares (take (p .S) (drop 1 (q .blocks))) o
+      ∙ ap (λ (c : Chunk). c .spare) (getD-take (p .S) (drop 1 (q .blocks)) o noChunk l
+      ∙ getD-drop 1 (q .blocks) o noChunk
+      ∙ ap (λ (k : ℕ). getD (q .blocks) k noChunk) (let e : 1 + o ≡ suc o = omega arith in e))
+
+  pub spares-long : AllLong spareLen (sparesIn p q)
+  spares-long = long-spares (take (p .S) (drop 1 (q .blocks))) (λ k l.
+      let b : k < p .S = omega (arith, l, length-data) in
+      ap length (sym (getD-spares (take (p .S) (drop 1 (q .blocks))) k) ∙ spare-in k b) ∙ s .long (suc k) (omega (arith, b, capacity-few p h)) .1)
+
+  -- ---- the lengths of what is put, and the room for it
+  pub kind-fits : (d z : ℕ) (b t : List ℕ) → Kind p d z q b t → (q .pointer < capacity p) × (length b ≡ p .B) × (length t ≡ spareLen)
+  kind-fits d z _ _ (header ser cop e a c) = (omega (arith, e, capacity-few p h), length-header p d z ser cop (h .block-low), length-zeroSpare)
+  kind-fits d z _ _ (datum o b r e l lb w) = (omega (arith, e, l, capacity-few p h), lb, length-record r)
+  kind-fits d z _ _ (footer j e l) = unfold capacity in (omega (arith, e, l), length-footer p h (sparesIn p q) spares-long j, length-zeroSpare)
+
+-- ---- what is put, as an item
+
+unfoldable pub kindItem : (p : Params) (d z : ℕ) (q : Zone) (b t : List ℕ) → Kind p d z q b t → Item
+kindItem p d z q _ _ (header ser cop e a c) = hdr ser cop
+kindItem p d z q _ _ (datum o b r e l lb w) = chunk (r .stripe) (valueOf b r)
+kindItem p d z q _ _ (footer j e l) = foot j
+
+pub kind-item : (p : Params) (d z : ℕ) (q : Zone) (b t : List ℕ) (k : Kind p d z q b t) → itemAt p (q .pointer) (mkChunk b t) ≡ kindItem p d z q b t k
+unfolding kindItem
+kind-item p d z q _ _ (header ser cop e a c) =
+    ap (λ (n : ℕ). itemAt p n (mkChunk (headerBlock p d z ser cop) zeroSpare)) e
+    ∙ (unfold itemAt in ap₂ hdr (header-serial p d z ser cop a) (header-copied p d z ser cop c))
+kind-item p d z q _ _ (datum o b r e l lb w) =
+    ap (λ (n : ℕ). itemAt p n (mkChunk b (recordBytes r))) e ∙ item-data p o (mkChunk b (recordBytes r)) l
+    ∙ (unfold chunkItem in ap (λ (x : Rec). chunk (x .stripe) (valueOf b x)) (record-bytes r w))
+kind-item p d z q _ _ (footer j e l) =
+    ap (λ (n : ℕ). itemAt p n (mkChunk (footerBlock p (sparesIn p q) j) zeroSpare)) e
+    ∙ item-foot p (p .S + j) (mkChunk (footerBlock p (sparesIn p q) j) zeroSpare) (omega arith) ∙ ap foot (let e : p .S + j - p .S ≡ j = omega arith in e)
+
+-- ---- the facts are kept
+
+pub bytes-reset : (p : Params) (d z : ℕ) (q : Zone) → ZoneBytes p d z (resetZone q)
+unfolding resetZone
+bytes-reset p d z q = record {
+  low = omega arith;
+  head = λ l. absurd (let j : ⊥ = omega arith in j);
+  serials = λ l. absurd (let j : ⊥ = omega arith in j);
+  wide = λ o l b. absurd (let j : ⊥ = omega arith in j);
+  feet = λ j b. absurd (let i : ⊥ = omega arith in i);
+}
+
+pub bytes-empty : (p : Params) (d z : ℕ) (q : Zone) → q .pointer ≡ 0 → ZoneBytes p d z q
+bytes-empty p d z q e = record {
+  low = omega arith;
+  head = λ l. absurd (let j : ⊥ = omega arith in j);
+  serials = λ l. absurd (let j : ⊥ = omega arith in j);
+  wide = λ o l b. absurd (let j : ⊥ = omega arith in j);
+  feet = λ j b. absurd (let i : ⊥ = omega arith in i);
+}
+
+module _ (p : Params) (h : Ranged p) (d z : ℕ) (q : Zone) (s : ZoneShape p q) where
+  -- below the pointer nothing changes
+  pub old-block : (b t : List ℕ) (k : ℕ) → k < q .pointer → blockIn (putZone b t q) k ≡ blockIn q k
+  unfolding putZone
+  old-block b t k l = getD-set-other (q .blocks) (q .pointer) k (mkChunk b t) noChunk (omega arith)
+
+  pub new-block : (b t : List ℕ) → q .pointer < capacity p → blockIn (putZone b t q) (q .pointer) ≡ mkChunk b t
+  unfolding putZone
+  new-block b t l = getD-set-same (q .blocks) (q .pointer) (mkChunk b t) noChunk (omega (arith, s .count))
+
+  pub old-spares : (b t : List ℕ) (j : ℕ) → q .pointer ≡ suc (p .S + j) → sparesIn p (putZone b t q) ≡ sparesIn p q
+  unfolding putZone
+  old-spares b t j e = ap sparesOf (
+      ap (take (p .S)) (ap (λ (n : ℕ). drop 1 (set (q .blocks) n (mkChunk b t))) (e ∙ (let i : suc (p .S + j) ≡ 1 + (p .S + j) = omega arith in i))
+      ∙ drop-set-add 1 (q .blocks) (p .S + j) (mkChunk b t))
+      ∙ take-set-le (p .S) (drop 1 (q .blocks)) (p .S + j) (mkChunk b t) (omega arith))
+
+  pub pointer-put : (b t : List ℕ) → putZone b t q .pointer ≡ suc (q .pointer)
+  unfolding putZone
+  pointer-put b t = refl
+
+  -- the head is as it was, in a zone that isn't empty
+  head-kept : (b t : List ℕ) → 0 < q .pointer → ZoneBytes p d z q
+      → (blockIn (putZone b t q) 0 ≡ mkChunk (headerBlock p d z (headerSerial (blockIn (putZone b t q) 0 .block)) (headerCopied (blockIn (putZone b t q) 0 .block))) zeroSpare)
+      × ((headerSerial (blockIn (putZone b t q) 0 .block) < 256 ^ 8) × (headerCopied (blockIn (putZone b t q) 0 .block) < 256 ^ 8))
+  head-kept b t l f = rw (old-block b t 0 l) (f .head l, f .serials l)
+
+  pub bytes-put : (b t : List ℕ) → Kind p d z q b t → ZoneBytes p d z q → ZoneBytes p d z (putZone b t q)
+  bytes-put _ _ (header ser cop e a c) f = record {
+    low = omega (arith, e, pointer-put (headerBlock p d z ser cop) zeroSpare, capacity-few p h);
+    head =
+        λ l. rw new (let m : mkChunk (headerBlock p d z ser cop) zeroSpare
+        ≡ mkChunk (headerBlock p d z (headerSerial (headerBlock p d z ser cop)) (headerCopied (headerBlock p d z ser cop))) zeroSpare =
+        ap₂ (λ (x y : ℕ). mkChunk (headerBlock p d z x y) zeroSpare) (sym (header-serial p d z ser cop a)) (sym (header-copied p d z ser cop c)) in m);
+    serials = λ l. rw new (subst (λ (n : ℕ). n < 256 ^ 8) (sym (header-serial p d z ser cop a)) a, subst (λ (n : ℕ). n < 256 ^ 8) (sym (header-copied p d z ser cop c)) c);
+    wide = λ o l k. absurd (let j : ⊥ = omega (arith, k, pointer-put (headerBlock p d z ser cop) zeroSpare, e) in j);
+    feet = λ j k. absurd (let i : ⊥ = omega (arith, k, pointer-put (headerBlock p d z ser cop) zeroSpare, e) in i);
+  }
+    where
+      new : blockIn (putZone (headerBlock p d z ser cop) zeroSpare q) 0 ≡ mkChunk (headerBlock p d z ser cop) zeroSpare
+      new = subst (λ (n : ℕ). blockIn (putZone (headerBlock p d z ser cop) zeroSpare q) n ≡ mkChunk (headerBlock p d z ser cop) zeroSpare) e
+          (new-block (headerBlock p d z ser cop) zeroSpare (omega (arith, e, capacity-few p h)))
+  bytes-put _ _ (datum o b r e l lb w) f = record {
+    low = omega (arith, e, l, pointer-put b (recordBytes r), capacity-few p h);
+    head = λ k. head-kept b (recordBytes r) (omega arith) f .0;
+    serials = λ k. head-kept b (recordBytes r) (omega arith) f .1;
+    wide = λ i k m. go i k m (ℕ-discrete (suc i) (q .pointer));
+    feet = λ j k. absurd (let i : ⊥ = omega (arith, k, pointer-put b (recordBytes r), e, l) in i);
+  }
+    where
+      go : (i : ℕ) → i < p .S → suc i < putZone b (recordBytes r) q .pointer → Dec (suc i ≡ q .pointer) → Wide (recordOf (blockIn (putZone b (recordBytes r) q) (suc i) .spare))
+      go i k m (yes n) = rw (n, new-block b (recordBytes r) (omega (arith, e, l, capacity-few p h)), record-bytes r w) w
+      go i k m (no n) = let a : suc i < q .pointer = omega (arith, m, n, pointer-put b (recordBytes r)) in rw (old-block b (recordBytes r) (suc i) a) (f .wide i k a)
+  bytes-put _ _ (footer j e l) f = record {
+    low = unfold capacity in omega (arith, e, l, pointer-put b zeroSpare);
+    head = λ k. head-kept b zeroSpare (omega arith) f .0;
+    serials = λ k. head-kept b zeroSpare (omega arith) f .1;
+    wide = λ i k m. let a : suc i < q .pointer = omega (arith, k, e) in rw (old-block b zeroSpare (suc i) a) (f .wide i k a);
+    feet = λ i k. go i k (ℕ-discrete i j);
+  }
+    where
+      b : List ℕ
+      b = footerBlock p (sparesIn p q) j
+
+      same : sparesIn p (putZone b zeroSpare q) ≡ sparesIn p q
+      same = old-spares b zeroSpare j e
+
+      go :
+          (i : ℕ)
+          → suc (p .S + i) < putZone b zeroSpare q .pointer
+          → Dec (i ≡ j)
+          → blockIn (putZone b zeroSpare q) (suc (p .S + i)) ≡ mkChunk (footerBlock p (sparesIn p (putZone b zeroSpare q)) i) zeroSpare
+      go i k (yes n) =
+          ap (blockIn (putZone b zeroSpare q)) (let m : suc (p .S + i) ≡ q .pointer = omega (arith, n, e) in m)
+          ∙ new-block b zeroSpare (unfold capacity in omega (arith, e, l))
+          ∙ ap₂ (λ (ss : List (List ℕ)) (x : ℕ). mkChunk (footerBlock p ss x) zeroSpare) (sym same) (sym n)
+      go i k (no n) =
+          let a : suc (p .S + i) < q .pointer = omega (arith, k, n, e, pointer-put b zeroSpare) in
+          old-block b zeroSpare (suc (p .S + i)) a ∙ f .feet i a ∙ ap (λ (ss : List (List ℕ)). mkChunk (footerBlock p ss i) zeroSpare) (sym same)
+
+  -- ---- in a full zone what the footer says is what the spares say
+  pub by-footer : ZoneBytes p d z q → q .pointer ≡ capacity p → (o : ℕ) → o < p .S → recordIn p true q o ≡ recordIn p false q o
+  unfolding recordIn footerRecord capacity
+  by-footer f e o l =
+      let k : o / perFooter p < footers p = footer-of p h o l in
+      let a : suc (p .S + o / perFooter p) < q .pointer = omega (arith, e, k) in
+      let i : (1 + p .S) + o / perFooter p ≡ suc (p .S + o / perFooter p) = omega arith in
+      let r : getD (blocksOf (drop (1 + p .S) (q .blocks))) (o / perFooter p) [] ≡ footerBlock p (sparesIn p q) (o / perFooter p) =
+      getD-blocks (drop (1 + p .S) (q .blocks)) (o / perFooter p) ∙ ap (λ (c : Chunk). c .block) (getD-drop (1 + p .S) (q .blocks) (o / perFooter p) noChunk
+      ∙ ap (λ (n : ℕ). getD (q .blocks) n noChunk) i ∙ f .feet (o / perFooter p) a) in
+      ap recordOf (ap (part (spareLen * (o % perFooter p)) spareLen) r
+      ∙ footer-record p h (sparesIn p q) (spares-long p h q s) o (omega (arith, l, length-sparesIn p h q s))
+      ∙ spare-in p h q s o l ∙ ap (λ (n : ℕ). getD (q .blocks) n noChunk .spare) (let m : suc o ≡ 1 + o = omega arith in m))

@@ -1,0 +1,180 @@
+-- Stripes in flight: one begins, a block goes in (a write, a copy, padding), footers, a segment is sealed. Assumes nothing.
+use mathlib.Core.Path.{_≡_, refl, sym, ap, ap₂, _∙_, subst}
+use mathlib.Core.List.{List, [], _∷_, _++_}
+use mathlib.Core.Logic.{_⊎_, inl, inr, ⊎-elim, _≢_}
+use mathlib.Core.Bool.{Bool, true, false}
+use Prim.Native.Nat.{ℕ, zero, suc, _+_, _≤_, _<_}
+use native.Mathlib.Omega.{arith}
+use native.Mathlib.Decide.{ℕ-discrete, decLt, decLe}
+use lib.ListN.{length, getD, take}
+use Rattle.proof_crash_machine.specs.Val.{Val, 𝟘, pads, pads-stamp, _⊕_, ⊕-assoc, ⊕-comm, ⊕-self, ⊕-zero, ⊕-back, ⊕-right, xorN, xorN-put, xorN-change}
+use Rattle.proof_crash_machine.specs.Facts.Pair.{alone, pair}
+use Rattle.proof_crash_machine.specs.Lemma.{pair-alone, pair-o, pair-w, counts}
+use Rattle.proof_crash_machine.specs.View.{Item, View, In, after, chunk-foot}
+use Rattle.proof_crash_machine.specs.View.Item.{hdr, chunk, foot}
+use Rattle.proof_crash_machine.specs.Facts.{Par, Pair, Heads, Ghost, InV, Good, Tr, Choice, Stripe, Datum, Used, Whole, Ragged, Facts}
+use Rattle.proof_crash_machine.specs.Memory.{Mem, MemOk, Flight, Ok, setAt, setAt-elim}
+use Rattle.proof_crash_machine.specs.Put
+
+-- a stripe of padding: what is not yet filled
+unfoldable pub unfilled : Par → ℕ → ℕ → Val
+unfilled p s = setAt (λ e. pads) (p .par s) (xorN (p .N) (setAt (λ e. pads) (p .par s) 𝟘))
+
+pub unfilled-par : (p : Par) (s : ℕ) → unfilled p s (p .par s) ≡ xorN (p .N) (setAt (λ e. pads) (p .par s) 𝟘)
+unfolding unfilled
+unfilled-par p s = setAt-elim (λ (y : Val). y ≡ X) (λ e. pads) (p .par s) X (p .par s) (λ e. refl) (λ n. absurd (n refl))
+  where
+    X : Val
+    X = xorN (p .N) (setAt (λ e. pads) (p .par s) 𝟘)
+
+pub unfilled-data : (p : Par) (s e : ℕ) → e ≢ p .par s → unfilled p s e ≡ pads
+unfolding unfilled
+unfilled-data p s e n = setAt-elim (λ (y : Val). y ≡ pads) (λ e. pads) (p .par s) X e (λ i. absurd (n i)) (λ i. refl)
+  where
+    X : Val
+    X = xorN (p .N) (setAt (λ e. pads) (p .par s) 𝟘)
+
+pub unfilled-xor : (p : Par) (s : ℕ) → xorN (p .N) (unfilled p s) ≡ 𝟘
+unfilled-xor p s =
+    xorN-put (p .N) (p .par s) (unfilled p s) H (p .on-drive s) same none ∙ ap (λ (y : Val). y ⊕ xorN (p .N) H) (unfilled-par p s) ∙ ⊕-self (xorN (p .N) H)
+  where
+    H : ℕ → Val
+    H = setAt (λ e. pads) (p .par s) 𝟘
+
+    none : H (p .par s) ≡ 𝟘
+    none = setAt-elim (λ (y : Val). y ≡ 𝟘) (λ e. pads) (p .par s) 𝟘 (p .par s) (λ e. refl) (λ n. absurd (n refl))
+
+    same : (d : ℕ) → d < p .N → d ≢ p .par s → unfilled p s d ≡ H d
+    same d l n = unfilled-data p s d n ∙ sym (setAt-elim (λ (y : Val). y ≡ pads) (λ e. pads) (p .par s) 𝟘 d (λ i. absurd (n i)) (λ i. refl))
+
+-- an empty stripe, under a number that no drive has
+pub begin : (p : Par) (g : Ghost) (v : View) (z s : ℕ) → ((e : ℕ) (x : Val) → e < p .N → In (chunk s x) (v e z) → ⊥) → Flight p g v z s (unfilled p s) (λ e. false)
+begin p g v z s none = record {
+  mine = λ e x l m. absurd (none e x l m);
+  xor = unfilled-xor p s;
+  good = λ x t. inl (sym (t .val) ∙ unfilled-data p s (t .d) (t .data?));
+  ok = λ x t. inl (let e : x .stamp ≡ 0 = pads-stamp x (sym (t .val) ∙ unfilled-data p s (t .d) (t .data?)) in omega arith);
+}
+
+-- x goes to drive d; parity follows
+unfoldable pub filled : Par → ℕ → (ℕ → Val) → ℕ → Val → ℕ → Val
+filled p s G d x = setAt (setAt G d x) (p .par s) (G (p .par s) ⊕ (pads ⊕ x))
+
+module _ (p : Par) (g : Ghost) (v : View) (z s : ℕ) (G : ℕ → Val) (r : ℕ → Bool) (f : Flight p g v z s G r)
+    (d : ℕ) (x : Val) (dN : d < p .N) (pN : p .par s < p .N) (dp : d ≢ p .par s) (blank : G d ≡ pads) (rd : r d ≡ false) (rp : r (p .par s) ≡ false) where
+  abbrev q : ℕ
+  q = p .par s
+
+  pub at-par : filled p s G d x q ≡ G q ⊕ (pads ⊕ x)
+  unfolding filled
+  at-par = setAt-elim (λ (y : Val). y ≡ G q ⊕ (pads ⊕ x)) (setAt G d x) q (G q ⊕ (pads ⊕ x)) q (λ e. refl) (λ n. absurd (n refl))
+
+  pub at-d : filled p s G d x d ≡ x
+  unfolding filled
+  at-d = setAt-elim (λ (y : Val). y ≡ x) (setAt G d x) q (G q ⊕ (pads ⊕ x)) d (λ e. absurd (dp e)) (λ n. setAt-elim (λ (y : Val). y ≡ x) G d x d (λ e. refl) (λ k. absurd (k refl)))
+
+  pub at-else : (e : ℕ) → e ≢ d → e ≢ q → filled p s G d x e ≡ G e
+  unfolding filled
+  at-else e n k = setAt-elim (λ (y : Val). y ≡ G e) (setAt G d x) q (G q ⊕ (pads ⊕ x)) e (λ i. absurd (k i)) (λ i. setAt-elim (λ (y : Val). y ≡ G e) G d x e (λ j. absurd (n j)) (λ j. refl))
+
+  -- with x, and the old parity
+  G₁ : ℕ → Val
+  G₁ = setAt G d x
+
+  G₁-d : G₁ d ≡ x
+  unfolding G₁
+  G₁-d = setAt-elim (λ (y : Val). y ≡ x) G d x d (λ e. refl) (λ n. absurd (n refl))
+
+  G₁-else : (e : ℕ) → e ≢ d → G₁ e ≡ G e
+  unfolding G₁
+  G₁-else e n = setAt-elim (λ (y : Val). y ≡ G e) G d x e (λ i. absurd (n i)) (λ i. refl)
+
+  same : (e : ℕ) → e < p .N → e ≢ q → filled p s G d x e ≡ G₁ e
+  same e l n = go (ℕ-discrete e d)
+    where
+      go : Dec (e ≡ d) → filled p s G d x e ≡ G₁ e
+      go (yes i) = rw i (at-d ∙ sym G₁-d)
+      go (no i) = at-else e i n ∙ sym (G₁-else e i)
+
+  -- the old parity is that of G₁ but for x in the place of padding
+  xor-first : xorN (p .N) G₁ ⊕ pads ≡ x
+  xor-first =
+      ap (λ (y : Val). xorN (p .N) G₁ ⊕ y) (sym blank) ∙ xorN-change (p .N) d G₁ G dN (λ e l n. G₁-else e n)
+      ∙ ap₂ _⊕_ (f .xor) G₁-d ∙ ⊕-zero x
+
+  cancel : (a b c : Val) → a ⊕ b ≡ c → a ⊕ (G q ⊕ (b ⊕ c)) ≡ G q
+  cancel a b c e =
+      ap (λ (y : Val). a ⊕ y) (⊕-comm (G q) (b ⊕ c)) ∙ sym (⊕-assoc a (b ⊕ c) (G q))
+      ∙ ap (λ (y : Val). y ⊕ G q) (sym (⊕-assoc a b c) ∙ ap (λ (y : Val). y ⊕ c) e ∙ ⊕-self c) ∙ ⊕-zero (G q)
+
+  xor-filled : xorN (p .N) (filled p s G d x) ≡ 𝟘
+  xor-filled = ⊕-right (xorN (p .N) (filled p s G d x)) 𝟘 (G q) (
+      ap (λ (y : Val). xorN (p .N) (filled p s G d x) ⊕ y) (sym (G₁-else q (λ i. dp (sym i))))
+      ∙ xorN-change (p .N) q (filled p s G d x) G₁ pN same
+      ∙ ap (λ (y : Val). xorN (p .N) G₁ ⊕ y) at-par
+      ∙ cancel (xorN (p .N) G₁) pads x xor-first
+      ∙ sym (⊕-zero (G q)))
+
+  not-ready : (e k : ℕ) → r e ≡ true → r k ≡ false → e ≢ k
+  not-ready e k a b i = let c : true ≡ false = sym a ∙ ap r i ∙ b in absurd (let z : _≡_ {A = ℕ} 0 1 = cc in let j : ⊥ = omega arith in j)
+
+  -- the stripe with x in it, and at least as much that may land
+  pub fill : Good g x → Ok g x → (r′ : ℕ → Bool) → ((e : ℕ) → r e ≡ true → r′ e ≡ true) → Flight p g v z s (filled p s G d x) r′
+  fill gx okx r′ more = record {
+    mine = λ e y l m. let k : (y ≡ G e) × (r e ≡ true) = f .mine e y l m in
+        (k .0 ∙ sym (at-else e (not-ready e d (k .1) rd) (not-ready e q (k .1) rp)), more e (k .1));
+    xor = xor-filled;
+    good = λ y t. case (Good g) y t (ℕ-discrete (t .d) d) gx (f .good y);
+    ok = λ y t. case (Ok g) y t (ℕ-discrete (t .d) d) okx (f .ok y);
+  }
+    where
+      case : (Q : Val → Type 0) (y : Val) (t : Datum p s (filled p s G d x) y) → Dec (t .d ≡ d) → Q x → (Datum p s G y → Q y) → Q y
+      case Q y t (yes e) a b = subst Q (sym at-d ∙ ap (filled p s G d x) (sym e) ∙ t .val) a
+      case Q y t (no e) a b = b (record { d = t .d; lt = t .lt; data? = t .data?; val = sym (at-else (t .d) e (t .data?)) ∙ t .val })
+
+-- ---- a footer block changes nothing in memory
+pub foot-mem : (p : Par) (g : Ghost) (v : View) (M : Mem) → MemOk p g v M → (d z j : ℕ) → 0 < length (v d z) → length (v d z) < p .cap → MemOk p g (after v d z (foot j)) M
+foot-mem p g v M a d z j b room = record {
+  none = a .none;
+  no-pair = a .no-pair;
+  few = a .few;
+  stamps = a .stamps;
+  top = a .top;
+  serials = λ y k. a .serials y (Put.Used-back v d z (foot j) b p g y k);
+  whole = λ y k. Put.Whole-fwd v d z (foot j) b p g y (a .whole y (Put.Used-back v d z (foot j) b p g y k));
+  lone = λ y (e, t, i, k). a .lone y (
+    e,
+    t,
+    Put.len-back v d z (foot j) b e y i,
+    Put.each v d z (foot j) (λ (e y : ℕ) (l : List Item). length l < p .cap → length (v e y) < p .cap) (λ q. room) e y (λ q. q) k,
+  );
+  begun = λ q. Put.Whole-fwd v d z (foot j) b p g (M .zone) (a .begun q);
+  below = λ q e s x l m. a .below q e s x l (old e s x m);
+  flies = λ s q. let r : (M .is-open ≡ true) × (s < M .next) × Flight p g v (M .zone) s (M .F s) (M .ready s) = a .flies s q in
+      (r .0, r .1, record { mine = λ e x l m. r .2 .mine e x l (old e s x m); xor = r .2 .xor; good = r .2 .good; ok = r .2 .ok });
+}
+  where
+    old : (e s : ℕ) (x : Val) → In (chunk s x) (after v d z (foot j) e (M .zone)) → In (chunk s x) (v e (M .zone))
+    old e s x m = ⊎-elim (λ k. k) (λ (k : (e ≡ d) × (M .zone ≡ z) × (chunk s x ≡ foot j)). absurd (chunk-foot (k .2))) (Put.in-back v d z (foot j) (chunk s x) e (M .zone) m)
+
+-- ---- nothing is ragged any more: no segment is open
+abbrev pub shut : Mem → Mem
+shut M = record { is-open = false; zone = M .zone; next = M .next; fly = M .fly; ready = M .ready; F = M .F; stamp = M .stamp; serial = M .serial }
+
+pub seal-mem : (p : Par) (g : Ghost) (v : View) (M : Mem) → MemOk p g v M → ((y : ℕ) → Ragged p (g .un) v y → ⊥) → ((s : ℕ) → M .fly s ≡ false) → MemOk p g v (shut M)
+seal-mem p g v M a full idle = record {
+  none = a .none;
+  no-pair = a .no-pair;
+  few = a .few;
+  stamps = a .stamps;
+  top = a .top;
+  whole = a .whole;
+  serials = a .serials;
+  lone = λ y k. absurd (full y k);
+  begun = λ q. no q;
+  below = λ q. no q;
+  flies = λ s q. no (sym (idle s) ∙ q);
+}
+  where
+    no : {A : Type 0} → false ≡ true → A
+    no e = absurd (let z : _≡_ {A = ℕ} 0 1 = cc in let j : ⊥ = omega arith in j)

@@ -1,0 +1,84 @@
+-- A footer block keeps the drive facts: nothing that counts is changed. Assumes nothing.
+use mathlib.Core.Path.{_≡_, refl, sym, ap, ap₂, _∙_, subst}
+use mathlib.Core.List.{List, [], _∷_, _++_}
+use mathlib.Core.Logic.{_⊎_, inl, inr, ⊎-elim, _≢_}
+use Prim.Native.Nat.{ℕ, zero, suc, _+_, _≤_, _<_}
+use native.Mathlib.Omega.{arith}
+use native.Mathlib.Decide.{ℕ-discrete, decLt, decLe}
+use lib.ListN.{length, getD, take}
+use Rattle.proof_crash_machine.specs.Val.{Val, 𝟘, xorN, xorN-same, decode-all}
+use Rattle.proof_crash_machine.specs.Facts.Pair.{alone, pair}
+use Rattle.proof_crash_machine.specs.Lemma.{pair-alone, pair-o, pair-w, old-own, counts}
+use Rattle.proof_crash_machine.specs.View.{Item, View, In, after, in-cases, chunk-foot}
+use Rattle.proof_crash_machine.specs.View.Item.{hdr, chunk, foot}
+use Rattle.proof_crash_machine.specs.Facts.{Par, Pair, Heads, Ghost, Tr, Choice, L, R, Stripe, Datum, Counted, Off, Zone, Parity, Used, Whole, Moved, Swap, Ragged, Open, Content, Facts}
+use Rattle.proof_crash_machine.specs.Put
+
+module _ (p : Par) (g : Ghost) (v : View) (d z j : ℕ) (drive : Tr p (g .un) d) (begun : 0 < length (v d z)) (room : length (v d z) < p .cap)
+    (old : (w o : ℕ) → g .pr ≡ pair w o → Whole p (g .un) v o) (done : (s : ℕ) → s < p .S → (x : Val) × In (chunk s x) (v d z)) where
+  abbrev u : View
+  u = after v d z (foot j)
+
+  in-old : (s : ℕ) (x : Val) (e y : ℕ) → In (chunk s x) (u e y) → In (chunk s x) (v e y)
+  in-old s x e y m = ⊎-elim (λ k. k) (λ (k : (e ≡ d) × (y ≡ z) × (chunk s x ≡ foot j)). absurd (chunk-foot (k .2))) (Put.in-back v d z (foot j) (chunk s x) e y m)
+
+  stripe-old : (m y s : ℕ) (f : ℕ → Val) → Stripe p u m y s f → Stripe p v m y s f
+  stripe-old m y s f h = record { on = λ e l n. in-old s (f e) e y (h .on e l n); xor = h .xor }
+
+  off-old : (k s : ℕ) (x : Val) → Off (v d z ++ (foot j ∷ [])) k (chunk s x) → Off (v d z) k (chunk s x)
+  off-old k s x o = ⊎-elim (λ q. q) (λ (q : (k ≡ length (v d z)) × (foot j ≡ chunk s x)). absurd (chunk-foot (sym (q .1)))) (Put.off-cases (v d z) (foot j) (chunk s x) k o)
+
+  zone-kept : Zone p g d z (v d z) → Zone p g d z (v d z ++ (foot j ∷ []))
+  zone-kept h = record {
+    len = omega (arith, Put.length-snoc (v d z) (foot j), room);
+    head = λ b. Put.off-left (v d z) (foot j) 0 begun ∙ h .head begun;
+    num = λ k s x o. h .num k s x (off-old (suc k) s x o);
+    once = λ i k s x y o o′. h .once i k s x y (off-old i s x o) (off-old k s y o′);
+    origin = λ s x m n. ⊎-elim (λ (q : In (chunk s x) (v d z)). h .origin s x q n) (λ (q : chunk s x ≡ foot j). absurd (chunk-foot q)) (in-cases (chunk s x) (foot j) (v d z) m);
+    sealed = λ q s b. let r : (x : Val) × In (chunk s x) (v d z) = done s b in (r .0, Rattle.proof_crash_machine.specs.View.in-left (chunk s (r .0)) (v d z) (foot j ∷ []) (r .1));
+  }
+
+  used-old : (y : ℕ) → Used p (g .un) u y → Used p (g .un) v y
+  used-old y k = Put.Used-back v d z (foot j) begun p g y k
+
+  rag : (y : ℕ) → Ragged p (g .un) u y → Ragged p (g .un) v y
+  rag y (e, t, b, c) = (
+    e,
+    t,
+    Put.len-back v d z (foot j) begun e y b,
+    Put.each v d z (foot j) (λ (e y : ℕ) (l : List Item). length l < p .cap → length (v e y) < p .cap) (λ k. room) e y (λ k. k) c,
+  )
+
+  pub footed : Facts p g v → Facts p g u
+  footed h = record {
+    zones = λ e y t. Put.each v d z (foot j) (Zone p g) (zone-kept (h .zones d z drive)) e y (h .zones e y t);
+    parity = record {
+      whole = λ b y s f on. h .parity .whole b y s f (λ e l. in-old s (f e) e y (on e l));
+      sound = λ m c y s f st x dt. h .parity .sound m c y s f (stripe-old m y s f st) x dt;
+    };
+    swap = record {
+      serials = λ y x b c q. h .swap .serials y x (used-old y b) (used-old x c) q;
+      below = λ y b. h .swap .below y (used-old y b);
+      one = λ w o b c q. h .swap .one w o (used-old w b) (used-old o c) q;
+      named = h .swap .named;
+      safe = λ w o e. inl (Put.Whole-fwd v d z (foot j) begun p g o (old w o e));
+    };
+    «open» = record {
+      bound = λ y k. h .«open» .bound y (used-old y k);
+      ragged = λ y x b c. h .«open» .ragged y x (rag y b) (rag x c);
+      room = ⊎-elim (λ (k : (y : ℕ) × (y < p .Z) × (Used p (g .un) v y → ⊥)). inl (k .0, k .1, λ q. k .2 (used-old (k .0) q))) (λ k. inr k) (h .«open» .room);
+    };
+    content = record {
+      fresh = λ m c x k. h .content .fresh m c x (record {
+        z = k .z;
+        s = k .s;
+        f = k .f;
+        rem = Put.R-back v d z (foot j) begun p g m (k .z) (k .rem);
+        st = stripe-old m (k .z) (k .s) (k .f) (k .st);
+        dt = k .dt;
+      });
+      floor = λ a. ⊎-elim (λ k. inl k)
+          (λ (k : (x : Val) × Counted p (g .hd) v (g .un) x × (x .addr ≡ a) × (g .base a ≤ x .stamp)).
+          inr (k .0, Put.Counted-fwd v d z (foot j) begun p g (g .un) (k .0) (k .1), k .2, k .3)) (h .content .floor a);
+    };
+  }

@@ -1,0 +1,83 @@
+-- The ghost changes alone: a block is sent, writes are acknowledged, a pair has ended. Assumes nothing.
+use mathlib.Core.Path.{_≡_, refl, sym, ap, ap₂, _∙_, subst}
+use mathlib.Core.List.{List, [], _∷_, _++_}
+use mathlib.Core.Logic.{_⊎_, inl, inr, ⊎-elim, _≢_}
+use Prim.Native.Nat.{ℕ, zero, suc, _+_, _≤_, _<_}
+use native.Mathlib.Omega.{arith}
+use native.Mathlib.Decide.{ℕ-discrete, decLt}
+use lib.ListN.{length, getD}
+use Rattle.proof_crash_machine.specs.Val.{Val, 𝟘, xorN, xorN-same, decode-all}
+use Rattle.proof_crash_machine.specs.View.{Item, View, In, chunk-val, chunk-num}
+use Rattle.proof_crash_machine.specs.View.Item.{hdr, chunk, foot}
+use Rattle.proof_crash_machine.specs.Facts.Pair.{alone, pair}
+use Rattle.proof_crash_machine.specs.Lemma.{pair-alone, pair-o, pair-w, old-own}
+use Rattle.proof_crash_machine.specs.Facts.{Par, Pair, Heads, Ghost, InV, Good, Tr, Choice, L, R, Stripe, Datum, Counted, Zone, Parity, Used, Whole, Moved, Swap, Ragged, Open, Content, Facts}
+
+abbrev pub withPr : Ghost → Pair → Ghost
+withPr g b = record { un = g .un; hd = g .hd; pr = b; sent = g .sent; last = g .last; base = g .base; top = g .top }
+
+abbrev pub withBase : Ghost → (ℕ → ℕ) → Ghost
+withBase g f = record { un = g .un; hd = g .hd; pr = g .pr; sent = g .sent; last = g .last; base = f; top = g .top }
+
+abbrev pub withSent : Ghost → List Val → Ghost
+withSent g l = record { un = g .un; hd = g .hd; pr = g .pr; sent = l; last = g .last; base = g .base; top = g .top }
+
+-- the pair is over once one of the two is empty
+pub unpaired : (p : Par) (g : Ghost) (v : View) → Facts p g v
+    → ((w o : ℕ) → g .pr ≡ pair w o → (Used p (g .un) v w → ⊥) ⊎ (Used p (g .un) v o → ⊥)) → Facts p (withPr g alone) v
+unpaired p g v h k = record {
+  zones = λ d z t. let q : Zone p g d z (v d z) = h .zones d z t in record { len = q .len; head = q .head; num = q .num; once = q .once; origin = q .origin; sealed = q .sealed };
+  parity = record { whole = h .parity .whole; sound = h .parity .sound };
+  swap = record {
+    serials = h .swap .serials;
+    below = h .swap .below;
+    one = λ w o a b e. absurd (no w o a b (h .swap .one w o a b e));
+    named = λ w o e. absurd (pair-alone (sym e));
+    safe = λ w o e. absurd (pair-alone (sym e));
+  };
+  «open» = record {
+    bound = h .«open» .bound;
+    ragged = λ y z (d, t, a, b) (d′, t′, a′, b′). ⊎-elim (λ e. inl e)
+        (λ q. absurd (⊎-elim (λ (e : g .pr ≡ pair y z). no y z (d, t, a) (d′, t′, a′) e) (λ (e : g .pr ≡ pair z y). no z y (d′, t′, a′) (d, t, a) e) q))
+        (h .«open» .ragged y z (d, t, a, b) (d′, t′, a′, b′));
+    room = ⊎-elim (λ q. inl q)
+        (λ (q : (w : ℕ) × (o : ℕ) × (g .pr ≡ pair w o) × (w < p .Z) × (o < p .Z)). ⊎-elim
+        (λ (n : Used p (g .un) v (q .0) → ⊥). inl (q .0, q .3, n)) (λ (n : Used p (g .un) v (q .1) → ⊥). inl (q .1, q .4, n)) (k (q .0) (q .1) (q .2)))
+        (h .«open» .room);
+  };
+  content = record { fresh = h .content .fresh; floor = h .content .floor };
+}
+  where
+    no : (w o : ℕ) → Used p (g .un) v w → Used p (g .un) v o → g .pr ≡ pair w o → ⊥
+    no w o a b e = ⊎-elim (λ (n : Used p (g .un) v w → ⊥). n a) (λ (n : Used p (g .un) v o → ⊥). n b) (k w o e)
+
+-- acknowledged: what is counted may become the floor
+pub raised : (p : Par) (g : Ghost) (v : View) (f : ℕ → ℕ) → Facts p g v
+    → ((a : ℕ) → (f a ≡ g .base a) ⊎ ((x : Val) × Counted p (g .hd) v (g .un) x × (x .addr ≡ a) × (f a ≤ x .stamp))) → Facts p (withBase g f) v
+raised p g v f h k = record {
+  zones = λ d z t. let q : Zone p g d z (v d z) = h .zones d z t in record { len = q .len; head = q .head; num = q .num; once = q .once; origin = q .origin; sealed = q .sealed };
+  parity = record { whole = h .parity .whole; sound = h .parity .sound };
+  swap = record { serials = h .swap .serials; below = h .swap .below; one = h .swap .one; named = h .swap .named; safe = h .swap .safe };
+  «open» = record { bound = h .«open» .bound; ragged = h .«open» .ragged; room = h .«open» .room };
+  content = record {
+    fresh = h .content .fresh;
+    floor = λ a. ⊎-elim (λ (e : f a ≡ g .base a). ⊎-elim (λ (q : g .base a ≡ 0). inl (e ∙ q))
+        (λ (q : (x : Val) × Counted p (g .hd) v (g .un) x × (x .addr ≡ a) × (g .base a ≤ x .stamp)). inr (q .0, q .1, q .2, rw e (q .3))) (h .content .floor a))
+        (λ q. inr q) (k a);
+  };
+}
+
+good-more : (g : Ghost) (x y : Val) → Good g y → Good (withSent g (x ∷ g .sent)) y
+good-more g x y (inl e) = inl e
+good-more g x y (inr m) = inr (inr m)
+
+-- a block is sent
+pub sending : (p : Par) (g : Ghost) (v : View) (x : Val) → Facts p g v → Facts p (withSent g (x ∷ g .sent)) v
+sending p g v x h = record {
+  zones = λ d z t. let q : Zone p g d z (v d z) = h .zones d z t in
+      record { len = q .len; head = q .head; num = q .num; once = q .once; origin = λ s y m n. good-more g x y (q .origin s y m n); sealed = q .sealed };
+  parity = record { whole = h .parity .whole; sound = λ m c z s f st y dt. good-more g x y (h .parity .sound m c z s f st y dt) };
+  swap = record { serials = h .swap .serials; below = h .swap .below; one = h .swap .one; named = h .swap .named; safe = h .swap .safe };
+  «open» = record { bound = h .«open» .bound; ragged = h .«open» .ragged; room = h .«open» .room };
+  content = record { fresh = h .content .fresh; floor = h .content .floor };
+}

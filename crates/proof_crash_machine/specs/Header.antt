@@ -1,0 +1,174 @@
+-- (5) A header stored in an empty zone keeps the drive facts: of a segment opened by a write, and of a rewrite. Assumes nothing.
+use mathlib.Core.Path.{_≡_, refl, sym, ap, ap₂, _∙_, subst}
+use mathlib.Core.List.{List, [], _∷_, _++_}
+use mathlib.Core.Logic.{_⊎_, inl, inr, ⊎-elim, _≢_}
+use Prim.Native.Nat.{ℕ, zero, suc, _+_, _≤_, _<_}
+use native.Mathlib.Omega.{arith}
+use native.Mathlib.Decide.{ℕ-discrete, decLt}
+use lib.ListN.{length, getD}
+use Rattle.proof_crash_machine.specs.Val.{Val, 𝟘, xorN}
+use Rattle.proof_crash_machine.specs.View.{Item, View, In, after, chunk-hdr}
+use Rattle.proof_crash_machine.specs.View.Item.{hdr, chunk, foot}
+use Rattle.proof_crash_machine.specs.Facts.{Par, Pair, Ghost, Good, Tr, Choice, L, R, Stripe, Datum, Counted, Off, Zone, Parity, Used, Whole, Moved, Swap, Ragged, Open, Content, Facts, used}
+use Rattle.proof_crash_machine.specs.Facts.Pair.{alone, pair}
+use Rattle.proof_crash_machine.specs.Put
+
+pub zone-head : (p : Par) (g : Ghost) (d w : ℕ) → 0 < p .cap → Zone p g d w (hdr (g .hd .ser w) (g .hd .cop w) ∷ [])
+zone-head p g d w b = record {
+  len = omega arith;
+  head = λ k. refl;
+  num = λ k s x o. absurd (let q : ⊥ = omega (arith, o .0) in q);
+  once = λ j k s x y o o′. absurd (no s x (Put.off-in (hdr (g .hd .ser w) (g .hd .cop w) ∷ []) j (chunk s x) o));
+  origin = λ s x m n. absurd (no s x m);
+  sealed = λ q. absurd (let r : ⊥ = omega arith in r);
+}
+  where
+    no : (s : ℕ) (x : Val) → In (chunk s x) (hdr (g .hd .ser w) (g .hd .cop w) ∷ []) → ⊥
+    no s x (inl e) = chunk-hdr e
+    no s x (inr m) = m
+
+-- what is known where the header of segment w lands on drive d
+pub record Opening (p : Par) (g : Ghost) (v : View) (d w : ℕ) : Type 0 where
+  pub none : p .N ≤ g .un
+  pub drive : d < p .N
+  pub empty : v d w ≡ []
+  pub room : 0 < p .cap
+  pub inZ : w < p .Z
+  -- only headers in w so far
+  pub bare : (e s : ℕ) (x : Val) → e < p .N → In (chunk s x) (v e w) → ⊥
+  pub newest : (y : ℕ) → Used p (g .un) v y → y ≢ w → g .hd .ser y < g .hd .ser w
+  pub below : g .hd .cop w < g .hd .ser w
+  pub link : (o : ℕ) → Used p (g .un) v o → o ≢ w → g .hd .cop w ≡ g .hd .ser o → g .pr ≡ pair w o
+  pub old : (w′ o : ℕ) → g .pr ≡ pair w′ o → Whole p (g .un) v o
+  pub lone : (y : ℕ) → Ragged p (g .un) v y → y ≢ w → g .pr ≡ pair w y
+  pub space : ((z : ℕ) × (z < p .Z) × (z ≢ w) × (Used p (g .un) v z → ⊥)) ⊎ ((a : ℕ) × (o : ℕ) × (g .pr ≡ pair a o) × (a < p .Z) × (o < p .Z))
+
+module _ (p : Par) (g : Ghost) (v : View) (d w : ℕ) (a : Opening p g v d w) where
+  abbrev i : Item
+  i = hdr (g .hd .ser w) (g .hd .cop w)
+
+  abbrev u : View
+  u = after v d w i
+
+  in-old : (s : ℕ) (x : Val) (e y : ℕ) → In (chunk s x) (u e y) → In (chunk s x) (v e y)
+  in-old s x e y m = ⊎-elim (λ k. k) (λ (k : (e ≡ d) × (y ≡ w) × (chunk s x ≡ i)). absurd (chunk-hdr (k .2))) (Put.in-back v d w i (chunk s x) e y m)
+
+  stripe-old : (m y s : ℕ) (f : ℕ → Val) → Stripe p u m y s f → Stripe p v m y s f
+  stripe-old m y s f h = record { on = λ e l n. in-old s (f e) e y (h .on e l n); xor = h .xor }
+
+  -- a stripe has a chunk: so w has none
+  not-w : (m y s : ℕ) (f : ℕ → Val) → Stripe p v m y s f → y ≢ w
+  not-w m y s f h q = go (ℕ-discrete m 0)
+    where
+      go : Dec (m ≡ 0) → ⊥
+      go (yes e) = a .bare 1 s (f 1) (omega (arith, p .three)) (subst (λ (k : ℕ). In (chunk s (f 1)) (v 1 k)) q (h .on 1 (omega (arith, p .three)) (omega arith)))
+      go (no e) = a .bare 0 s (f 0) (omega (arith, p .three)) (subst (λ (k : ℕ). In (chunk s (f 0)) (v 0 k)) q (h .on 0 (omega (arith, p .three)) (omega arith)))
+
+  len-old : (e y : ℕ) → y ≢ w → 0 < length (u e y) → 0 < length (v e y)
+  len-old e y n b = subst (λ (l : List Item). 0 < length l) (Put.zone-other v d w i e y n) b
+
+  used-old : (y : ℕ) → y ≢ w → Used p (g .un) u y → Used p (g .un) v y
+  used-old y n (e, t, b) = (e, t, len-old e y n b)
+
+  L-old : (m y : ℕ) → y ≢ w → L p u m y → L p v m y
+  L-old m y n h e l k = len-old e y n (h e l k)
+
+  L-new : (m y : ℕ) → L p v m y → L p u m y
+  L-new m y h e l k = Put.len-fwd v d w i e y (h e l k)
+
+  swap-kept : Swap p g v → Swap p g u
+  swap-kept h = record {
+    serials = λ y z b c q. ser y z b c q (ℕ-discrete y w) (ℕ-discrete z w);
+    below = λ y b. bel y b (ℕ-discrete y w);
+    one = λ x o b c q. one′ x o b c q (ℕ-discrete x w) (ℕ-discrete o w);
+    named = h .named;
+    safe = λ x o e. inl (λ e′ l n. Put.len-fwd v d w i e′ o (a .old x o e e′ l n));
+  }
+    where
+      bel : (y : ℕ) → Used p (g .un) u y → Dec (y ≡ w) → g .hd .cop y < g .hd .ser y
+      bel y b (yes e) = rw e (a .below)
+      bel y b (no e) = h .below y (used-old y e b)
+
+      new : (y : ℕ) → Used p (g .un) u y → y ≢ w → g .hd .ser y < g .hd .ser w
+      new y b n = a .newest y (used-old y n b) n
+
+      ser : (y z : ℕ) → Used p (g .un) u y → Used p (g .un) u z → g .hd .ser y ≡ g .hd .ser z → Dec (y ≡ w) → Dec (z ≡ w) → y ≡ z
+      ser y z b c q (yes e) (yes k) = e ∙ sym k
+      ser y z b c q (yes e) (no k) = absurd (let r : g .hd .ser y ≡ g .hd .ser w = ap (g .hd .ser) e in let j : ⊥ = omega (arith, new z c k) in j)
+      ser y z b c q (no e) (yes k) = absurd (let r : g .hd .ser z ≡ g .hd .ser w = ap (g .hd .ser) k in let j : ⊥ = omega (arith, new y b e) in j)
+      ser y z b c q (no e) (no k) = h .serials y z (used-old y e b) (used-old z k c) q
+
+      one′ : (x o : ℕ) → Used p (g .un) u x → Used p (g .un) u o → g .hd .cop x ≡ g .hd .ser o → Dec (x ≡ w) → Dec (o ≡ w) → g .pr ≡ pair x o
+      one′ x o b c q (yes e) (yes k) = absurd (let r : g .hd .ser o ≡ g .hd .ser w = ap (g .hd .ser) k in
+          let r′ : g .hd .cop x ≡ g .hd .cop w = ap (g .hd .cop) e in let j : ⊥ = omega (arith, a .below) in j)
+      one′ x o b c q (no e) (yes k) = absurd (let r : g .hd .ser o ≡ g .hd .ser w = ap (g .hd .ser) k in
+          let j : ⊥ = omega (arith, new x b e, h .below x (used-old x e b)) in j)
+      one′ x o b c q (yes e) (no k) = a .link o (used-old o k c) k (ap (g .hd .cop) (sym e) ∙ q) ∙ ap (λ (n : ℕ). pair n o) (sym e)
+      one′ x o b c q (no e) (no k) = h .one x o (used-old x e b) (used-old o k c) q
+
+  content-kept : Swap p g v → Content p g v → Content p g u
+  content-kept hs h = record {
+    fresh = λ m c x k.
+        let st : Stripe p v m (k .z) (k .s) (k .f) = stripe-old m (k .z) (k .s) (k .f) (k .st) in
+        h .fresh m c x (record {
+          z = k .z;
+          s = k .s;
+          f = k .f;
+          rem = record { left = L-old m (k .z) (not-w m (k .z) (k .s) (k .f) st) (k .rem .left); own = λ o l q. k .rem .own o (L-new m o l) q };
+          st = st;
+          dt = k .dt;
+        });
+    floor = λ b. ⊎-elim (λ k. inl k)
+        (λ (k : (x : Val) × Counted p (g .hd) v (g .un) x × (x .addr ≡ b) × (g .base b ≤ x .stamp)). inr (k .0, fwd (k .0) (k .1), k .2, k .3)) (h .floor b);
+  }
+    where
+      fwd : (x : Val) → Counted p (g .hd) v (g .un) x → Counted p (g .hd) u (g .un) x
+      fwd x c = record {
+        z = c .z;
+        s = c .s;
+        f = c .f;
+        rem = record { left = L-new (g .un) (c .z) (c .rem .left); own = λ o l q. own o l q (ℕ-discrete o w) };
+        st = record { on = λ e l n. Put.in-fwd v d w i (chunk (c .s) (c .f e)) e (c .z) (c .st .on e l n); xor = c .st .xor };
+        dt = c .dt;
+      }
+        where
+          uz : Used p (g .un) v (c .z)
+          uz = used p g v (g .un) (c .z) (inr refl) (c .rem .left)
+
+          own : (o : ℕ) → L p u (g .un) o → g .hd .cop (c .z) ≡ g .hd .ser o → Dec (o ≡ w) → ⊥
+          own o l q (no e) = c .rem .own o (L-old (g .un) o e l) q
+          own o l q (yes e) =
+              let r : g .hd .ser o ≡ g .hd .ser w = ap (g .hd .ser) e in
+              let j : ⊥ = omega (arith, a .newest (c .z) uz (not-w (g .un) (c .z) (c .s) (c .f) (c .st)), hs .below (c .z) uz) in j
+
+  open-kept : Open p g v → Open p g u
+  open-kept h = record {
+    bound = λ y k. bnd y k (ℕ-discrete y w);
+    ragged = λ y z b c. go y z b c (ℕ-discrete y w) (ℕ-discrete z w);
+    room = ⊎-elim (λ (k : (z : ℕ) × (z < p .Z) × (z ≢ w) × (Used p (g .un) v z → ⊥)). inl (k .0, k .1, λ b. k .3 (used-old (k .0) (k .2) b))) (λ k. inr k) (a .space);
+  }
+    where
+      bnd : (y : ℕ) → Used p (g .un) u y → Dec (y ≡ w) → y < p .Z
+      bnd y k (yes e) = rw e (a .inZ)
+      bnd y k (no e) = h .bound y (used-old y e k)
+
+      rag : (y : ℕ) → y ≢ w → Ragged p (g .un) u y → Ragged p (g .un) v y
+      rag y n (e, t, b, c) = (e, t, len-old e y n b, subst (λ (l : List Item). length l < p .cap) (Put.zone-other v d w i e y n) c)
+
+      go : (y z : ℕ) → Ragged p (g .un) u y → Ragged p (g .un) u z → Dec (y ≡ w) → Dec (z ≡ w) → (y ≡ z) ⊎ (g .pr ≡ pair y z) ⊎ (g .pr ≡ pair z y)
+      go y z b c (yes e) (yes k) = inl (e ∙ sym k)
+      go y z b c (yes e) (no k) = inr (inl (a .lone z (rag z k c) k ∙ ap (λ (n : ℕ). pair n z) (sym e)))
+      go y z b c (no e) (yes k) = inr (inr (a .lone y (rag y e b) e ∙ ap (λ (n : ℕ). pair n y) (sym k)))
+      go y z b c (no e) (no k) = h .ragged y z (rag y e b) (rag z k c)
+
+  pub headed : Facts p g v → Facts p g u
+  headed h = record {
+    zones = λ e y t. Put.each v d w i (Zone p g) (rw (a .empty) (zone-head p g d w (a .room))) e y (h .zones e y t);
+    parity = record {
+      whole = λ b y s f on. h .parity .whole b y s f (λ e l. in-old s (f e) e y (on e l));
+      sound = λ m c y s f st x dt. h .parity .sound m c y s f (stripe-old m y s f st) x dt;
+    };
+    swap = swap-kept (h .swap);
+    «open» = open-kept (h .«open»);
+    content = content-kept (h .swap) (h .content);
+  }

@@ -1,0 +1,589 @@
+-- Every history: the invariant is kept by each step, cut or not, and each finished restart reads what it should. Assumes nothing.
+use mathlib.Core.Path.{_≡_, refl, sym, ap, ap₂, _∙_, subst}
+use mathlib.Core.List.{List, [], _∷_, _++_}
+use mathlib.Core.Logic.{_⊎_, inl, inr, ⊎-elim, _≢_}
+use mathlib.Core.Bool.{Bool, true, false}
+use Prim.Native.Nat.{ℕ, zero, suc, _+_, _≤_, _<_}
+use native.Mathlib.Omega.{arith}
+use native.Mathlib.Decide.{ℕ-discrete, decLt, decLe}
+use lib.ListN.{length, getD, take}
+use Rattle.proof_crash_machine.specs.Val.{Val, 𝟘, pads, xorN}
+use Rattle.proof_crash_machine.specs.Facts.Pair.{alone, pair}
+use Rattle.proof_crash_machine.specs.Lemma.{pair-alone, pair-o, pair-w, counts}
+use Rattle.proof_crash_machine.specs.View.{Item, View, Store, In, after, apply, applyAll, AllS, resets}
+use Rattle.proof_crash_machine.specs.View.Item.{hdr, chunk, foot}
+use Rattle.proof_crash_machine.specs.View.Store.{put, reset}
+use Rattle.proof_crash_machine.specs.Rest.{InS, Dropped, Unsealed, rest-of, clean-of}
+use Rattle.proof_crash_machine.specs.Facts.{Par, Pair, Heads, Ghost, InV, Good, Tr, Choice, L, R, Stripe, Datum, Counted, Zone, Used, Whole, Ragged, Facts}
+use Rattle.proof_crash_machine.specs.Steps.{Prefix}
+use Rattle.proof_crash_machine.specs.Ghosts.{withPr, withBase, withSent, sending, raised}
+use Rattle.proof_crash_machine.specs.Name.{naming}
+use Rattle.proof_crash_machine.specs.Drop.{DropOf, dropped, dropped-end, settled}
+use Rattle.proof_crash_machine.specs.Rewrite.{Plan, copies, drops}
+use Rattle.proof_crash_machine.specs.Rebuild.{withUn, Rebuilt, rebuilt}
+use Rattle.proof_crash_machine.specs.Untrusted.{untrusted}
+use Rattle.proof_crash_machine.specs.Distrust.{distrust}
+use Rattle.proof_crash_machine.specs.Reclaim.{Quiet, reclaimed, reclaimed-end}
+use Rattle.proof_crash_machine.specs.Reset.{zone-nil}
+use Rattle.proof_crash_machine.specs.Finish.{Reads, upTo, in-upTo, upTo-le, finishing, finish-missing, Clean, finish-none}
+use Rattle.proof_crash_machine.specs.Final.{Right, right, unchanged}
+use Rattle.proof_crash_machine.specs.Restart.{Ready, rewrite-prefix, restart-done, restart-facts, restart-clean}
+use Rattle.proof_crash_machine.specs.Footer.{footed}
+use Rattle.proof_crash_machine.specs.Filling.{filled, unfilled, foot-mem, shut, seal-mem}
+use Rattle.proof_crash_machine.specs.Filling
+use Rattle.proof_crash_machine.specs.OpenSeg.{Fresh, headers, opened-prefix, opened}
+use Rattle.proof_crash_machine.specs.Memory.{Mem, MemOk, Flight, flown, fill-mem, land-facts, land-mem, ended, end-mem, done-counts}
+use Rattle.proof_crash_machine.specs.Memory2.{resets-other, resets-empty, reset-mem, openMem, open-mem, restMem, rest-mem}
+
+-- off: after a cut. ro: a drive was named missing. run: a healthy run
+pub data Mode : Type 0 where
+  off : Mode
+  ro : Mode
+  run : Mem → Mode
+
+pub record State : Type 0 where
+  pub g : Ghost
+  pub v : View
+  -- the acknowledged blocks; whether any was sent since the last finished restart
+  pub acked : List Val
+  pub since : Bool
+  pub mode : Mode
+
+abbrev pub ModeOk : Par → Ghost → View → Mode → Type 0
+ModeOk p g v off = Unit {0}
+ModeOk p g v ro = Unit {0}
+ModeOk p g v (run M) = MemOk p g v M
+
+pub record Inv (p : Par) (σ : State) : Type 0 where
+  pub facts : Facts p (σ .g) (σ .v)
+  pub acks : (x : Val) → InV x (σ .acked) → (InV x (σ .g .sent)) × (x .stamp ≤ σ .g .base (x .addr))
+  pub grown : (a : ℕ) → σ .g .last a ≤ σ .g .base a
+  pub still : σ .since ≡ false → (x : Val) → InV x (σ .g .sent) → x .stamp ≤ σ .g .top
+  -- a stamp means one block
+  pub uniq : (x y : Val) → InV x (σ .g .sent) → InV y (σ .g .sent) → x .stamp ≡ y .stamp → x ≡ y
+  -- stamps start at 1, and addresses are in range
+  pub ones : (x : Val) → InV x (σ .g .sent) → (0 < x .stamp) × (x .addr < p .addrs)
+  pub mode : ModeOk p (σ .g) (σ .v) (σ .mode)
+
+abbrev pub at : State → Ghost → View → Mode → State
+at σ g v m = record { g = g; v = v; acked = σ .acked; since = σ .since; mode = m }
+
+-- the ghost while segment o is rewritten into w
+abbrev pub gN : Ghost → ℕ → ℕ → ℕ → Ghost
+gN g w o r = naming (withPr g alone) w r (g .hd .ser o) (pair w o)
+
+abbrev pub tailOf : (p : Par) → Ghost → ℕ → ℕ → ℕ → Plan p → List Store
+tailOf p g w o r π = copies p (gN g w o r) w o π ++ drops p (gN g w o r) w o π
+
+-- the resets of what steps 1 and 2 drop
+pub record Dropping (p : Par) (g : Ghost) (v : View) (none : p .N ≤ g .un) (ss : List Store) : Type 0 where
+  pub are : AllS (DropOf p g none (Dropped p g v)) ss
+  pub every : (z : ℕ) → Used p (g .un) v z → Dropped p g v z → (d : ℕ) → d < p .N → InS (reset d z) ss
+
+-- drive d of stripe s in flight is still free, and parity has not landed; r may land afterwards
+pub record Into (p : Par) (M : Mem) (s d : ℕ) (r : ℕ → Bool) : Type 0 where
+  pub fly : M .fly s ≡ true
+  pub drive : d < p .N
+  pub data? : d ≢ p .par s
+  pub blank : M .F s d ≡ pads
+  pub free : M .ready s d ≡ false
+  pub early : M .ready s (p .par s) ≡ false
+  pub more : (e : ℕ) → M .ready s e ≡ true → r e ≡ true
+
+-- before a segment w is opened
+pub record Opens (p : Par) (g : Ghost) (v : View) (M : Mem) (w : ℕ) : Type 0 where
+  pub shut? : M .is-open ≡ false
+  pub inZ : w < p .Z
+  pub empty : (e : ℕ) → e < p .N → v e w ≡ []
+  pub space : (z : ℕ) × (z < p .Z) × (z ≢ w) × (Used p (g .un) v z → ⊥)
+
+pub data Step (p : Par) : State → State → Type 0 where
+  -- the power is cut between stores
+  lose : (σ : State) → Step p σ (at σ (σ .g) (σ .v) off)
+  -- the next stripe begins
+  begin : (σ : State) (M : Mem) → σ .mode ≡ run M → M .is-open ≡ true → M .next < p .S
+      → Step p σ (at σ (σ .g) (σ .v) (run (flown M (M .next) (unfilled p (M .next)) (λ e. false) (suc (M .next)) (M .stamp))))
+  -- a write: x is sent, and goes to drive d of the filling stripe
+  send : (σ : State) (M : Mem) (x : Val) (s d : ℕ) (r : ℕ → Bool) → σ .mode ≡ run M → Into p M s d r → x .stamp ≡ suc (M .stamp) → x .addr < p .addrs
+      → Step p σ (record {
+        g = withSent (σ .g) (x ∷ σ .g .sent);
+        v = σ .v;
+        acked = σ .acked;
+        since = true;
+        mode = run (flown M s (filled p s (M .F s) d x) r (M .next) (x .stamp));
+      })
+  -- a copy: x is a block that counts
+  copy : (σ : State) (M : Mem) (x : Val) (s d : ℕ) (r : ℕ → Bool) → σ .mode ≡ run M → Into p M s d r → Counted p (σ .g .hd) (σ .v) (σ .g .un) x
+      → Step p σ (at σ (σ .g) (σ .v) (run (flown M s (filled p s (M .F s) d x) r (M .next) (M .stamp))))
+  -- a closing: all of the stripe may land
+  close : (σ : State) (M : Mem) (s : ℕ) (r : ℕ → Bool) → σ .mode ≡ run M → M .fly s ≡ true → ((e : ℕ) → M .ready s e ≡ true → r e ≡ true)
+      → Step p σ (at σ (σ .g) (σ .v) (run (flown M s (M .F s) r (M .next) (M .stamp))))
+  -- a chunk lands
+  land : (σ : State) (M : Mem) (d s : ℕ) → σ .mode ≡ run M → d < p .N → M .fly s ≡ true → ((x : Val) → In (chunk s x) (σ .v d (M .zone)) → ⊥) → M .ready s d ≡ true
+      → ((k : ℕ) → length (σ .v d (M .zone)) ≡ suc k → (k < p .S) × (p .grp s ≡ p .grp k))
+      → Step p σ (at σ (σ .g) (after (σ .v) d (M .zone) (chunk s (M .F s d))) (run M))
+  -- a stripe is on all drives: its blocks are acknowledged
+  ack : (σ : State) (M : Mem) (s : ℕ) (f : ℕ → ℕ) (l : List Val) → σ .mode ≡ run M → M .fly s ≡ true → ((e : ℕ) → e < p .N → (x : Val) × In (chunk s x) (σ .v e (M .zone)))
+      → ((a : ℕ) → (f a ≡ σ .g .base a) ⊎ ((x : Val) × Datum p s (M .F s) x × (x .addr ≡ a) × (f a ≡ x .stamp) × (σ .g .base a ≤ f a)))
+      → ((x : Val) → InV x l → (InV x (σ .acked)) ⊎ ((InV x (σ .g .sent)) × (x .stamp ≤ f (x .addr))))
+      → Step p σ (record { g = withBase (σ .g) f; v = σ .v; acked = l; since = σ .since; mode = run (ended M s) })
+  -- a segment is opened, or the power is cut meanwhile
+  open-cut : (σ : State) (M : Mem) (w k : ℕ) → σ .mode ≡ run M → Opens p (σ .g) (σ .v) M w
+      → Step p σ (at σ (naming (σ .g) w (suc (M .serial)) 0 alone) (applyAll (σ .v) (take k (headers p (σ .g) w (suc (M .serial))))) off)
+  open-done : (σ : State) (M : Mem) (w : ℕ) → σ .mode ≡ run M → Opens p (σ .g) (σ .v) M w
+      → Step p σ (at σ (naming (σ .g) w (suc (M .serial)) 0 alone) (applyAll (σ .v) (headers p (σ .g) w (suc (M .serial)))) (run (openMem M w (suc (M .serial)))))
+  -- all stripes are complete: a footer block; and the segment is sealed
+  footer : (σ : State) (M : Mem) (d z j : ℕ) → σ .mode ≡ run M → d < p .N → 0 < length (σ .v d z) → length (σ .v d z) < p .cap
+      → ((s : ℕ) → s < p .S → (x : Val) × In (chunk s x) (σ .v d z)) → Step p σ (at σ (σ .g) (after (σ .v) d z (foot j)) (run M))
+  seal : (σ : State) (M : Mem) → σ .mode ≡ run M → ((y : ℕ) → Ragged p (σ .g .un) (σ .v) y → ⊥) → ((s : ℕ) → M .fly s ≡ false) → Step p σ (at σ (σ .g) (σ .v) (run (shut M)))
+  -- a segment without live blocks is reset
+  reset-cut : (σ : State) (M : Mem) (z k : ℕ) → σ .mode ≡ run M → Quiet p (σ .g) (σ .v) z → Step p σ (at σ (σ .g) (applyAll (σ .v) (take k (resets z 0 (p .N)))) off)
+  reset-done : (σ : State) (M : Mem) (z : ℕ) → σ .mode ≡ run M → Quiet p (σ .g) (σ .v) z → (M .is-open ≡ true → M .zone ≢ z)
+      → Step p σ (at σ (σ .g) (applyAll (σ .v) (resets z 0 (p .N))) (run M))
+  -- a restart that names m missing, whatever m holds; it reads K
+  missing : (σ : State) (m t : ℕ) (u : View) (K : ℕ → ℕ) → m < p .N → Choice p (σ .g .un) m → ((e y : ℕ) → e < p .N → e ≢ m → σ .v e y ≡ u e y)
+      → Reads p (σ .g .hd) u m K → ((x : Val) → InV x (σ .g .sent) → x .stamp ≤ t)
+      → Step p σ (record { g = finishing (σ .g) m K t (σ .g .sent); v = u; acked = σ .acked; since = false; mode = ro })
+  -- a restart with none missing, cut while it resets, cut while it rewrites, or finished
+  restart-cut₁ : (σ : State) (k : ℕ) (none : p .N ≤ σ .g .un) (ss : List Store) → Dropping p (σ .g) (σ .v) none ss → Step p σ (at σ (σ .g) (applyAll (σ .v) (take k ss)) off)
+  restart-cut₂ : (σ : State) (k : ℕ) (none : p .N ≤ σ .g .un) (ss : List Store) → Dropping p (σ .g) (σ .v) none ss
+      → (w o r : ℕ) (π : Plan p) → Ready p (withPr (σ .g) alone) (applyAll (σ .v) ss) w o r π
+      → Step p σ (at σ (gN (σ .g) w o r) (applyAll (applyAll (σ .v) ss) (take k (tailOf p (σ .g) w o r π))) off)
+  restart : (σ : State) (none : p .N ≤ σ .g .un) (ss : List Store) → Dropping p (σ .g) (σ .v) none ss
+      → (w o r : ℕ) (π : Plan p) → Ready p (withPr (σ .g) alone) (applyAll (σ .v) ss) w o r π
+      → (K : ℕ → ℕ) (t : ℕ) → Reads p (gN (σ .g) w o r .hd) (applyAll (σ .v) (ss ++ tailOf p (σ .g) w o r π)) (σ .g .un) K
+      → ((x : Val) → Counted p (gN (σ .g) w o r .hd) (applyAll (σ .v) (ss ++ tailOf p (σ .g) w o r π)) (σ .g .un) x → x .stamp ≤ t)
+      → (b : Bool) (z n : ℕ) → n ≤ p .S → ((y : ℕ) → Ragged p (σ .g .un) (applyAll (σ .v) (ss ++ tailOf p (σ .g) w o r π)) y → (b ≡ true) × (y ≡ z))
+      → (b ≡ true → Whole p (σ .g .un) (applyAll (σ .v) (ss ++ tailOf p (σ .g) w o r π)) z)
+      → (b ≡ true → (e s : ℕ) (x : Val) → e < p .N → In (chunk s x) (applyAll (σ .v) (ss ++ tailOf p (σ .g) w o r π) e z) → s < n)
+      → (sr : ℕ) → ((y : ℕ) → Used p (σ .g .un) (applyAll (σ .v) (ss ++ tailOf p (σ .g) w o r π)) y → gN (σ .g) w o r .hd .ser y ≤ sr)
+      → Step p σ (record {
+        g = finishing (withPr (gN (σ .g) w o r) alone) (σ .g .un) K t (upTo t (σ .g .sent));
+        v = applyAll (σ .v) (ss ++ tailOf p (σ .g) w o r π);
+        acked = σ .acked;
+        since = false;
+        mode = run (restMem b z n t sr);
+      })
+  -- nothing to rewrite
+  restart-plain : (σ : State) (none : p .N ≤ σ .g .un) (ss : List Store) → Dropping p (σ .g) (σ .v) none ss
+      → ((d z s : ℕ) (x : Val) → d < p .N → Unsealed p (applyAll (σ .v) ss) z → In (chunk s x) (applyAll (σ .v) ss d z) → (f : ℕ → Val) × Stripe p (applyAll (σ .v) ss) (σ .g .un) z s f × (f d ≡ x))
+      → (K : ℕ → ℕ) (t : ℕ) → Reads p (σ .g .hd) (applyAll (σ .v) ss) (σ .g .un) K → ((x : Val) → Counted p (σ .g .hd) (applyAll (σ .v) ss) (σ .g .un) x → x .stamp ≤ t)
+      → (b : Bool) (z n : ℕ) → n ≤ p .S → ((y : ℕ) → Ragged p (σ .g .un) (applyAll (σ .v) ss) y → (b ≡ true) × (y ≡ z))
+      → (b ≡ true → Whole p (σ .g .un) (applyAll (σ .v) ss) z) → (b ≡ true → (e s : ℕ) (x : Val) → e < p .N → In (chunk s x) (applyAll (σ .v) ss e z) → s < n)
+      → (sr : ℕ) → ((y : ℕ) → Used p (σ .g .un) (applyAll (σ .v) ss) y → σ .g .hd .ser y ≤ sr)
+      → Step p σ (record { g = finishing (withPr (σ .g) alone) (σ .g .un) K t (upTo t (σ .g .sent)); v = applyAll (σ .v) ss; acked = σ .acked; since = false; mode = run (restMem b z n t sr) })
+  -- a missing footer block is stored by a restart, after the resets
+  restart-footer : (σ : State) (d z j : ℕ) → p .N ≤ σ .g .un → ((y : ℕ) → Used p (σ .g .un) (σ .v) y → R p (σ .g .hd) (σ .v) (σ .g .un) y)
+      → d < p .N → 0 < length (σ .v d z) → length (σ .v d z) < p .cap → ((s : ℕ) → s < p .S → (x : Val) × In (chunk s x) (σ .v d z))
+      → Step p σ (at σ (withPr (σ .g) alone) (after (σ .v) d z (foot j)) off)
+  -- rebuild: it starts (perhaps once more), stores on its drive, and ends
+  rebuild : (σ : State) (d : ℕ) → d < p .N → Choice p (σ .g .un) d → Step p σ (at σ (withUn (σ .g) d) (σ .v) ro)
+  rebuild-store : (σ : State) (u : View) → σ .g .un < p .N → ((e y : ℕ) → e < p .N → e ≢ σ .g .un → σ .v e y ≡ u e y) → (m : Mode) → (m ≡ ro) ⊎ (m ≡ off) → Step p σ (at σ (σ .g) u m)
+  rebuild-done : (σ : State) (u : View) (n : ℕ) → p .N ≤ n → σ .g .un < p .N → Rebuilt p (σ .g) (σ .v) u → Step p σ (at σ (withUn (σ .g) n) u ro)
+
+-- ---- what a finished restart reads, K
+pub record Claim (σ : State) (K : ℕ → ℕ) : Type 0 where
+  -- no earlier than any acknowledged block
+  pub acked : (x : Val) → InV x (σ .acked) → x .stamp ≤ K (x .addr)
+  -- a block that was sent there (or never: K a is 0)
+  pub sent : (a : ℕ) → 0 < K a → (x : Val) × InV x (σ .g .sent) × (x .addr ≡ a) × (x .stamp ≡ K a)
+  -- the same as the finished restart before, if none was sent since
+  pub same : σ .since ≡ false → (a : ℕ) → K a ≡ σ .g .last a
+
+-- on drives u that σ's stores led to, under a ghost with σ's history
+pub claim : (p : Par) (σ : State) → Inv p σ → (g : Ghost) (u : View) → Facts p g u → g .sent ≡ σ .g .sent → g .last ≡ σ .g .last → g .base ≡ σ .g .base → g .top ≡ σ .g .top
+    → (m : ℕ) → Choice p (g .un) m → (K : ℕ → ℕ) → Reads p (g .hd) u m K → Claim σ K
+claim p σ i g u h es el eb et m c K r = record {
+  acked =
+      λ x k. let b : g .base (x .addr) ≤ K (x .addr) = q .kept (x .addr) in let e : g .base (x .addr)
+      ≡ σ .g .base (x .addr) = ap (λ (f : ℕ → ℕ). f (x .addr)) eb in omega (arith, b, e, i .acks x k .1);
+  sent = λ a b. let k : (x : Val) × InV x (g .sent) × (x .addr ≡ a) × (x .stamp ≡ K a) = q .sent a b in (k .0, subst (λ (l : List Val). InV (k .0) l) es (k .1), k .2, k .3);
+  same = λ s a. unchanged p g u h m c K r
+      (λ x k. subst (λ (t : ℕ). x .stamp ≤ t) (sym et) (i .still s x (subst (λ (l : List Val). InV x l) es k)))
+      (λ b. subst (λ (f : ℕ → ℕ). f b ≤ g .base b) (sym el) (subst (λ (f : ℕ → ℕ). σ .g .last b ≤ f b) (sym eb) (i .grown b))) a
+      ∙ ap (λ (f : ℕ → ℕ). f a) el;
+}
+  where
+    q : Right p g u m K
+    q = right p g u h m c K r
+
+-- ---- the parts of the invariant that a finished restart makes anew
+module _ (σ : State) (K : ℕ → ℕ) (c : Claim σ K) (t : ℕ) (b : (a : ℕ) → K a ≤ t) where
+  acks-cut : ((x : Val) → InV x (σ .acked) → InV x (σ .g .sent)) → (x : Val) → InV x (σ .acked) → (InV x (upTo t (σ .g .sent))) × (x .stamp ≤ K (x .addr))
+  acks-cut h x m = (in-upTo t (σ .g .sent) x (h x m) (omega (arith, c .acked x m, b (x .addr))), c .acked x m)
+
+uniq-cut : (t : ℕ) (l : List Val) → ((x y : Val) → InV x l → InV y l → x .stamp ≡ y .stamp → x ≡ y) → (x y : Val) → InV x (upTo t l) → InV y (upTo t l) → x .stamp ≡ y .stamp → x ≡ y
+uniq-cut t l h x y m k e = h x y (upTo-le t l x m .0) (upTo-le t l y k .0) e
+
+reads-le : (p : Par) (h : Heads) (u : View) (m : ℕ) (K : ℕ → ℕ) → Reads p h u m K → (t : ℕ) → ((x : Val) → Counted p h u m x → x .stamp ≤ t) → (a : ℕ) → K a ≤ t
+reads-le p h u m K r t b a = ⊎-elim (λ (e : K a ≡ 0). omega arith)
+    (λ (k : (x : Val) × Counted p h u m x × (x .addr ≡ a) × (x .stamp ≡ K a)). omega (arith, b (k .0) (k .1), k .3)) (r .some a)
+
+uniq-more : (l : List Val) (n : ℕ) (x : Val) → ((y : Val) → InV y l → y .stamp ≤ n) → x .stamp ≡ suc n
+    → ((y z : Val) → InV y l → InV z l → y .stamp ≡ z .stamp → y ≡ z) → (y z : Val) → InV y (x ∷ l) → InV z (x ∷ l) → y .stamp ≡ z .stamp → y ≡ z
+uniq-more l n x b s h y z (inl i) (inl j) e = i ∙ sym j
+uniq-more l n x b s h y z (inl i) (inr j) e = absurd (let q : y .stamp ≡ x .stamp = ap (λ (w : Val). w .stamp) i in let k : ⊥ = omega (arith, q, s, e, b z j) in k)
+uniq-more l n x b s h y z (inr i) (inl j) e = absurd (let q : z .stamp ≡ x .stamp = ap (λ (w : Val). w .stamp) j in let k : ⊥ = omega (arith, q, s, e, b y i) in k)
+uniq-more l n x b s h y z (inr i) (inr j) e = h y z i j e
+
+pub mem-of : (p : Par) (σ : State) (M : Mem) → Inv p σ → σ .mode ≡ run M → MemOk p (σ .g) (σ .v) M
+mem-of p σ M i e = subst (λ (m : Mode). ModeOk p (σ .g) (σ .v) m) e (i .mode)
+
+mode-of : (p : Par) (g : Ghost) (v : View) (m : Mode) → (m ≡ ro) ⊎ (m ≡ off) → ModeOk p g v m
+mode-of p g v m (inl e) = subst (λ (k : Mode). ModeOk p g v k) (sym e) tt
+mode-of p g v m (inr e) = subst (λ (k : Mode). ModeOk p g v k) (sym e) tt
+
+no-since : {A : Type 0} → true ≡ false → A
+no-since e = absurd (let z : _≡_ {A = ℕ} 0 1 = cc in let q : ⊥ = omega arith in q)
+
+fresh-of : (p : Par) (g : Ghost) (v : View) (M : Mem) (w : ℕ) → MemOk p g v M → Opens p g v M w → Fresh p g v w (suc (M .serial))
+fresh-of p g v M w m a = record {
+  none = m .none;
+  no-pair = m .no-pair;
+  empty = a .empty;
+  inZ = a .inZ;
+  first = omega arith;
+  space = a .space;
+  newest = λ y k. omega (arith, m .serials y k);
+  sealed = λ y k. no-since (sym (m .lone y k .0) ∙ a .shut?);
+}
+
+after-drops : (p : Par) (g : Ghost) (v : View) → Facts p g v → (none : p .N ≤ g .un) (ss : List Store) → Dropping p g v none ss → Facts p (withPr g alone) (applyAll v ss)
+after-drops p g v h none ss k = settled p g none (applyAll v ss) (dropped-end p g none (Dropped p g v) v ss (k .are) h (λ z n. n)) (rest-of p g v h none ss (k .are) (k .every))
+
+-- ---- what each finished restart reads
+abbrev pub ClaimOf : (p : Par) (σ τ : State) → Step p σ τ → Type 0
+ClaimOf p _ _ (lose σ) = Unit {0}
+ClaimOf p _ _ (begin σ M e a b) = Unit {0}
+ClaimOf p _ _ (send σ M x s d r e a b w) = Unit {0}
+ClaimOf p _ _ (copy σ M x s d r e a b) = Unit {0}
+ClaimOf p _ _ (close σ M s r e a b) = Unit {0}
+ClaimOf p _ _ (land σ M d s e a b c f g) = Unit {0}
+ClaimOf p _ _ (ack σ M s f l e a b c d) = Unit {0}
+ClaimOf p _ _ (open-cut σ M w k e a) = Unit {0}
+ClaimOf p _ _ (open-done σ M w e a) = Unit {0}
+ClaimOf p _ _ (footer σ M d z j e a b c f) = Unit {0}
+ClaimOf p _ _ (seal σ M e a b) = Unit {0}
+ClaimOf p _ _ (reset-cut σ M z k e q) = Unit {0}
+ClaimOf p _ _ (reset-done σ M z e q a) = Unit {0}
+ClaimOf p _ _ (missing σ m t u K a b c d e) = Claim σ K
+ClaimOf p _ _ (restart-cut₁ σ k none ss d) = Unit {0}
+ClaimOf p _ _ (restart-cut₂ σ k none ss d w o r π a) = Unit {0}
+ClaimOf p _ _ (restart σ none ss d w o r π a K t rd b o? z n ns rg wh bl sr up) = Claim σ K
+ClaimOf p _ _ (restart-plain σ none ss d cl K t rd b o? z n ns rg wh bl sr up) = Claim σ K
+ClaimOf p _ _ (restart-footer σ d z j a b c e f h) = Unit {0}
+ClaimOf p _ _ (rebuild σ d l c) = Unit {0}
+ClaimOf p _ _ (rebuild-store σ u l e m k) = Unit {0}
+ClaimOf p _ _ (rebuild-done σ u n l b a) = Unit {0}
+
+claim-missing : (p : Par) (σ : State) → Inv p σ → (m : ℕ) (u : View) (K : ℕ → ℕ) → m < p .N → Choice p (σ .g .un) m → ((e y : ℕ) → e < p .N → e ≢ m → σ .v e y ≡ u e y)
+    → Reads p (σ .g .hd) u m K → Claim σ K
+claim-missing p σ i m u K l c e r =
+    claim p σ i (withUn (σ .g) m) u (untrusted p (withUn (σ .g) m) l (σ .v) u e (distrust p (σ .g) (σ .v) m l c (i .facts))) refl refl refl refl m (inr refl) K r
+
+pub claims : (p : Par) (σ τ : State) → Inv p σ → (s : Step p σ τ) → ClaimOf p σ τ s
+claims p _ _ i (lose σ) = tt
+claims p _ _ i (begin σ M e a b) = tt
+claims p _ _ i (send σ M x s d r e a b w) = tt
+claims p _ _ i (copy σ M x s d r e a b) = tt
+claims p _ _ i (close σ M s r e a b) = tt
+claims p _ _ i (land σ M d s e a b c f g) = tt
+claims p _ _ i (ack σ M s f l e a b c d) = tt
+claims p _ _ i (open-cut σ M w k e a) = tt
+claims p _ _ i (open-done σ M w e a) = tt
+claims p _ _ i (footer σ M d z j e a b c f) = tt
+claims p _ _ i (seal σ M e a b) = tt
+claims p _ _ i (reset-cut σ M z k e q) = tt
+claims p _ _ i (reset-done σ M z e q a) = tt
+claims p _ _ i (missing σ m t u K a b c d e) = claim-missing p σ i m u K a b c d
+claims p _ _ i (restart-cut₁ σ k none ss d) = tt
+claims p _ _ i (restart-cut₂ σ k none ss d w o r π a) = tt
+claims p _ _ i (restart σ none ss d w o r π a K t rd b o? z n ns rg wh bl sr up) =
+    claim p σ i (withPr (gN (σ .g) w o r) alone) (applyAll (σ .v) (ss ++ tailOf p (σ .g) w o r π))
+    (restart-facts p (σ .g) (σ .v) (i .facts) none (Dropped p (σ .g) (σ .v)) ss (d .are) (λ z n. n)
+    (rest-of p (σ .g) (σ .v) (i .facts) none ss (d .are) (d .every)) w o r π a) refl refl refl refl (σ .g .un) (inr refl) K rd
+claims p _ _ i (restart-plain σ none ss d cl K t rd b o? z n ns rg wh bl sr up) =
+    claim p σ i (withPr (σ .g) alone) (applyAll (σ .v) ss) (after-drops p (σ .g) (σ .v) (i .facts) none ss d) refl refl refl refl (σ .g .un) (inr refl) K rd
+claims p _ _ i (restart-footer σ d z j a b c e f h) = tt
+claims p _ _ i (rebuild σ d l c) = tt
+claims p _ _ i (rebuild-store σ u l e m k) = tt
+claims p _ _ i (rebuild-done σ u n l b a) = tt
+
+-- ---- each step keeps the invariant
+pub kept : (p : Par) (σ τ : State) → Inv p σ → Step p σ τ → Inv p τ
+kept p _ _ i (lose σ) = record { facts = i .facts; acks = i .acks; grown = i .grown; still = i .still; uniq = i .uniq; ones = i .ones; mode = tt }
+kept p _ _ i (begin σ M e o b) =
+    let m : MemOk p (σ .g) (σ .v) M = mem-of p σ M i e in
+    record {
+      facts = i .facts;
+      acks = i .acks;
+      grown = i .grown;
+      still = i .still;
+      uniq = i .uniq;
+      ones = i .ones;
+      mode =
+          fill-mem p (σ .g) (σ .v) M m (σ .g .sent) (M .next) (suc (M .next)) (M .stamp) (unfilled p (M .next)) (λ e. false) o (omega arith)
+          (omega arith) (omega arith) (λ y k. k) (m .stamps) (omega arith)
+          (Filling.begin p (σ .g) (σ .v) (M .zone) (M .next) (λ e x l k. let q : ⊥ = omega (arith, m .below o e (M .next) x l k) in q));
+    }
+kept p _ _ i (send σ M x s d r e t f al) =
+    let m : MemOk p (σ .g) (σ .v) M = mem-of p σ M i e in
+    let w : (M .is-open ≡ true) × (s < M .next) × Flight p (σ .g) (σ .v) (M .zone) s (M .F s) (M .ready s) = m .flies s (t .fly) in
+    record {
+      facts = sending p (σ .g) (σ .v) x (i .facts);
+      acks = λ y k. (inr (i .acks y k .0), i .acks y k .1);
+      grown = i .grown;
+      still = λ q. no-since q;
+      uniq = uniq-more (σ .g .sent) (M .stamp) x (m .stamps) f (i .uniq);
+      ones =
+          λ y k. ⊎-elim (λ (q : y ≡ x). let z : y .stamp
+          ≡ x .stamp = ap (λ (w : Val). w .stamp) q in let b : y .addr
+          ≡ x .addr = ap (λ (w : Val). w .addr) q in (omega (arith, z, f), omega (arith, b, al)))
+          (λ (q : InV y (σ .g .sent)). i .ones y q) k;
+      mode = fill-mem p (σ .g) (σ .v) M m (x ∷ σ .g .sent) s (M .next) (x .stamp) (filled p s (M .F s) d x) r (w .0) (w .1) (omega arith) (m .few) (λ y k. inr k)
+          (λ y k. ⊎-elim (λ (q : y ≡ x). let z : y .stamp ≡ x .stamp = ap (λ (w : Val). w .stamp) q in omega arith) (λ (q : InV y (σ .g .sent)). omega (arith, m .stamps y q, f)) k) (omega (arith, f))
+          (Filling.fill p (withSent (σ .g) (x ∷ σ .g .sent)) (σ .v) (M .zone) s (M .F s) (M .ready s)
+          (record { mine = w .2 .mine; xor = w .2 .xor; ok = w .2 .ok; good = λ y k. ⊎-elim (λ q. inl q) (λ (q : InV y (σ .g .sent)). inr (inr q)) (w .2 .good y k) })
+          d x (t .drive) (p .on-drive s) (t .data?) (t .blank) (t .free) (t .early) (inr (inl refl)) (inr (omega (arith, m .top, f))) r (t .more));
+    }
+kept p _ _ i (copy σ M x s d r e t c) =
+    let m : MemOk p (σ .g) (σ .v) M = mem-of p σ M i e in
+    let w : (M .is-open ≡ true) × (s < M .next) × Flight p (σ .g) (σ .v) (M .zone) s (M .F s) (M .ready s) = m .flies s (t .fly) in
+    record {
+      facts = i .facts;
+      acks = i .acks;
+      grown = i .grown;
+      still = i .still;
+      uniq = i .uniq;
+      ones = i .ones;
+      mode = fill-mem p (σ .g) (σ .v) M m (σ .g .sent) s (M .next) (M .stamp) (filled p s (M .F s) d x) r (w .0) (w .1) (omega arith) (m .few) (λ y k. k) (m .stamps) (omega arith)
+          (Filling.fill p (σ .g) (σ .v) (M .zone) s (M .F s) (M .ready s) (w .2) d x (t .drive) (p .on-drive s) (t .data?) (t .blank) (t .free) (t .early)
+          (i .facts .parity .sound (σ .g .un) (inr refl) (c .z) (c .s) (c .f) (c .st) x (c .dt)) (i .facts .content .fresh (σ .g .un) (inr refl) x c) r (t .more));
+    }
+kept p _ _ i (close σ M s r e f more) =
+    let m : MemOk p (σ .g) (σ .v) M = mem-of p σ M i e in
+    let w : (M .is-open ≡ true) × (s < M .next) × Flight p (σ .g) (σ .v) (M .zone) s (M .F s) (M .ready s) = m .flies s f in
+    record {
+      facts = i .facts;
+      acks = i .acks;
+      grown = i .grown;
+      still = i .still;
+      uniq = i .uniq;
+      ones = i .ones;
+      mode = fill-mem p (σ .g) (σ .v) M m (σ .g .sent) s (M .next) (M .stamp) (M .F s) r (w .0) (w .1) (omega arith) (m .few) (λ y k. k) (m .stamps) (omega arith)
+          (record { mine = λ y x l k. (w .2 .mine y x l k .0, more y (w .2 .mine y x l k .1)); xor = w .2 .xor; good = w .2 .good; ok = w .2 .ok });
+    }
+kept p _ _ i (land σ M d s e l f new may ofs) =
+    let m : MemOk p (σ .g) (σ .v) M = mem-of p σ M i e in
+    record {
+      facts = land-facts p (σ .g) (σ .v) M m d s l f new may ofs (i .facts);
+      acks = i .acks;
+      grown = i .grown;
+      still = i .still;
+      uniq = i .uniq;
+      ones = i .ones;
+      mode = land-mem p (σ .g) (σ .v) M m d s l f new may ofs;
+    }
+kept p _ _ i (ack σ M s f l e fl on up al) =
+    let m : MemOk p (σ .g) (σ .v) M = mem-of p σ M i e in
+    let more : (a : ℕ) → σ .g .base a ≤ f a = λ a. ⊎-elim (λ (q : f a ≡ σ .g .base a). omega arith)
+    (λ (q : (x : Val) × Datum p s (M .F s) x × (x .addr ≡ a) × (f a ≡ x .stamp) × (σ .g .base a ≤ f a)). q .4) (up a) in
+    record {
+      facts = raised p (σ .g) (σ .v) f (i .facts) (λ a. ⊎-elim (λ (q : f a ≡ σ .g .base a). inl q)
+          (λ (q : (x : Val) × Datum p s (M .F s) x × (x .addr ≡ a) × (f a ≡ x .stamp) × (σ .g .base a ≤ f a)).
+          inr (q .0, done-counts p (σ .g) (σ .v) M m (i .facts) s fl on (q .0) (q .1), q .2, omega (arith, q .3))) (up a));
+      acks = λ x k. ⊎-elim (λ (q : InV x (σ .acked)). (i .acks x q .0, omega (arith, i .acks x q .1, more (x .addr)))) (λ (q : (InV x (σ .g .sent)) × (x .stamp ≤ f (x .addr))). q) (al x k);
+      grown = λ a. omega (arith, i .grown a, more a);
+      still = i .still;
+      uniq = i .uniq;
+      ones = i .ones;
+      mode = end-mem p (σ .g) (σ .v) M m s f;
+    }
+kept p _ _ i (open-cut σ M w k e a) =
+    record {
+      facts = opened-prefix p (σ .g) (σ .v) w (suc (M .serial)) (fresh-of p (σ .g) (σ .v) M w (mem-of p σ M i e) a) (i .facts) k;
+      acks = i .acks;
+      grown = i .grown;
+      still = i .still;
+      uniq = i .uniq;
+      ones = i .ones;
+      mode = tt;
+    }
+kept p _ _ i (open-done σ M w e a) =
+    let m : MemOk p (σ .g) (σ .v) M = mem-of p σ M i e in
+    let b : Fresh p (σ .g) (σ .v) w (suc (M .serial)) = fresh-of p (σ .g) (σ .v) M w m a in
+    record {
+      facts = opened p (σ .g) (σ .v) w (suc (M .serial)) b (i .facts) .0;
+      acks = i .acks;
+      grown = i .grown;
+      still = i .still;
+      uniq = i .uniq;
+      ones = i .ones;
+      mode = open-mem p (σ .g) (σ .v) (applyAll (σ .v) (headers p (σ .g) w (suc (M .serial)))) w (suc (M .serial)) M m (omega arith) (b .sealed)
+          (opened p (σ .g) (σ .v) w (suc (M .serial)) b (i .facts) .2)
+          (naming (σ .g) w (suc (M .serial)) 0 alone .hd .ser w) (naming (σ .g) w (suc (M .serial)) 0 alone .hd .cop w)
+          (λ d l. opened p (σ .g) (σ .v) w (suc (M .serial)) b (i .facts) .1 d l .0 l);
+    }
+kept p _ _ i (footer σ M d z j e l b c f) =
+    let m : MemOk p (σ .g) (σ .v) M = mem-of p σ M i e in
+    record {
+      facts = footed p (σ .g) (σ .v) d z j (l, omega (arith, l, m .none)) b c (λ w o q. absurd (pair-alone (sym q ∙ m .no-pair))) f (i .facts);
+      acks = i .acks;
+      grown = i .grown;
+      still = i .still;
+      uniq = i .uniq;
+      ones = i .ones;
+      mode = foot-mem p (σ .g) (σ .v) M m d z j b c;
+    }
+kept p _ _ i (seal σ M e a b) =
+    record { facts = i .facts; acks = i .acks; grown = i .grown; still = i .still; uniq = i .uniq; ones = i .ones; mode = seal-mem p (σ .g) (σ .v) M (mem-of p σ M i e) a b }
+kept p _ _ i (reset-cut σ M z k e q) =
+    let m : MemOk p (σ .g) (σ .v) M = mem-of p σ M i e in
+    record { facts = reclaimed p (σ .g) z (m .none) (m .no-pair) (σ .v) (i .facts) q k; acks = i .acks; grown = i .grown; still = i .still; uniq = i .uniq; ones = i .ones; mode = tt }
+kept p _ _ i (reset-done σ M z e q a) =
+    let m : MemOk p (σ .g) (σ .v) M = mem-of p σ M i e in
+    record {
+      facts = reclaimed-end p (σ .g) z (m .none) (m .no-pair) (σ .v) (i .facts) q;
+      acks = i .acks;
+      grown = i .grown;
+      still = i .still;
+      uniq = i .uniq;
+      ones = i .ones;
+      mode = reset-mem p (σ .g) (σ .v) (applyAll (σ .v) (resets z 0 (p .N))) z M m a (λ d y n. resets-other (σ .v) z 0 (p .N) d y n)
+          (λ d l. resets-empty (σ .v) z 0 (p .N) d (λ b. absurd (let j : ⊥ = omega arith in j)) (omega arith));
+    }
+kept p _ _ i (missing σ m t u K l c e r b) =
+    let k : Claim σ K = claim-missing p σ i m u K l c e r in
+    record {
+      facts = finish-missing p (withUn (σ .g) m) u m l (inr refl) (untrusted p (withUn (σ .g) m) l (σ .v) u e (distrust p (σ .g) (σ .v) m l c (i .facts))) K r t b;
+      acks = λ x q. (i .acks x q .0, k .acked x q);
+      grown = λ a. omega arith;
+      still = λ q. b;
+      uniq = i .uniq;
+      ones = i .ones;
+      mode = tt;
+    }
+kept p _ _ i (restart-cut₁ σ k none ss d) =
+    record {
+      facts = dropped p (σ .g) none (Dropped p (σ .g) (σ .v)) (σ .v) ss (d .are) (i .facts) (λ z n. n) k;
+      acks = i .acks;
+      grown = i .grown;
+      still = i .still;
+      uniq = i .uniq;
+      ones = i .ones;
+      mode = tt;
+    }
+kept p _ _ i (restart-cut₂ σ k none ss d w o r π a) =
+    record {
+      facts =
+          rewrite-prefix p (withPr (σ .g) alone) (applyAll (σ .v) ss) w o r π a (rest-of p (σ .g) (σ .v) (i .facts) none ss (d .are) (d .every)) (after-drops p (σ .g) (σ .v) (i .facts) none ss d) k;
+      acks = i .acks;
+      grown = i .grown;
+      still = i .still;
+      uniq = i .uniq;
+      ones = i .ones;
+      mode = tt;
+    }
+kept p _ _ i (restart σ none ss d w o r π a K t rd b o? z n ns rg wh bl sr up) =
+    let c : Claim σ K = claims p _ _ i (restart σ none ss d w o r π a K t rd b o? z n ns rg wh bl sr up) in
+    record {
+      facts = restart-done p (σ .g) (σ .v) (i .facts) none (Dropped p (σ .g) (σ .v)) ss (d .are) (λ z n. n) (rest-of p (σ .g) (σ .v) (i .facts) none ss (d .are) (d .every)) w o r π a K rd t b;
+      acks = acks-cut σ K c t (reads-le p (gN (σ .g) w o r .hd) (applyAll (σ .v) (ss ++ tailOf p (σ .g) w o r π)) (σ .g .un) K rd t b) (λ x q. i .acks x q .0);
+      grown = λ e. omega arith;
+      still = λ q x k. upTo-le t (σ .g .sent) x k .1;
+      uniq = uniq-cut t (σ .g .sent) (i .uniq);
+      ones = λ x k. i .ones x (upTo-le t (σ .g .sent) x k .0);
+      mode = rest-mem p (withPr (gN (σ .g) w o r) alone) (applyAll (σ .v) (ss ++ tailOf p (σ .g) w o r π))
+          (restart-clean p (σ .g) (σ .v) (i .facts) none (Dropped p (σ .g) (σ .v)) ss (d .are) (λ z n. n)
+          (rest-of p (σ .g) (σ .v) (i .facts) none ss (d .are) (d .every)) w o r π a) o? z n ns rg wh bl K t sr up;
+    }
+kept p _ _ i (restart-plain σ none ss d cl K t rd b o? z n ns rg wh bl sr up) =
+    let q : Clean p (withPr (σ .g) alone) (applyAll (σ .v) ss) =
+    clean-of p (withPr (σ .g) alone) (applyAll (σ .v) ss) (after-drops p (σ .g) (σ .v) (i .facts) none ss d) none refl (rest-of p (σ .g) (σ .v) (i .facts) none ss (d .are) (d .every)) cl in
+    let c : Claim σ K = claims p _ _ i (restart-plain σ none ss d cl K t rd b o? z n ns rg wh bl sr up) in
+    record {
+      facts = finish-none p (withPr (σ .g) alone) (applyAll (σ .v) ss) q (after-drops p (σ .g) (σ .v) (i .facts) none ss d) K rd t b;
+      acks = acks-cut σ K c t (reads-le p (σ .g .hd) (applyAll (σ .v) ss) (σ .g .un) K rd t b) (λ x q. i .acks x q .0);
+      grown = λ e. omega arith;
+      still = λ q x k. upTo-le t (σ .g .sent) x k .1;
+      uniq = uniq-cut t (σ .g .sent) (i .uniq);
+      ones = λ x k. i .ones x (upTo-le t (σ .g .sent) x k .0);
+      mode = rest-mem p (withPr (σ .g) alone) (applyAll (σ .v) ss) q o? z n ns rg wh bl K t sr up;
+    }
+kept p _ _ i (restart-footer σ d z j none rest l b c f) =
+    record {
+      facts = footed p (withPr (σ .g) alone) (σ .v) d z j (l, omega (arith, l, none)) b c (λ w o q. absurd (pair-alone (sym q))) f (settled p (σ .g) none (σ .v) (i .facts) rest);
+      acks = i .acks;
+      grown = i .grown;
+      still = i .still;
+      uniq = i .uniq;
+      ones = i .ones;
+      mode = tt;
+    }
+kept p _ _ i (rebuild σ d l c) =
+    record { facts = distrust p (σ .g) (σ .v) d l c (i .facts); acks = i .acks; grown = i .grown; still = i .still; uniq = i .uniq; ones = i .ones; mode = tt }
+kept p _ _ i (rebuild-store σ u l e m k) =
+    record { facts = untrusted p (σ .g) l (σ .v) u e (i .facts); acks = i .acks; grown = i .grown; still = i .still; uniq = i .uniq; ones = i .ones; mode = mode-of p (σ .g) u m k }
+kept p _ _ i (rebuild-done σ u n l b a) =
+    record { facts = rebuilt p (σ .g) n l b (σ .v) u a (i .facts); acks = i .acks; grown = i .grown; still = i .still; uniq = i .uniq; ones = i .ones; mode = tt }
+
+-- ---- histories
+pub data Run (p : Par) : State → State → Type 0 where
+  stop : (σ : State) → Run p σ σ
+  then : (σ τ υ : State) → Step p σ τ → Run p τ υ → Run p σ υ
+
+pub kept-all : (p : Par) (σ τ : State) → Run p σ τ → Inv p σ → Inv p τ
+kept-all p _ _ (stop σ) i = i
+kept-all p _ _ (then σ τ υ s r) i = kept-all p τ υ r (kept p σ τ i s)
+
+-- empty drives
+unfoldable pub start : Par → State
+start p = record {
+  g = record { un = p .N; hd = record { ser = λ z. 0; cop = λ z. 0 }; pr = alone; sent = []; last = λ a. 0; base = λ a. 0; top = 0 };
+  v = λ d z. [];
+  acked = [];
+  since = false;
+  mode = off;
+}
+
+pub began : (p : Par) → Inv p (start p)
+unfolding start
+began p = record {
+  facts = record {
+    zones = λ d z t. zone-nil p (start p .g) d z;
+    parity = record {
+      whole = λ b z s f on. absurd (on 0 (omega (arith, p .three)));
+      sound = λ m c z s f st x dt. absurd (chunkless m f s z st);
+    };
+    swap = record {
+      serials = λ y z a b e. absurd (unused y a);
+      below = λ z a. absurd (unused z a);
+      one = λ w o a b e. absurd (unused w a);
+      named = λ w o e. absurd (pair-alone (sym e));
+      safe = λ w o e. absurd (pair-alone (sym e));
+    };
+    «open» = record { bound = λ y a. absurd (unused y a); ragged = λ y z (d, t, a, b) c. absurd (unused y (d, t, a)); room = inl (0, p .zones, λ a. unused 0 a) };
+    content = record { fresh = λ m c x k. absurd (chunkless m (k .f) (k .s) (k .z) (k .st)); floor = λ a. inl refl };
+  };
+  acks = λ x m. absurd m;
+  grown = λ a. omega arith;
+  still = λ e x m. absurd m;
+  uniq = λ x y m k e. absurd m;
+  ones = λ x m. absurd m;
+  mode = tt;
+}
+  where
+    unused : (z : ℕ) → Used p (p .N) (λ d z. []) z → ⊥
+    unused z (d, t, b) = let q : ⊥ = omega (arith, b) in q
+
+    chunkless : (m : ℕ) (f : ℕ → Val) (s z : ℕ) → Stripe p (λ d z. []) m z s f → ⊥
+    chunkless m f s z st = go (ℕ-discrete m 0)
+      where
+        go : Dec (m ≡ 0) → ⊥
+        go (yes e) = st .on 1 (omega (arith, p .three)) (omega arith)
+        go (no e) = st .on 0 (omega (arith, p .three)) (omega arith)
+
+-- THE THEOREM: from empty drives, after every history, each finished restart reads at every address a block that was sent there, no earlier than
+-- any acknowledged one, and what the finished restart before it read if none was sent between
+pub demand3 : (p : Par) (σ τ : State) → Run p (start p) σ → (s : Step p σ τ) → ClaimOf p σ τ s
+demand3 p σ τ r s = claims p σ τ (kept-all p (start p) σ r (began p)) s

@@ -1,0 +1,99 @@
+-- A segment is opened: its headers on all drives, at every prefix. Assumes nothing.
+use mathlib.Core.Path.{_≡_, refl, sym, ap, ap₂, _∙_, subst}
+use mathlib.Core.List.{List, [], _∷_, _++_}
+use mathlib.Core.Logic.{_⊎_, inl, inr, ⊎-elim, _≢_}
+use mathlib.Core.Bool.{Bool, true, false}
+use Prim.Native.Nat.{ℕ, zero, suc, _+_, _≤_, _<_}
+use native.Mathlib.Omega.{arith}
+use native.Mathlib.Decide.{ℕ-discrete, decLt, decLe}
+use lib.ListN.{length, getD, take}
+use Rattle.proof_crash_machine.specs.Val.{Val, 𝟘, xorN}
+use Rattle.proof_crash_machine.specs.Facts.Pair.{alone, pair}
+use Rattle.proof_crash_machine.specs.Lemma.{pair-alone, pair-o, pair-w}
+use Rattle.proof_crash_machine.specs.View.{Item, View, Store, In, after, apply, applyAll, chunk-hdr, upd-same}
+use Rattle.proof_crash_machine.specs.View.Item.{hdr, chunk, foot}
+use Rattle.proof_crash_machine.specs.View.Store.{put, reset}
+use Rattle.proof_crash_machine.specs.Facts.{Par, Pair, Heads, Ghost, InV, Good, Tr, Choice, L, R, Stripe, Datum, Counted, Used, Whole, Ragged, Facts, used}
+use Rattle.proof_crash_machine.specs.Put
+use Rattle.proof_crash_machine.specs.Header.{Opening, headed}
+use Rattle.proof_crash_machine.specs.Name.{setN, setN-same, setN-other, naming, named}
+use Rattle.proof_crash_machine.specs.Steps.{list, Prefix, list-prefix, list-end}
+
+-- the stores
+unfoldable pub headers : Par → Ghost → ℕ → ℕ → List Store
+headers p g w r = list (λ (d : ℕ). put d w (hdr (naming g w r 0 alone .hd .ser w) (naming g w r 0 alone .hd .cop w))) 0 (p .N)
+
+-- what a write knows before it opens w under serial r
+pub record Fresh (p : Par) (g : Ghost) (v : View) (w r : ℕ) : Type 0 where
+  pub none : p .N ≤ g .un
+  pub no-pair : g .pr ≡ alone
+  pub empty : (e : ℕ) → e < p .N → v e w ≡ []
+  pub newest : (y : ℕ) → Used p (g .un) v y → g .hd .ser y < r
+  pub first : 0 < r
+  pub inZ : w < p .Z
+  pub sealed : (y : ℕ) → Ragged p (g .un) v y → ⊥
+  -- another zone stays empty (refusal 8)
+  pub space : (z : ℕ) × (z < p .Z) × (z ≢ w) × (Used p (g .un) v z → ⊥)
+
+module _ (p : Par) (g : Ghost) (v : View) (w r : ℕ) (a : Fresh p g v w r) where
+  abbrev g′ : Ghost
+  g′ = naming g w r 0 alone
+
+  idle : Used p (g .un) v w → ⊥
+  idle (e, t, b) = let q : 0 < length {A = Item} [] = subst (λ (l : List Item). 0 < length l) (a .empty e (t .0)) b in let z : ⊥ = omega arith in z
+
+  abbrev i : Item
+  i = hdr (g′ .hd .ser w) (g′ .hd .cop w)
+
+  -- drives below d have the header
+  abbrev I : ℕ → View → Type 0
+  I d u = Facts p g′ u × ((e : ℕ) → e < p .N → (e < d → u e w ≡ i ∷ []) × (d ≤ e → u e w ≡ [])) × ((e y : ℕ) → y ≢ w → u e y ≡ v e y)
+
+  opening : (d : ℕ) (u : View) → d < p .N → I d u → Opening p g′ u d w
+  opening d u l (h, c, q) = record {
+    none = a .none;
+    drive = l;
+    empty = c d l .1 (omega arith);
+    room = omega (arith, p .fits);
+    inZ = a .inZ;
+    bare = λ e s x k m. bare e s x k m (decLt e d);
+    newest = λ y k n. rw (setN-other (g .hd .ser) w r y n, setN-same (g .hd .ser) w r) (a .newest y (old y n k));
+    below = rw (setN-same (g .hd .cop) w 0, setN-same (g .hd .ser) w r) (a .first);
+    link = λ o k n e. absurd (zero-ser o k e);
+    old = λ w′ o e. absurd (pair-alone (sym e));
+    lone = λ y (e, t, k, j) n. absurd (a .sealed y (e, t, subst (λ (x : List Item). 0 < length x) (q e y n) k, subst (λ (x : List Item). length x < p .cap) (q e y n) j));
+    space = inl (a .space .0, a .space .1, a .space .2, λ k. a .space .3 (old (a .space .0) (a .space .2) k));
+  }
+    where
+      old : (y : ℕ) → y ≢ w → Used p (g .un) u y → Used p (g .un) v y
+      old y n (e, t, k) = (e, t, subst (λ (x : List Item). 0 < length x) (q e y n) k)
+
+      bare : (e s : ℕ) (x : Val) → e < p .N → In (chunk s x) (u e w) → Dec (e < d) → ⊥
+      bare e s x k m (yes b) = ⊎-elim (λ (j : chunk s x ≡ i). chunk-hdr j) (λ j. j) (subst (λ (y : List Item). In (chunk s x) y) (c e k .0 b) m)
+      bare e s x k m (no b) = subst (λ (y : List Item). In (chunk s x) y) (c e k .1 (omega arith)) m
+
+      zero-ser : (o : ℕ) → Used p (g .un) u o → g′ .hd .cop w ≡ g′ .hd .ser o → ⊥
+      zero-ser o k e = let b : g′ .hd .cop o < g′ .hd .ser o = h .swap .below o k in let z : g′ .hd .cop w ≡ 0 = setN-same (g .hd .cop) w 0 in let j : ⊥ = omega (arith, b, z, e) in j
+
+  step : (d : ℕ) (u : View) → d < p .N → I d u → I (suc d) (apply u (put d w i))
+  unfolding apply after
+  step d u l (h, c, q) = (headed p g′ u d w (opening d u l (h, c, q)) h, (λ e k. (low e k (ℕ-discrete e d), high e k)), λ e y n. Put.zone-other u d w i e y n ∙ q e y n)
+    where
+      low : (e : ℕ) → e < p .N → Dec (e ≡ d) → e < suc d → after u d w i e w ≡ i ∷ []
+      low e k (yes j) b = rw j (upd-same u d w (u d w ++ (i ∷ [])) ∙ ap (λ (x : List Item). x ++ (i ∷ [])) (c d l .1 (omega arith)))
+      low e k (no j) b = Put.drive-other u d w i e w j ∙ c e k .0 (omega arith)
+
+      high : (e : ℕ) → e < p .N → suc d ≤ e → after u d w i e w ≡ []
+      high e k b = Put.drive-other u d w i e w (omega arith) ∙ c e k .1 (omega arith)
+
+  start : Facts p g v → I 0 v
+  start h = (named p g v w r 0 alone (a .no-pair) idle (λ w′ o e. absurd (pair-alone (sym e))) h, (λ e k. ((λ b. absurd (let z : ⊥ = omega arith in z)), λ b. a .empty e k)), λ e y n. refl)
+
+  -- wherever the power is cut
+  pub opened-prefix : Facts p g v → Prefix (Facts p g′) v (headers p g w r)
+  unfolding headers
+  opened-prefix h = list-prefix (Facts p g′) I (λ (d : ℕ). put d w i) (p .N) (λ j u k. k .0) step 0 (p .N) (omega arith) v (start h)
+
+  pub opened : Facts p g v → I (p .N) (applyAll v (headers p g w r))
+  unfolding headers
+  opened h = list-end (Facts p g′) I (λ (d : ℕ). put d w i) (p .N) (λ j u k. k .0) step 0 (p .N) (p .N) (omega arith) (omega arith) v (start h)

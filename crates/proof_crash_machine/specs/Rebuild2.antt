@@ -1,0 +1,173 @@
+-- What a rebuild stores on its drive, zone by zone, is what `Rebuilt` asks. Assumes nothing.
+use mathlib.Core.Path.{_≡_, refl, sym, ap, ap₂, _∙_, subst}
+use mathlib.Core.List.{List, [], _∷_, _++_, append-nil, append-assoc}
+use mathlib.Core.Logic.{_⊎_, inl, inr, ⊎-elim, _≢_}
+use Prim.Native.Nat.{ℕ, zero, suc, _+_, _≤_, _<_}
+use native.Mathlib.Omega.{arith}
+use native.Mathlib.Decide.{ℕ-discrete, decLt, decLe}
+use lib.ListN.{length, getD, take}
+use Rattle.proof_crash_machine.specs.Val.{Val, 𝟘, xorN}
+use Rattle.proof_crash_machine.specs.Facts.Pair.{alone, pair}
+use Rattle.proof_crash_machine.specs.View.{Item, View, Store, In, after, apply, applyAll, upd-same, chunk-num, chunk-val, chunk-hdr, chunk-foot, in-left, in-last, in-cases, in-some}
+use Rattle.proof_crash_machine.specs.View.Item.{hdr, chunk, foot}
+use Rattle.proof_crash_machine.specs.View.Store.{put, reset}
+use Rattle.proof_crash_machine.specs.Facts.{Par, Pair, Heads, Ghost, Tr, Choice, L, R, Stripe, Datum, Off, Zone, Used, Ragged, Facts}
+use Rattle.proof_crash_machine.specs.Put
+use Rattle.proof_crash_machine.specs.Rebuild.{Rebuilt, once-in, in-off}
+use Rattle.proof_crash_machine.specs.Rest.{decR}
+
+-- ---- a run of puts into one zone appends
+unfoldable pub puts : ℕ → ℕ → List Item → List Store
+puts d z [] = []
+puts d z (i ∷ l) = put d z i ∷ puts d z l
+
+pub puts-here : (v : View) (d z : ℕ) (l : List Item) → applyAll v (puts d z l) d z ≡ v d z ++ l
+unfolding puts applyAll apply after
+puts-here v d z [] = sym (append-nil (v d z))
+puts-here v d z (i ∷ l) = puts-here (after v d z i) d z l ∙ ap (λ (x : List Item). x ++ l) (upd-same v d z (v d z ++ (i ∷ []))) ∙ append-assoc (v d z) (i ∷ []) l
+
+pub puts-other : (v : View) (d z : ℕ) (l : List Item) (e y : ℕ) → y ≢ z → applyAll v (puts d z l) e y ≡ v e y
+unfolding puts applyAll apply
+puts-other v d z [] e y n = refl
+puts-other v d z (i ∷ l) e y n = puts-other (after v d z i) d z l e y n ∙ Put.zone-other v d z i e y n
+
+-- ---- what is stored: for each remaining segment the header, its counted stripes E z 0 .. rising, and the footer blocks
+pub record RPlan (p : Par) (g : Ghost) (v : View) : Type 0 where
+  pub c : ℕ → ℕ
+  pub src : ℕ → ℕ → ℕ
+  pub E : ℕ → ℕ → ℕ → Val
+  pub foots : ℕ → ℕ
+  pub st : (z : ℕ) → R p (g .hd) v (g .un) z → (k : ℕ) → k < c z → Stripe p v (g .un) z (src z k) (E z k)
+  pub every : (z s : ℕ) (f : ℕ → Val) → R p (g .hd) v (g .un) z → Stripe p v (g .un) z s f → (k : ℕ) × (k < c z) × (src z k ≡ s)
+  pub inj : (z j k : ℕ) → j < c z → k < c z → src z j ≡ src z k → j ≡ k
+  -- the counted stripes are the earlier groups and some of one
+  pub grp : (z k : ℕ) → k < c z → (src z k < p .S) × (k < p .S) × (p .grp (src z k) ≡ p .grp k)
+  pub sealed : (z : ℕ) → suc (p .S) < suc (c z + foots z) → (s : ℕ) → s < p .S → (k : ℕ) × (k < c z) × (src z k ≡ s)
+  pub room : (z : ℕ) → suc (c z + foots z) ≤ p .cap
+  pub ragged : (z : ℕ) → R p (g .hd) v (g .un) z → suc (c z + foots z) < p .cap → Ragged p (g .un) v z
+
+module _ (p : Par) (g : Ghost) (v : View) (π : RPlan p g v) where
+  unfoldable pub chunks : ℕ → ℕ → List Item
+  chunks z zero = hdr (g .hd .ser z) (g .hd .cop z) ∷ []
+  chunks z (suc k) = chunks z k ++ (chunk (π .src z k) (π .E z k (g .un)) ∷ [])
+
+  unfoldable pub column : ℕ → ℕ → List Item
+  column z zero = chunks z (π .c z)
+  column z (suc j) = column z j ++ (foot j ∷ [])
+
+  length-chunks : (z k : ℕ) → length (chunks z k) ≡ suc k
+  unfolding chunks
+  length-chunks z zero = refl
+  length-chunks z (suc k) = Put.length-snoc (chunks z k) (chunk (π .src z k) (π .E z k (g .un))) ∙ ap suc (length-chunks z k)
+
+  length-column : (z j : ℕ) → length (column z j) ≡ suc (π .c z + j)
+  unfolding column
+  length-column z zero = length-chunks z (π .c z) ∙ omega arith
+  length-column z (suc j) = Put.length-snoc (column z j) (foot j) ∙ ap suc (length-column z j) ∙ omega arith
+
+  -- where a chunk stands
+  abbrev Is : ℕ → ℕ → ℕ → Val → Type 0
+  Is z i s x = (k : ℕ) × (i ≡ suc k) × (k < π .c z) × (π .src z k ≡ s) × (π .E z k (g .un) ≡ x)
+
+  off-chunks : (z n i s : ℕ) (x : Val) → n ≤ π .c z → Off (chunks z n) i (chunk s x) → Is z i s x
+  unfolding chunks
+  off-chunks z zero i s x b o = absurd (⊎-elim (λ (q : chunk s x ≡ hdr (g .hd .ser z) (g .hd .cop z)). chunk-hdr q) (λ q. q)
+      (Put.off-in (hdr (g .hd .ser z) (g .hd .cop z) ∷ []) i (chunk s x) o))
+  off-chunks z (suc n) i s x b o = ⊎-elim (λ (q : Off (chunks z n) i (chunk s x)). off-chunks z n i s x (omega arith) q)
+      (λ (q : (i ≡ length (chunks z n)) × (chunk (π .src z n) (π .E z n (g .un)) ≡ chunk s x)).
+      (n, q .0 ∙ length-chunks z n, omega arith, chunk-num (q .1), chunk-val (q .1)))
+      (Put.off-cases (chunks z n) (chunk (π .src z n) (π .E z n (g .un))) (chunk s x) i o)
+
+  off-column : (z j i s : ℕ) (x : Val) → Off (column z j) i (chunk s x) → Is z i s x
+  unfolding column
+  off-column z zero i s x o = off-chunks z (π .c z) i s x (omega arith) o
+  off-column z (suc j) i s x o = ⊎-elim (λ (q : Off (column z j) i (chunk s x)). off-column z j i s x q)
+      (λ (q : (i ≡ length (column z j)) × (foot j ≡ chunk s x)). absurd (chunk-foot (sym (q .1)))) (Put.off-cases (column z j) (foot j) (chunk s x) i o)
+
+  in-chunks : (z n k : ℕ) → k < n → In (chunk (π .src z k) (π .E z k (g .un))) (chunks z n)
+  unfolding chunks
+  in-chunks z zero k b = absurd (let q : ⊥ = omega arith in q)
+  in-chunks z (suc n) k b = go (ℕ-discrete k n) (in-chunks z n k)
+    where
+      go : Dec (k ≡ n) → (k < n → In (chunk (π .src z k) (π .E z k (g .un))) (chunks z n))
+          → In (chunk (π .src z k) (π .E z k (g .un))) (chunks z n ++ (chunk (π .src z n) (π .E z n (g .un)) ∷ []))
+      go (yes q) ih = rw q (in-last (chunk (π .src z n) (π .E z n (g .un))) (chunks z n))
+      go (no q) ih = in-left (chunk (π .src z k) (π .E z k (g .un))) (chunks z n) (chunk (π .src z n) (π .E z n (g .un)) ∷ []) (ih (omega arith))
+
+  in-column : (z j k : ℕ) → k < π .c z → In (chunk (π .src z k) (π .E z k (g .un))) (column z j)
+  unfolding column
+  in-column z zero k b = in-chunks z (π .c z) k b
+  in-column z (suc j) k b = in-left (chunk (π .src z k) (π .E z k (g .un))) (column z j) (foot j ∷ []) (in-column z j k b)
+
+  head-chunks : (z k : ℕ) → getD (chunks z k) 0 (foot 0) ≡ hdr (g .hd .ser z) (g .hd .cop z)
+  unfolding chunks
+  head-chunks z zero = refl
+  head-chunks z (suc k) = Put.off-left (chunks z k) (chunk (π .src z k) (π .E z k (g .un))) 0 (omega (arith, length-chunks z k)) ∙ head-chunks z k
+
+  head-column : (z j : ℕ) → getD (column z j) 0 (foot 0) ≡ hdr (g .hd .ser z) (g .hd .cop z)
+  unfolding column
+  head-column z zero = head-chunks z (π .c z)
+  head-column z (suc j) = Put.off-left (column z j) (foot j) 0 (omega (arith, length-column z j)) ∙ head-column z j
+
+  module _ (u : View) (h : Facts p g v) (lost : g .un < p .N) (same : (e y : ℕ) → e < p .N → e ≢ g .un → v e y ≡ u e y)
+      (full : (z : ℕ) → R p (g .hd) v (g .un) z → u (g .un) z ≡ column z (π .foots z)) (none : (z : ℕ) → (R p (g .hd) v (g .un) z → ⊥) → u (g .un) z ≡ []) where
+    -- a zone is empty, or is the column
+    two : (y : ℕ) → ((R p (g .hd) v (g .un) y) × (u (g .un) y ≡ column y (π .foots y))) ⊎ (u (g .un) y ≡ [])
+    two y = go (decR p g v (g .un) (inr refl) (h .swap) y)
+      where
+        go : Dec (R p (g .hd) v (g .un) y) → ((R p (g .hd) v (g .un) y) × (u (g .un) y ≡ column y (π .foots y))) ⊎ (u (g .un) y ≡ [])
+        go (yes r) = inl (r, full y r)
+        go (no r) = inr (none y r)
+
+    -- what holds of [] and of the column
+    by : (y : ℕ) (Q : List Item → Type 0) → Q [] → (R p (g .hd) v (g .un) y → Q (column y (π .foots y))) → Q (u (g .un) y)
+    by y Q a b = ⊎-elim (λ (q : (R p (g .hd) v (g .un) y) × (u (g .un) y ≡ column y (π .foots y))). subst Q (sym (q .1)) (b (q .0))) (λ (q : u (g .un) y ≡ []). subst Q (sym q) a) (two y)
+
+    pub stored : Rebuilt p g v u
+    stored = record {
+      same = same;
+      len = λ y. by y (λ (l : List Item). length l ≤ p .cap) (omega arith) (λ r. omega (arith, length-column y (π .foots y), π .room y));
+      head = λ y. by y (λ (l : List Item). 0 < length l → getD l 0 (foot 0) ≡ hdr (g .hd .ser y) (g .hd .cop y)) (λ b. absurd (let q : ⊥ = omega arith in q))
+          (λ r b. head-column y (π .foots y));
+      num = λ y. by y (λ (l : List Item). (k s : ℕ) (x : Val) → Off l (suc k) (chunk s x) → (s < p .S) × (k < p .S) × (p .grp s ≡ p .grp k))
+          (λ k s x o. absurd (let q : ⊥ = omega (arith, o .0) in q)) (λ r k s x o. number y k s (off-column y (π .foots y) (suc k) s x o));
+      once = λ y. by y (λ (l : List Item). (j k s : ℕ) (x z : Val) → Off l j (chunk s x) → Off l k (chunk s z) → j ≡ k)
+          (λ j k s x z o o′. absurd (let q : ⊥ = omega (arith, o .0) in q))
+          (λ r j k s x z o o′.
+          let a : Is y j s x = off-column y (π .foots y) j s x o in
+          let b : Is y k s z = off-column y (π .foots y) k s z o′ in
+          a .1 ∙ ap suc (π .inj y (a .0) (b .0) (a .2) (b .2) (a .3 ∙ sym (b .3))) ∙ sym (b .1));
+      sealed = λ y. by y (λ (l : List Item). suc (p .S) < length l → (s : ℕ) → s < p .S → (x : Val) × In (chunk s x) l) (λ b. absurd (let q : ⊥ = omega arith in q))
+          (λ r b s l.
+          let a : (k : ℕ) × (k < π .c y) × (π .src y k ≡ s) = π .sealed y (omega (arith, b, length-column y (π .foots y))) s l in
+          (π .E y (a .0) (g .un), subst (λ (t : ℕ). In (chunk t (π .E y (a .0) (g .un))) (column y (π .foots y))) (a .2) (in-column y (π .foots y) (a .0) (a .1))));
+      in? = λ y r. rw (full y r) (omega (arith, length-column y (π .foots y)));
+      out = λ y. by y (λ (l : List Item). 0 < length l → R p (g .hd) v (g .un) y) (λ b. absurd (let q : ⊥ = omega arith in q)) (λ r b. r);
+      old = λ y. by y (λ (l : List Item). (s : ℕ) (x : Val) → In (chunk s x) l → (f : ℕ → Val) × Stripe p v (g .un) y s f × (f (g .un) ≡ x)) (λ s x m. absurd m)
+          (λ r s x m.
+          let o : (k : ℕ) × Off (column y (π .foots y)) k (chunk s x) = in-off (chunk s x) (column y (π .foots y)) m in
+          let a : Is y (o .0) s x = off-column y (π .foots y) (o .0) s x (o .1) in
+          (π .E y (a .0), subst (λ (t : ℕ). Stripe p v (g .un) y t (π .E y (a .0))) (a .3) (π .st y r (a .0) (a .2)), a .4));
+      all = λ y s f r st. rw (full y r) (given y s f r st);
+      ragged = λ y. by y (λ (l : List Item). 0 < length l → length l < p .cap → Ragged p (g .un) v y) (λ b. absurd (let q : ⊥ = omega arith in q))
+          (λ r b k. π .ragged y r (omega (arith, k, length-column y (π .foots y))));
+    }
+      where
+        number : (y k s : ℕ) {x : Val} → Is y (suc k) s x → (s < p .S) × (k < p .S) × (p .grp s ≡ p .grp k)
+        number y k s a =
+            let e : a .0 ≡ k = omega (arith, a .1) in
+            let q : (π .src y (a .0) < p .S) × (a .0 < p .S) × (p .grp (π .src y (a .0)) ≡ p .grp (a .0)) = π .grp y (a .0) (a .2) in
+            (subst (λ (t : ℕ). t < p .S) (a .3) (q .0), subst (λ (t : ℕ). t < p .S) e (q .1), ap (p .grp) (sym (a .3)) ∙ q .2 ∙ ap (p .grp) e)
+
+        -- the decoded chunk of a counted stripe is the one that was stored
+        given : (y s : ℕ) (f : ℕ → Val) → R p (g .hd) v (g .un) y → Stripe p v (g .un) y s f → In (chunk s (f (g .un))) (column y (π .foots y))
+        given y s f r st =
+            let a : (k : ℕ) × (k < π .c y) × (π .src y k ≡ s) = π .every y s f r st in
+            let st′ : Stripe p v (g .un) y s (π .E y (a .0)) = subst (λ (t : ℕ). Stripe p v (g .un) y t (π .E y (a .0))) (a .2) (π .st y r (a .0) (a .1)) in
+            let e : π .E y (a .0) (g .un) ≡ f (g .un) = one y s (π .E y (a .0)) f st′ st in
+            subst (λ (x : Val). In (chunk s x) (column y (π .foots y))) e
+            (subst (λ (t : ℕ). In (chunk t (π .E y (a .0) (g .un))) (column y (π .foots y))) (a .2) (in-column y (π .foots y) (a .0) (a .1)))
+          where
+            one : (y s : ℕ) (f′ f : ℕ → Val) → Stripe p v (g .un) y s f′ → Stripe p v (g .un) y s f → f′ (g .un) ≡ f (g .un)
+            one y s f′ f a b = Rattle.proof_crash_machine.specs.Val.decode (p .N) (g .un) f′ f lost (a .xor ∙ sym (b .xor))
+                (λ d k n. once-in p g d y (v d y) (h .zones d y (k, n)) s (f′ d) (f d) (a .on d k n) (b .on d k n))

@@ -1,0 +1,74 @@
+-- (6) Stores on the untrusted drive keep all facts. Assumes nothing.
+use mathlib.Core.Path.{_≡_, refl, sym, ap, ap₂, _∙_, subst}
+use mathlib.Core.List.{List, [], _∷_, _++_}
+use mathlib.Core.Logic.{_⊎_, inl, inr, ⊎-elim, _≢_}
+use Prim.Native.Nat.{ℕ, zero, suc, _+_, _≤_, _<_}
+use native.Mathlib.Omega.{arith}
+use native.Mathlib.Decide.{ℕ-discrete, decLt}
+use lib.ListN.{length, getD}
+use Rattle.proof_crash_machine.specs.Val.{Val, 𝟘, xorN, xorN-same, decode-all}
+use Rattle.proof_crash_machine.specs.View.{Item, View, In, chunk-val, chunk-num}
+use Rattle.proof_crash_machine.specs.View.Item.{hdr, chunk, foot}
+use Rattle.proof_crash_machine.specs.Facts.Pair.{alone, pair}
+use Rattle.proof_crash_machine.specs.Lemma.{pair-alone, pair-o, pair-w, old-own}
+use Rattle.proof_crash_machine.specs.Facts.{Par, Pair, Heads, Ghost, Good, Tr, Choice, L, R, Stripe, Datum, Counted, Zone, Parity, Used, Whole, Moved, Swap, Ragged}
+use Rattle.proof_crash_machine.specs.Facts.{Open, Content, Facts, Same, L-same, Stripe-same, Counted-same}
+
+module _ (p : Par) (g : Ghost) (lost : g .un < p .N) (v u : View) (same : (e y : ℕ) → e < p .N → e ≢ g .un → v e y ≡ u e y) where
+  -- the only choice is the untrusted drive
+  is : (m : ℕ) → Choice p (g .un) m → m ≡ g .un
+  is m (inl b) = absurd (let q : ⊥ = omega (arith, lost, b) in q)
+  is m (inr e) = e
+
+  fw : (m : ℕ) → Choice p (g .un) m → (y : ℕ) → Same p v u m y
+  fw m c y e l n = same e y l (λ q. n (q ∙ sym (is m c)))
+
+  bw : (m : ℕ) → Choice p (g .un) m → (y : ℕ) → Same p u v m y
+  bw m c y e l n = sym (fw m c y e l n)
+
+  len-fw : (y e : ℕ) → Tr p (g .un) e → 0 < length (v e y) → 0 < length (u e y)
+  len-fw y e t b = subst (λ (x : List Item). 0 < length x) (same e y (t .0) (t .1)) b
+
+  len-bw : (y e : ℕ) → Tr p (g .un) e → 0 < length (u e y) → 0 < length (v e y)
+  len-bw y e t b = subst (λ (x : List Item). 0 < length x) (sym (same e y (t .0) (t .1))) b
+
+  used-bw : (y : ℕ) → Used p (g .un) u y → Used p (g .un) v y
+  used-bw y (e, t, b) = (e, t, len-bw y e t b)
+
+  rag-bw : (y : ℕ) → Ragged p (g .un) u y → Ragged p (g .un) v y
+  rag-bw y (e, t, b, c) = (e, t, len-bw y e t b, subst (λ (x : List Item). length x < p .cap) (sym (same e y (t .0) (t .1))) c)
+
+  pub untrusted : Facts p g v → Facts p g u
+  untrusted h = record {
+    zones = λ d z t. subst (Zone p g d z) (same d z (t .0) (t .1)) (h .zones d z t);
+    parity = record {
+      whole = λ b. absurd (let q : ⊥ = omega (arith, lost, b) in q);
+      sound = λ m c y s f st x dt. h .parity .sound m c y s f (Stripe-same p u v m y s f (bw m c y) st) x dt;
+    };
+    swap = record {
+      serials = λ y z a b q. h .swap .serials y z (used-bw y a) (used-bw z b) q;
+      below = λ y a. h .swap .below y (used-bw y a);
+      one = λ w o a b q. h .swap .one w o (used-bw w a) (used-bw o b) q;
+      named = h .swap .named;
+      safe = λ w o e. ⊎-elim (λ (k : Whole p (g .un) v o). inl (λ d l n. len-fw o d (l, n) (k d l n)))
+          (λ (k : Moved p (g .un) v w o). inr (record {
+            whole = λ d l n. len-fw w d (l, n) (k .whole d l n);
+            clean = λ m c s f st. Stripe-same p v u (g .un) w s f (fw (g .un) (inr refl) w) (k .clean m c s f (Stripe-same p u v m w s f (bw m c w) st));
+            still = λ m c l s f st x dt.
+                let t : (s′ : ℕ) × (f′ : ℕ → Val) × Stripe p v m o s′ f′ × Datum p s′ f′ x =
+                k .still m c (L-same p u v m o (bw m c o) l) s f (Stripe-same p u v (g .un) w s f (bw (g .un) (inr refl) w) st) x dt in
+                (t .0, t .1, Stripe-same p v u m o (t .0) (t .1) (fw m c o) (t .2), t .3);
+          })) (h .swap .safe w o e);
+    };
+    «open» = record {
+      bound = λ y k. h .«open» .bound y (used-bw y k);
+      ragged = λ y z a b. h .«open» .ragged y z (rag-bw y a) (rag-bw z b);
+      room = ⊎-elim (λ (k : (y : ℕ) × (y < p .Z) × (Used p (g .un) v y → ⊥)). inl (k .0, k .1, λ q. k .2 (used-bw (k .0) q))) (λ k. inr k) (h .«open» .room);
+    };
+    content = record {
+      fresh = λ m c x k. h .content .fresh m c x (Counted-same p g u v m (bw m c) (fw m c) x k);
+      floor = λ a. ⊎-elim (λ k. inl k)
+          (λ (k : (x : Val) × Counted p (g .hd) v (g .un) x × (x .addr ≡ a) × (g .base a ≤ x .stamp)).
+          inr (k .0, Counted-same p g v u (g .un) (fw (g .un) (inr refl)) (bw (g .un) (inr refl)) (k .0) (k .1), k .2, k .3)) (h .content .floor a);
+    };
+  }

@@ -1,0 +1,139 @@
+-- The drives as lists of stored items; one store changes one zone. Assumes nothing.
+use mathlib.Core.Path.{_≡_, refl, sym, ap, ap₂, _∙_, subst}
+use mathlib.Core.List.{List, [], _∷_, _++_}
+use mathlib.Core.Logic.{_⊎_, inl, inr, ⊎-elim, _≢_}
+use Prim.Native.Nat.{ℕ, zero, suc, _+_, _≤_, _<_}
+use native.Mathlib.Omega.{arith}
+use native.Mathlib.Decide.{ℕ-discrete, decLt}
+use lib.ListN.{length, getD, take, length-append}
+use Rattle.proof_crash_machine.specs.Val.{Val}
+
+pub data Item : Type 0 where
+  hdr : ℕ → ℕ → Item
+  chunk : ℕ → Val → Item
+  foot : ℕ → Item
+
+-- drive, zone, what is stored below the pointer
+abbrev pub View : Type 0
+View = ℕ → ℕ → List Item
+
+pub data Store : Type 0 where
+  put : ℕ → ℕ → Item → Store
+  reset : ℕ → ℕ → Store
+
+abbrev pub pick : {P : Type 0} → Dec P → List Item → List Item → List Item
+pick (yes q) a b = a
+pick (no q) a b = b
+
+-- v with l in zone z of drive d
+unfoldable pub upd : View → ℕ → ℕ → List Item → View
+upd v d z l e y = pick (ℕ-discrete e d) (pick (ℕ-discrete y z) l (v e y)) (v e y)
+
+-- the ONLY law of upd that is needed: whatever holds of l, and of v where it isn't d, z
+pub upd-elim : (Q : List Item → Type 0) (v : View) (d z : ℕ) (l : List Item) (e y : ℕ)
+    → (e ≡ d → y ≡ z → Q l) → ((e ≢ d) ⊎ (y ≢ z) → Q (v e y)) → Q (upd v d z l e y)
+unfolding upd
+upd-elim Q v d z l e y h k = go (ℕ-discrete e d) (ℕ-discrete y z)
+  where
+    go : (a : Dec (e ≡ d)) (b : Dec (y ≡ z)) → Q (pick a (pick b l (v e y)) (v e y))
+    go (yes a) (yes b) = h a b
+    go (yes a) (no b) = k (inr b)
+    go (no a) (yes b) = k (inl a)
+    go (no a) (no b) = k (inl a)
+
+pub upd-same : (v : View) (d z : ℕ) (l : List Item) → upd v d z l d z ≡ l
+upd-same v d z l = upd-elim (λ (x : List Item). x ≡ l) v d z l d z (λ p q. refl) (λ w. absurd (⊎-elim (λ n. n refl) (λ n. n refl) w))
+
+pub upd-drive : (v : View) (d z : ℕ) (l : List Item) (e y : ℕ) → e ≢ d → upd v d z l e y ≡ v e y
+upd-drive v d z l e y n = upd-elim (λ (x : List Item). x ≡ v e y) v d z l e y (λ p q. absurd (n p)) (λ w. refl)
+
+pub upd-zone : (v : View) (d z : ℕ) (l : List Item) (e y : ℕ) → y ≢ z → upd v d z l e y ≡ v e y
+upd-zone v d z l e y n = upd-elim (λ (x : List Item). x ≡ v e y) v d z l e y (λ p q. absurd (n q)) (λ w. refl)
+
+unfoldable pub after : View → ℕ → ℕ → Item → View
+after v d z i = upd v d z (v d z ++ (i ∷ []))
+
+unfoldable pub cleared : View → ℕ → ℕ → View
+cleared v d z = upd v d z []
+
+unfoldable pub apply : View → Store → View
+apply v (put d z i) = after v d z i
+apply v (reset d z) = cleared v d z
+
+unfoldable pub applyAll : View → List Store → View
+applyAll v [] = v
+applyAll v (s ∷ ss) = applyAll (apply v s) ss
+
+-- ---- membership
+abbrev pub In : Item → List Item → Type 0
+In i [] = ⊥
+In i (j ∷ l) = (i ≡ j) ⊎ In i l
+
+pub in-left : (i : Item) (l r : List Item) → In i l → In i (l ++ r)
+in-left i [] r m = absurd m
+in-left i (j ∷ l) r (inl e) = inl e
+in-left i (j ∷ l) r (inr m) = inr (in-left i l r m)
+
+pub in-last : (i : Item) (l : List Item) → In i (l ++ (i ∷ []))
+in-last i [] = inl refl
+in-last i (j ∷ l) = inr (in-last i l)
+
+pub in-cases : (i j : Item) (l : List Item) → In i (l ++ (j ∷ [])) → In i l ⊎ (i ≡ j)
+in-cases i j [] (inl e) = inr e
+in-cases i j [] (inr m) = absurd m
+in-cases i j (k ∷ l) (inl e) = inl (inl e)
+in-cases i j (k ∷ l) (inr m) = ⊎-elim (λ (w : In i l). inl (inr w)) (λ (w : i ≡ j). inr w) (in-cases i j l m)
+
+pub in-some : (i : Item) (l : List Item) → In i l → 0 < length l
+in-some i [] m = absurd m
+in-some i (j ∷ l) m = omega arith
+
+pub none-in : (i : Item) (l : List Item) → length l ≡ 0 → In i l → ⊥
+none-in i [] e m = m
+none-in i (j ∷ l) e m = let q : ⊥ = omega arith in q
+
+-- constructors
+pub chunk-val : {s t : ℕ} {x y : Val} → chunk s x ≡ chunk t y → x ≡ y
+chunk-val e = cc
+
+pub chunk-num : {s t : ℕ} {x y : Val} → chunk s x ≡ chunk t y → s ≡ t
+chunk-num e = cc
+
+pub chunk-hdr : {s r c : ℕ} {x : Val} → chunk s x ≡ hdr r c → ⊥
+chunk-hdr e = let z : _≡_ {A = ℕ} 0 1 = cc in let q : ⊥ = omega arith in q
+
+pub chunk-foot : {s k : ℕ} {x : Val} → chunk s x ≡ foot k → ⊥
+chunk-foot e = let z : _≡_ {A = ℕ} 0 1 = cc in let q : ⊥ = omega arith in q
+
+-- ---- a power cut: some prefix of a call's stores
+abbrev pub AllS : (Store → Type 0) → List Store → Type 0
+AllS Ok [] = Unit {0}
+AllS Ok (s ∷ ss) = Ok s × AllS Ok ss
+
+-- what each store keeps holds after every prefix
+pub along : (I : View → Type 0) (Ok : Store → Type 0) → ((v : View) (s : Store) → Ok s → I v → I (apply v s))
+    → (ss : List Store) → AllS Ok ss → (v : View) → I v → (k : ℕ) → I (applyAll v (take k ss))
+unfolding applyAll
+along I Ok step [] a v i zero = i
+along I Ok step [] a v i (suc k) = i
+along I Ok step (s ∷ ss) a v i zero = i
+along I Ok step (s ∷ ss) a v i (suc k) = along I Ok step ss (a .1) (apply v s) (step v s (a .0) i) k
+
+pub along-all : (I : View → Type 0) (Ok : Store → Type 0) → ((v : View) (s : Store) → Ok s → I v → I (apply v s))
+    → (ss : List Store) → AllS Ok ss → (v : View) → I v → I (applyAll v ss)
+unfolding applyAll
+along-all I Ok step [] a v i = i
+along-all I Ok step (s ∷ ss) a v i = along-all I Ok step ss (a .1) (apply v s) (step v s (a .0) i)
+
+-- the resets of a segment, drives d .. d + n - 1
+unfoldable pub resets : ℕ → ℕ → ℕ → List Store
+resets z d zero = []
+resets z d (suc n) = reset d z ∷ resets z (suc d) n
+
+abbrev pub ResetOf : ℕ → ℕ → Store → Type 0
+ResetOf n z s = (d : ℕ) × (d < n) × (s ≡ reset d z)
+
+pub resets-are : (m z d n : ℕ) → d + n ≤ m → AllS (ResetOf m z) (resets z d n)
+unfolding resets
+resets-are m z d zero h = tt
+resets-are m z d (suc n) h = ((d, omega arith, refl), resets-are m z (suc d) n (omega arith))

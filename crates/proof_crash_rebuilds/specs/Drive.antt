@@ -1,0 +1,310 @@
+-- Rebuild: all of the drive. Wherever it is cut, and where it ends. Assumes nothing.
+use mathlib.Core.Path.{_≡_, refl, sym, ap, _∙_, subst}
+use mathlib.Core.List.{List, [], _∷_, _++_, map}
+use mathlib.Core.Bool.{Bool}
+use mathlib.Core.Logic.{_⊎_, inl, inr, ⊎-elim, _≢_}
+use Prim.Native.Nat.{ℕ, zero, suc, _<_}
+use native.Mathlib.Decide.{decLt, ℕ-discrete}
+use native.Mathlib.Omega.{arith}
+use lib.ListN.{take}
+use Rattle.spec.specs.declared.Params.{Params}
+use Rattle.spec.specs.Drives.{Zone, stored, View, zoneAt, pointerAt, Store, putZone, resetZone, storeView, storeAll}
+use Rattle.spec.specs.Drives.Store.{put, reset}
+use Rattle.spec.specs.Lists.{below, flat}
+use Rattle.spec.specs.Params.{named}
+use Rattle.spec.specs.Rebuild.{rebuiltZone, rebuildStores}
+use Rattle.spec.specs.Segments.{remaining, Segment, segmentOf, segments}
+use Rattle.law_basic.specs.Geometry.{Ranged}
+use Rattle.law_basic.specs.Stores.{storeAll-append}
+use Rattle.proof_crash_machine.specs.Facts.{Ghost, Choice, R}
+use Rattle.proof_crash_machine.specs.History.{Mode}
+use Rattle.proof_crash_machine.specs.History.Mode.{off, ro}
+use Rattle.proof_crash_machine.specs.History.Step.{rebuild as m-rebuild, rebuild-store, rebuild-done}
+use Rattle.proof_crash_machine.specs.Image.{items}
+use Rattle.proof_crash_machine.specs.Put.{drive-other}
+use Rattle.proof_crash_machine.specs.Rebuild.{withUn, Rebuilt as m-Rebuilt}
+use Rattle.proof_crash_machine.specs.Rebuild2.{puts, puts-here, puts-other, column, stored as m-stored}
+use Rattle.proof_crash_machine.specs.Steps.{applyAll-append}
+use Rattle.proof_crash_machine.specs.Val.{Val}
+use Rattle.proof_crash_machine.specs.View.{Item, View as m-View, Store as m-Store, after, apply, applyAll}
+use Rattle.proof_crash_machine.specs.View.Store.{reset as m-reset}
+use Rattle.proof_crash_items.specs.Items.{itemsFrom, itemsOf, itemsIn, items-in, storeItem, storeItems}
+use Rattle.proof_crash_items.specs.Member.{Has, append-has, below-has, has-below, flat-has, map-has}
+use Rattle.proof_crash_items.specs.Ranges.{parOf}
+use Rattle.proof_crash_items.specs.Refuse.{Rising, remaining-rising}
+use Rattle.proof_crash_items.specs.SegFacts.{seg-low, seg-R}
+use Rattle.proof_crash_items.specs.Segs.{OnDrives, has-remaining}
+use Rattle.proof_crash_items.specs.Shape.{Shape, zone-set, zone-set-other, shape-store}
+use Rattle.proof_crash_items.specs.Sound.{AllSound, BytesOn, BytesOk, sound-fits, bytes-stores, sound-take, sound-drop, Follows, follows-nil, follows-append, follows-all}
+use Rattle.proof_crash_items.specs.Start.{outside-nothing}
+use Rattle.proof_crash_items.specs.Stripes.{pointer-is}
+use Rattle.proof_crash_items.specs.ZoneBytes.{bytes-empty}
+use Rattle.proof_crash_restarts.specs.Link.{stateOn, Linked, linked-step, shape-after, shape-cut, bytes-after, bytes-cut}
+use Rattle.proof_crash_restarts.specs.Missing.{missing-on}
+use Rattle.proof_crash_restarts.specs.Order.{pointer-zone}
+use Rattle.proof_crash_rebuilds.specs.Column.{plan, column-foots}
+use Rattle.proof_crash_rebuilds.specs.Zones.{on-other, zoneItems, zone-follows, zone-on}
+
+-- ---- the machine's runs of puts
+
+pub puts-drive : (x : m-View) (d z : ℕ) (l : List Item) (e y : ℕ) → e ≢ d → applyAll x (puts d z l) e y ≡ x e y
+unfolding puts applyAll apply
+puts-drive x d z [] e y n = refl
+puts-drive x d z (i ∷ l) e y n = puts-drive (after x d z i) d z l e y n ∙ drive-other x d z i e y n
+
+flat-drive : (f : ℕ → List Item) (d : ℕ) (l : List ℕ) (x : m-View) (e y : ℕ) → e ≢ d → applyAll x (flat (λ z. puts d z (f z)) l) e y ≡ x e y
+unfolding flat applyAll
+flat-drive f d [] x e y n = refl
+flat-drive f d (z ∷ l) x e y n =
+    ap (λ (u : m-View). u e y) (applyAll-append x (puts d z (f z)) (flat (λ z. puts d z (f z)) l)) ∙ flat-drive f d l (applyAll x (puts d z (f z))) e y n ∙ puts-drive x d z (f z) e y n
+
+flat-none : (f : ℕ → List Item) (d : ℕ) (l : List ℕ) (x : m-View) (y : ℕ) → (Has y l → ⊥) → applyAll x (flat (λ z. puts d z (f z)) l) d y ≡ x d y
+unfolding flat applyAll
+flat-none f d [] x y n = refl
+flat-none f d (z ∷ l) x y n = ap (λ (u : m-View). u d y) (applyAll-append x (puts d z (f z)) (flat (λ z. puts d z (f z)) l))
+    ∙ flat-none f d l (applyAll x (puts d z (f z))) y (λ i. n (inr i)) ∙ puts-other x d z (f z) d y (λ e. n (inl e))
+
+flat-one : (f : ℕ → List Item) (d : ℕ) (l : List ℕ) → Rising l → (x : m-View) (y : ℕ) → Has y l → applyAll x (flat (λ z. puts d z (f z)) l) d y ≡ x d y ++ f y
+unfolding flat applyAll
+flat-one f d [] r x y i = absurd i
+flat-one f d (z ∷ l) r x y (inl e) = ap (λ (u : m-View). u d y) (applyAll-append x (puts d z (f z)) (flat (λ z. puts d z (f z)) l))
+    ∙ flat-none f d l (applyAll x (puts d z (f z))) y (λ i. let q : ⊥ = omega (arith, e, r .0 y i) in q) ∙ rw e (puts-here x d z (f z))
+flat-one f d (z ∷ l) r x y (inr i) = ap (λ (u : m-View). u d y) (applyAll-append x (puts d z (f z)) (flat (λ z. puts d z (f z)) l))
+    ∙ flat-one f d l (r .1) (applyAll x (puts d z (f z))) y i ∙ ap (λ (q : List Item). q ++ f y) (puts-other x d z (f z) d y (λ e. let q : ⊥ = omega (arith, e, r .0 y i) in q))
+
+-- ---- resets of the drive
+
+resets-follow : (p : Params) (d : ℕ) → d < p .N → (l : List ℕ) → ((z : ℕ) → Has z l → z < p .Z) → (v : View) → Follows p v (map (λ z. reset d z) l) (map (λ z. m-reset d z) l)
+unfolding storeItems storeItem
+resets-follow p d b [] h v = record { sound = tt; items = refl }
+resets-follow p d b (z ∷ l) h v =
+    let a : Follows p (storeView (reset d z) v) (map (λ z. reset d z) l) (map (λ z. m-reset d z) l) = resets-follow p d b l (λ e i. h e (inr i)) (storeView (reset d z) v) in
+    record { sound = ((b, h z (inl refl)), a .sound); items = ap (λ (x : List m-Store). m-reset d z ∷ x) (a .items) }
+
+reset-step-zero : (p : Params) (d z : ℕ) → d < p .N → z < p .Z → (v : View) → Shape p v → (y : ℕ) → (pointerAt v d y ≡ 0) ⊎ (y ≡ z) → pointerAt (storeView (reset d z) v) d y ≡ 0
+reset-step-zero p d z l b v s y q = go (ℕ-discrete y z) q
+  where
+    at : pointerAt (storeView (reset d z) v) d z ≡ 0
+    at = unfold storeView pointerAt in (ap (λ (x : Zone). x .pointer) (zone-set p v s d z (resetZone (zoneAt v d z)) l b) ∙ (unfold resetZone in refl))
+
+    other : y ≢ z → pointerAt (storeView (reset d z) v) d y ≡ pointerAt v d y
+    other n = pointer-zone (storeView (reset d z) v) v d y (unfold storeView in zone-set-other p v s d z (resetZone (zoneAt v d z)) l d y (inr n))
+
+    go : Dec (y ≡ z) → (pointerAt v d y ≡ 0) ⊎ (y ≡ z) → pointerAt (storeView (reset d z) v) d y ≡ 0
+    go (yes e) w = ap (pointerAt (storeView (reset d z) v) d) e ∙ at
+    go (no n) (inl w) = other n ∙ w
+    go (no n) (inr w) = absurd (n w)
+
+drive-resets-zero : (p : Params) → Ranged p → (d : ℕ) → d < p .N → (l : List ℕ) → ((z : ℕ) → Has z l → z < p .Z) → (v : View) → Shape p v → (y : ℕ) → (pointerAt v d y ≡ 0) ⊎ Has y l
+    → pointerAt (storeAll storeView (map (λ z. reset d z) l) v) d y ≡ 0
+unfolding storeAll
+drive-resets-zero p r d b [] h v s y (inl q) = q
+drive-resets-zero p r d b [] h v s y (inr q) = absurd q
+drive-resets-zero p r d b (z ∷ l) h v s y q =
+    drive-resets-zero p r d b l (λ e i. h e (inr i)) (storeView (reset d z) v) (shape-store p v (reset d z) s (b, h z (inl refl))) y (go q)
+  where
+    go : (pointerAt v d y ≡ 0) ⊎ Has y (z ∷ l) → (pointerAt (storeView (reset d z) v) d y ≡ 0) ⊎ Has y l
+    go (inl w) = inl (reset-step-zero p d z b (h z (inl refl)) v s y (inl w))
+    go (inr (inl w)) = inl (reset-step-zero p d z b (h z (inl refl)) v s y (inr w))
+    go (inr (inr w)) = inr w
+
+drive-resets-other : (p : Params) → Ranged p → (d : ℕ) → d < p .N → (l : List ℕ) → ((z : ℕ) → Has z l → z < p .Z) → (v : View) → Shape p v → (e y : ℕ) → e ≢ d
+    → zoneAt (storeAll storeView (map (λ z. reset d z) l) v) e y ≡ zoneAt v e y
+unfolding storeAll
+drive-resets-other p r d b [] h v s e y n = refl
+drive-resets-other p r d b (z ∷ l) h v s e y n =
+    drive-resets-other p r d b l (λ e i. h e (inr i)) (storeView (reset d z) v) (shape-store p v (reset d z) s (b, h z (inl refl))) e y n
+    ∙ (unfold storeView in zone-set-other p v s d z (resetZone (zoneAt v d z)) b e y (inl n))
+
+flat-map : {A B C : Type 0} (f : B → List C) (h : A → B) (l : List A) → flat f (map h l) ≡ flat (λ (a : A). f (h a)) l
+unfolding flat
+flat-map f h [] = refl
+flat-map {C = C} f h (a ∷ l) = ap (λ (x : List C). f (h a) ++ x) (flat-map f h l)
+
+-- ---- the rebuild
+
+module _ (p : Params) (r : Ranged p) (v : View) (g : Ghost) (a : List Val) (s : Bool) (mo : Mode) (lk : Linked p r v g a s mo) (d : ℕ) (dl : d < p .N) (ch : Choice (parOf p r) (g .un) d) where
+  abbrev gD : Ghost
+  gD = withUn g d
+
+  abbrev kD : OnDrives p r (withUn g d) v
+  kD = missing-on p r v v g a s mo lk d dl ch (lk .shape) (λ e y l n. refl)
+
+  abbrev gs : List Segment
+  gs = segments p v (named d)
+
+  abbrev rem : List ℕ
+  rem = remaining p v (named d)
+
+  -- it starts: from now on the drive isn't trusted
+  pub started : Linked p r v (withUn g d) a s ro
+  started = linked-step p r v v g (withUn g d) a a s s mo ro (itemsIn p v) lk (m-rebuild (stateOn p v g a s mo) d dl ch) refl (lk .shape) (kD .bytes)
+
+  abbrev v₁ : View
+  v₁ = storeAll storeView (map (λ z. reset d z) (below (p .Z))) v
+
+  low : (z : ℕ) → Has z (below (p .Z)) → z < p .Z
+  low z i = below-has z (p .Z) i
+
+  first : Follows p v (map (λ z. reset d z) (below (p .Z))) (map (λ z. m-reset d z) (below (p .Z)))
+  first = resets-follow p d dl (below (p .Z)) low v
+
+  shape₁ : Shape p v₁
+  shape₁ = shape-after p r v (map (λ z. reset d z) (below (p .Z))) (map (λ z. m-reset d z) (below (p .Z))) (lk .shape) first
+
+  zero₁ : (z : ℕ) → z < p .Z → pointerAt v₁ d z ≡ 0
+  zero₁ z b = drive-resets-zero p r d dl (below (p .Z)) low v (lk .shape) z (inr (has-below z (p .Z) b))
+
+  -- zone after zone
+  zones-follow : (l : List ℕ) → Rising l → ((z : ℕ) → Has z l → Has z (remaining p v (named d))) → (w : View) → Shape p w → ((z : ℕ) → Has z l → pointerAt w d z ≡ 0)
+      → Follows p w (flat (λ z. rebuiltZone p d (segmentOf p v (named d) z)) l) (flat (λ z. puts d z (zoneItems p r (withUn g d) v kD d (inr refl) z)) l)
+  unfolding flat
+  zones-follow [] q h w sh e = follows-nil p w
+  zones-follow (z ∷ l) q h w sh e =
+      let f : Follows p w (rebuiltZone p d (segmentOf p v (named d) z)) (puts d z (zoneItems p r (withUn g d) v kD d (inr refl) z)) =
+      zone-follows p r (withUn g d) v kD d (inr refl) dl z (h z (inl refl)) w sh (e z (inl refl)) in
+      let sh′ : Shape p (storeAll storeView (rebuiltZone p d (segmentOf p v (named d) z)) w) =
+      shape-after p r w (rebuiltZone p d (segmentOf p v (named d) z)) (puts d z (zoneItems p r (withUn g d) v kD d (inr refl) z)) sh f in
+      follows-append p w (rebuiltZone p d (segmentOf p v (named d) z)) (flat (λ z. rebuiltZone p d (segmentOf p v (named d) z)) l)
+      (puts d z (zoneItems p r (withUn g d) v kD d (inr refl) z)) (flat (λ z. puts d z (zoneItems p r (withUn g d) v kD d (inr refl) z)) l) f
+      (zones-follow l (q .1) (λ y i. h y (inr i)) (storeAll storeView (rebuiltZone p d (segmentOf p v (named d) z)) w) sh′ (λ y i.
+      pointer-zone (storeAll storeView (rebuiltZone p d (segmentOf p v (named d) z)) w) w d y
+      (on-other p r d z (rebuiltZone p d (segmentOf p v (named d) z)) w sh (f .sound)
+      (zone-on p r (withUn g d) v kD d (inr refl) dl z (h z (inl refl))) dl d y (inr (λ x. let j : ⊥ = omega (arith, x, q .0 y i) in j)))
+      ∙ e y (inr i)))
+
+  abbrev ms : List m-Store
+  ms = map (λ z. m-reset d z) (below (p .Z)) ++ flat (λ z. puts d z (zoneItems p r (withUn g d) v kD d (inr refl) z)) (remaining p v (named d))
+
+  abbrev ss : List Store
+  ss = rebuildStores p d (segments p v (named d))
+
+  pub rebuild-follows : Follows p v ss ms
+  unfolding rebuildStores segments
+  rebuild-follows = subst (λ (x : List Store). Follows p v (map (λ z. reset d z) (below (p .Z)) ++ x) ms) (sym (flat-map (rebuiltZone p d) (segmentOf p v (named d)) (remaining p v (named d))))
+      (follows-append p v (map (λ z. reset d z) (below (p .Z))) (flat (λ z. rebuiltZone p d (segmentOf p v (named d) z)) (remaining p v (named d)))
+      (map (λ z. m-reset d z) (below (p .Z))) (flat (λ z. puts d z (zoneItems p r (withUn g d) v kD d (inr refl) z)) (remaining p v (named d)))
+      first
+      (zones-follow (remaining p v (named d)) (remaining-rising p v (named d)) (λ z i. i) v₁ shape₁ (λ z i. zero₁ z (seg-low p r (withUn g d) v kD d (inr refl) z i))))
+
+  -- ---- the other drives are untouched
+  abbrev OnDrive : Store → Type 0
+  OnDrive x = ((z : ℕ) × (x ≡ reset d z)) ⊎ ((z : ℕ) × (b : List ℕ) × (t : List ℕ) × (x ≡ put d z b t))
+
+  on-drive : (x : Store) → Has x ss → OnDrive x
+  unfolding rebuildStores segments
+  on-drive x i = ⊎-elim
+      (λ (q : Has x (map (λ z. reset d z) (below (p .Z)))). let z : (z : ℕ) × Has z (below (p .Z)) × (x ≡ reset d z) = map-has (λ z. reset d z) x (below (p .Z)) q in inl (z .0, z .2))
+      (λ (q : Has x (flat (rebuiltZone p d) (map (segmentOf p v (named d)) (remaining p v (named d))))).
+      let y : (y : Segment) × Has y (map (segmentOf p v (named d)) (remaining p v (named d))) × Has x (rebuiltZone p d y) =
+      flat-has (rebuiltZone p d) x (map (segmentOf p v (named d)) (remaining p v (named d))) q in
+      let z : (z : ℕ) × Has z (remaining p v (named d)) × (y .0 ≡ segmentOf p v (named d) z) = map-has (segmentOf p v (named d)) (y .0) (remaining p v (named d)) (y .1) in
+      let w : (b : List ℕ) × (t : List ℕ) × (x ≡ put d (z .0) b t) = zone-on p r (withUn g d) v kD d (inr refl) dl (z .0) (z .1) x (subst (λ (k : Segment). Has x (rebuiltZone p d k)) (z .2) (y .2)) in
+      inr (z .0, w .0, w .1, w .2)) (append-has x (map (λ z. reset d z) (below (p .Z))) (flat (rebuiltZone p d) (map (segmentOf p v (named d)) (remaining p v (named d)))) i)
+
+  stores-other : (l : List Store) (w : View) → Shape p w → AllSound p w l → ((x : Store) → Has x l → OnDrive x) → (e y : ℕ) → e ≢ d → zoneAt (storeAll storeView l w) e y ≡ zoneAt w e y
+  unfolding storeAll
+  stores-other [] w sh f h e y n = refl
+  stores-other (x ∷ l) w sh f h e y n =
+      stores-other l (storeView x w) (shape-store p w x sh (sound-fits p r w x sh (f .0))) (f .1) (λ t i. h t (inr i)) e y n ∙ one (h x (inl refl))
+    where
+      one : OnDrive x → zoneAt (storeView x w) e y ≡ zoneAt w e y
+      one (inl (z, q)) = ap (λ (t : Store). zoneAt (storeView t w) e y) q ∙ (unfold storeView in zone-set-other p w sh d z (resetZone (zoneAt w d z)) dl e y (inl n))
+      one (inr (z, b, t, q)) = ap (λ (t : Store). zoneAt (storeView t w) e y) q ∙ (unfold storeView in zone-set-other p w sh d z (putZone b t (zoneAt w d z)) dl e y (inl n))
+
+  has-take : (n : ℕ) (l : List Store) (x : Store) → Has x (take n l) → Has x l
+  has-take zero l x i = absurd i
+  has-take (suc n) [] x i = absurd i
+  has-take (suc n) (y ∷ l) x (inl e) = inl e
+  has-take (suc n) (y ∷ l) x (inr i) = inr (has-take n l x i)
+
+  -- wherever it is cut
+  pub rebuild-cut : (n : ℕ) → Linked p r (storeAll storeView (take n ss) v) (withUn g d) a s off
+  rebuild-cut n = linked-step p r v (storeAll storeView (take n ss) v) (withUn g d) (withUn g d) a a s s ro off (itemsIn p (storeAll storeView (take n ss) v)) started
+      (rebuild-store (stateOn p v (withUn g d) a s ro) (itemsIn p (storeAll storeView (take n ss) v)) dl (λ e y l q. items-same e y q) off (inr refl)) refl
+      (shape-cut p r v ss ms (lk .shape) rebuild-follows n) (bytes-cut p r v ss ms (lk .shape) rebuild-follows d n (kD .bytes))
+    where
+      items-same : (e y : ℕ) → e ≢ d → itemsIn p v e y ≡ itemsIn p (storeAll storeView (take n ss) v) e y
+      items-same e y q = items-in p v e y ∙ ap (itemsOf p) (sym (stores-other (take n ss) v (lk .shape) (sound-take p v ss n (rebuild-follows .sound)) (λ x i. on-drive x (has-take n ss x i)) e y q))
+          ∙ sym (items-in p (storeAll storeView (take n ss) v) e y)
+
+  -- ---- the end
+  abbrev u : View
+  u = storeAll storeView ss v
+
+  shape-u : Shape p u
+  shape-u = shape-after p r v ss ms (lk .shape) rebuild-follows
+
+  items-u : itemsIn p u ≡ applyAll (applyAll (itemsIn p v) (map (λ z. m-reset d z) (below (p .Z)))) (flat (λ z. puts d z (zoneItems p r (withUn g d) v kD d (inr refl) z)) (remaining p v (named d)))
+  items-u =
+      follows-all p r v ss ms (lk .shape) rebuild-follows
+      ∙ applyAll-append (itemsIn p v) (map (λ z. m-reset d z) (below (p .Z)))
+      (flat (λ z. puts d z (zoneItems p r (withUn g d) v kD d (inr refl) z)) (remaining p v (named d)))
+
+  emptied : (z : ℕ) → z < p .Z → applyAll (itemsIn p v) (map (λ z. m-reset d z) (below (p .Z))) d z ≡ []
+  emptied z b = ap (λ (x : m-View). x d z) (sym (follows-all p r v (map (λ z. reset d z) (below (p .Z))) (map (λ z. m-reset d z) (below (p .Z))) (lk .shape) first))
+      ∙ items-in p v₁ d z ∙ none-stored (zoneAt v₁ d z) (pointer-is v₁ d z ∙ zero₁ z b)
+    where
+      none-stored : (q : Zone) → q .pointer ≡ 0 → itemsOf p q ≡ []
+      none-stored q e = unfold itemsOf stored in (ap (λ (n : ℕ). itemsFrom p 0 (take n (q .blocks))) e ∙ (unfold itemsFrom in refl))
+
+  full-u :
+      (z : ℕ)
+      → R (parOf p r) (g .hd) (itemsIn p v) d z
+      → itemsIn p u d z ≡ column (parOf p r) (withUn g d) (itemsIn p v) (plan p r (withUn g d) v kD dl) z (plan p r (withUn g d) v kD dl .foots z)
+  full-u z rr =
+      let i : Has z (remaining p v (named d)) = has-remaining p r (withUn g d) v kD d (inr refl) z rr in
+      ap (λ (x : m-View). x d z) items-u
+      ∙ flat-one (zoneItems p r (withUn g d) v kD d (inr refl)) d (remaining p v (named d)) (remaining-rising p v (named d)) (applyAll (itemsIn p v) (map (λ z. m-reset d z) (below (p .Z)))) z i
+      ∙ ap (λ (x : List Item). x ++ zoneItems p r (withUn g d) v kD d (inr refl) z) (emptied z (seg-low p r (withUn g d) v kD d (inr refl) z i))
+      ∙ sym (column-foots p r (withUn g d) v kD dl z i)
+
+  none-u : (z : ℕ) → (R (parOf p r) (g .hd) (itemsIn p v) d z → ⊥) → itemsIn p u d z ≡ []
+  none-u z n = go (decLt z (p .Z))
+    where
+      go : Dec (z < p .Z) → itemsIn p u d z ≡ []
+      go (no b) = outside-nothing p u shape-u d z (λ x y. b y)
+      go (yes b) = ap (λ (x : m-View). x d z) items-u
+          ∙ flat-none (zoneItems p r (withUn g d) v kD d (inr refl)) d (remaining p v (named d))
+          (applyAll (itemsIn p v) (map (λ z. m-reset d z) (below (p .Z)))) z (λ i. n (seg-R p r (withUn g d) v kD d (inr refl) z i))
+          ∙ emptied z b
+
+  same-u : (e y : ℕ) → e < p .N → e ≢ d → itemsIn p v e y ≡ itemsIn p u e y
+  same-u e y l n = items-in p v e y ∙ ap (itemsOf p) (sym (stores-other ss v (lk .shape) (rebuild-follows .sound) on-drive e y n)) ∙ sym (items-in p u e y)
+
+  rebuilt? : m-Rebuilt (parOf p r) (withUn g d) (itemsIn p v) (itemsIn p u)
+  rebuilt? = m-stored (parOf p r) (withUn g d) (itemsIn p v) (plan p r (withUn g d) v kD dl) (itemsIn p u) (kD .facts) dl same-u full-u none-u
+
+  -- the byte facts hold of all drives
+  bytes-u : BytesOk p (p .N) u
+  bytes-u e l n = go (ℕ-discrete e d)
+    where
+      go : Dec (e ≡ d) → BytesOn p u e
+      go (no q) = bytes-after p r v ss ms (lk .shape) rebuild-follows d (kD .bytes) e l q
+      go (yes q) = subst (BytesOn p u) (sym q) drive
+        where
+          ts : List Store
+          ts = flat (rebuiltZone p d) (segments p v (named d))
+
+          second : AllSound p v₁ ts
+          second = tail-sound (map (λ z. reset d z) (below (p .Z))) v (reveal (rebuild-follows .sound))
+            where
+              reveal : AllSound p v ss → AllSound p v (map (λ z. reset d z) (below (p .Z)) ++ flat (rebuiltZone p d) (segments p v (named d)))
+              reveal q = unfold rebuildStores in q
+
+              tail-sound :
+                  (l : List Store) (w : View)
+                  → AllSound p w (l ++ flat (rebuiltZone p d) (segments p v (named d)))
+                  → AllSound p (storeAll storeView l w) (flat (rebuiltZone p d) (segments p v (named d)))
+              tail-sound l w f = sound-drop p w l (flat (rebuiltZone p d) (segments p v (named d))) f
+
+          drive : BytesOn p u d
+          drive = subst (λ (x : View). BytesOn p x d) (sym split) (bytes-stores p r v₁ ts shape₁ second d (λ z b. bytes-empty p d z (zoneAt v₁ d z) (pointer-is v₁ d z ∙ zero₁ z b)))
+            where
+              split : u ≡ storeAll storeView ts v₁
+              split = unfold rebuildStores in storeAll-append storeView (map (λ z. reset d z) (below (p .Z))) (flat (rebuiltZone p d) (segments p v (named d))) v
+
+  pub rebuild-end : Linked p r u (withUn (withUn g d) (p .N)) a s ro
+  rebuild-end =
+      linked-step p r v u (withUn g d) (withUn (withUn g d) (p .N)) a a s s ro ro (itemsIn p u) started
+      (rebuild-done (stateOn p v (withUn g d) a s ro) (itemsIn p u) (p .N) (omega arith) dl rebuilt?) refl shape-u bytes-u

@@ -1,0 +1,192 @@
+-- Restart, 4: the resets of dropped segments are the machine's. Assumes nothing.
+use mathlib.Core.Path.{_≡_, refl, sym, ap, _∙_, subst}
+use mathlib.Core.List.{List, [], _∷_, map}
+use mathlib.Core.Bool.{true, not}
+use mathlib.Core.Logic.{inl, inr, _≢_}
+use Prim.Native.Nat.{ℕ, _≤_, _<_}
+use borrow.Author.Tests.{eq-eqb, ne-eqb}
+use native.Mathlib.Omega.{arith}
+use lib.Dec.{eqb}
+use Rattle.spec.specs.declared.Params.{Params}
+use Rattle.spec.specs.Drives.{Zone, View, zoneAt, pointerAt, resetZone, storeView, storeAll, segmentNumbers, zoneOn, resetStores}
+use Rattle.spec.specs.Drives.Store.{reset}
+use Rattle.spec.specs.Lists.Opt.{none}
+use Rattle.spec.specs.Lists.{below, any, flat}
+use Rattle.spec.specs.Params.{noDrive, named, drivesOf}
+use Rattle.spec.specs.Restart.{freeZones, dropStores}
+use Rattle.spec.specs.Segments.{remaining, Segment, segmentOf, segments}
+use Rattle.law_basic.specs.Geometry.{Ranged}
+use Rattle.law_basic.specs.Stores.{storeAll-append}
+use Rattle.proof_crash_machine.specs.Drop.{DropOf}
+use Rattle.proof_crash_machine.specs.Exec.{not-2}
+use Rattle.proof_crash_machine.specs.Facts.{Ghost, Used}
+use Rattle.proof_crash_machine.specs.History.{Dropping}
+use Rattle.proof_crash_machine.specs.Image.{items}
+use Rattle.proof_crash_machine.specs.Reset.{gone}
+use Rattle.proof_crash_machine.specs.Rest.{InS, Dropped}
+use Rattle.proof_crash_machine.specs.View.{Store as m-Store, AllS}
+use Rattle.proof_crash_machine.specs.View.Store.{reset as m-reset}
+use Rattle.proof_crash_items.specs.Items.{itemsIn, storeItem, storeItems}
+use Rattle.proof_crash_items.specs.Member.{Has, keep-has, has-keep, below-has, has-below, has-any, none-any, flat-has, has-flat, map-has, has-map}
+use Rattle.proof_crash_items.specs.Ranges.{parOf}
+use Rattle.proof_crash_items.specs.Segs.{OnDrives, has-remaining, remaining-has}
+use Rattle.proof_crash_items.specs.Shape.{Shape, zone-set, zone-set-other, set-elim, shape-store, shape-stores}
+use Rattle.proof_crash_items.specs.Sound.{all-fit, Follows}
+use Rattle.proof_crash_restarts.specs.Order.{all-S, in-S, follows-flat}
+use Rattle.proof_crash_restarts.specs.Same.{R-none-any}
+
+unfoldable pub dropItems : Params → List Segment → List m-Store
+dropItems p gs = flat (λ z. map (λ d. m-reset d z) (drivesOf p)) (freeZones p gs)
+
+-- resets on one segment follow, whatever the drives hold
+resets-follow : (p : Params) (z : ℕ) → z < p .Z → (l : List ℕ) → ((d : ℕ) → Has d l → d < p .N) → (v : View) → Follows p v (map (λ d. reset d z) l) (map (λ d. m-reset d z) l)
+unfolding storeItems storeItem
+resets-follow p z b [] h v = record { sound = tt; items = refl }
+resets-follow p z b (d ∷ l) h v =
+    let a : Follows p (storeView (reset d z) v) (map (λ d. reset d z) l) (map (λ d. m-reset d z) l) = resets-follow p z b l (λ e i. h e (inr i)) (storeView (reset d z) v) in
+    record { sound = ((h d (inl refl), b), a .sound); items = ap (λ (x : List m-Store). m-reset d z ∷ x) (a .items) }
+
+pub reset-follows : (p : Params) (z : ℕ) → z < p .Z → (v : View) → Follows p v (resetStores p z) (map (λ d. m-reset d z) (drivesOf p))
+unfolding resetStores zoneOn
+reset-follows p z b v = resets-follow p z b (drivesOf p) (λ d i. (unfold drivesOf in below-has d (p .N) i)) v
+
+-- ---- what resets leave
+
+-- zones of other segments
+pub resets-other : (p : Params) (z : ℕ) → z < p .Z → (l : List ℕ) → ((d : ℕ) → Has d l → d < p .N) → (v : View) → Shape p v → (e y : ℕ) → y ≢ z
+    → zoneAt (storeAll storeView (map (λ d. reset d z) l) v) e y ≡ zoneAt v e y
+unfolding storeAll
+resets-other p z b [] h v s e y n = refl
+resets-other p z b (d ∷ l) h v s e y n =
+    resets-other p z b l (λ e i. h e (inr i)) (storeView (reset d z) v) (shape-store p v (reset d z) s (h d (inl refl), b)) e y n
+    ∙ one
+  where
+    one : zoneAt (storeView (reset d z) v) e y ≡ zoneAt v e y
+    one = unfold storeView in zone-set-other p v s d z (resetZone (zoneAt v d z)) (h d (inl refl)) e y (inr n)
+
+-- pointers that are 0 stay 0
+zero-kept : (p : Params) (z d : ℕ) → z < p .Z → d < p .N → (v : View) → Shape p v → (e y : ℕ) → pointerAt v e y ≡ 0 → pointerAt (storeView (reset d z) v) e y ≡ 0
+unfolding storeView pointerAt resetZone
+zero-kept p z d b l v s e y q = set-elim p v s (λ (i j : ℕ) (x : Zone). x .pointer ≡ 0) d z (resetZone (zoneAt v d z)) l b refl e y q
+
+zeros-kept : (p : Params) (z : ℕ) → z < p .Z → (l : List ℕ) → ((d : ℕ) → Has d l → d < p .N) → (v : View) → Shape p v → (e y : ℕ) → pointerAt v e y ≡ 0
+    → pointerAt (storeAll storeView (map (λ d. reset d z) l) v) e y ≡ 0
+unfolding storeAll
+zeros-kept p z b [] h v s e y q = q
+zeros-kept p z b (d ∷ l) h v s e y q =
+    zeros-kept p z b l (λ e i. h e (inr i)) (storeView (reset d z) v) (shape-store p v (reset d z) s (h d (inl refl), b)) e y (zero-kept p z d b (h d (inl refl)) v s e y q)
+
+zero-made : (p : Params) (z d : ℕ) → z < p .Z → d < p .N → (v : View) → Shape p v → pointerAt (storeView (reset d z) v) d z ≡ 0
+unfolding storeView pointerAt
+zero-made p z d b l v s = ap (λ (x : Zone). x .pointer) (zone-set p v s d z (resetZone (zoneAt v d z)) l b) ∙ (unfold resetZone in refl)
+
+pub resets-zero : (p : Params) (z : ℕ) → z < p .Z → (l : List ℕ) → ((d : ℕ) → Has d l → d < p .N) → (v : View) → Shape p v → (e : ℕ) → Has e l
+    → pointerAt (storeAll storeView (map (λ d. reset d z) l) v) e z ≡ 0
+unfolding storeAll
+resets-zero p z b [] h v s e i = absurd i
+resets-zero p z b (d ∷ l) h v s e (inl q) =
+    zeros-kept p z b l (λ e i. h e (inr i)) (storeView (reset d z) v) (shape-store p v (reset d z) s (h d (inl refl), b)) e z
+    (subst (λ (x : ℕ). pointerAt (storeView (reset d z) v) x z ≡ 0) (sym q) (zero-made p z d b (h d (inl refl)) v s))
+resets-zero p z b (d ∷ l) h v s e (inr i) = resets-zero p z b l (λ e i. h e (inr i)) (storeView (reset d z) v) (shape-store p v (reset d z) s (h d (inl refl), b)) e i
+
+-- ---- all dropped segments
+
+module _ (p : Params) (r : Ranged p) where
+  drives-low : (d : ℕ) → Has d (drivesOf p) → d < p .N
+  unfolding drivesOf
+  drives-low d i = below-has d (p .N) i
+
+  shape-resets : (z : ℕ) → z < p .Z → (v : View) → Shape p v → Shape p (storeAll storeView (resetStores p z) v)
+  shape-resets z b v s = shape-stores p v (resetStores p z) s (all-fit p r v (resetStores p z) s (reset-follows p z b v .sound))
+
+  pub all-other : (l : List ℕ) → ((z : ℕ) → Has z l → z < p .Z) → (v : View) → Shape p v → (e y : ℕ) → (Has y l → ⊥) → zoneAt (storeAll storeView (flat (resetStores p) l) v) e y ≡ zoneAt v e y
+  unfolding flat storeAll
+  all-other [] h v s e y n = refl
+  all-other (z ∷ l) h v s e y n =
+      ap (λ (x : View). zoneAt x e y) (storeAll-append storeView (resetStores p z) (flat (resetStores p) l) v)
+      ∙ all-other l (λ x i. h x (inr i)) (storeAll storeView (resetStores p z) v) (shape-resets z (h z (inl refl)) v s) e y (λ i. n (inr i))
+      ∙ one
+    where
+      one : zoneAt (storeAll storeView (resetStores p z) v) e y ≡ zoneAt v e y
+      one = unfold resetStores zoneOn in resets-other p z (h z (inl refl)) (drivesOf p) drives-low v s e y (λ q. n (inl q))
+
+  zeros-all : (l : List ℕ) → ((z : ℕ) → Has z l → z < p .Z) → (v : View) → Shape p v → (e y : ℕ) → pointerAt v e y ≡ 0 → pointerAt (storeAll storeView (flat (resetStores p) l) v) e y ≡ 0
+  unfolding flat storeAll
+  zeros-all [] h v s e y q = q
+  zeros-all (z ∷ l) h v s e y q =
+      ap (λ (x : View). pointerAt x e y) (storeAll-append storeView (resetStores p z) (flat (resetStores p) l) v)
+      ∙ zeros-all l (λ x i. h x (inr i)) (storeAll storeView (resetStores p z) v) (shape-resets z (h z (inl refl)) v s) e y one
+    where
+      one : pointerAt (storeAll storeView (resetStores p z) v) e y ≡ 0
+      one = unfold resetStores zoneOn in zeros-kept p z (h z (inl refl)) (drivesOf p) drives-low v s e y q
+
+  pub all-zero : (l : List ℕ) → ((z : ℕ) → Has z l → z < p .Z) → (v : View) → Shape p v → (e y : ℕ) → e < p .N → Has y l → pointerAt (storeAll storeView (flat (resetStores p) l) v) e y ≡ 0
+  unfolding flat storeAll
+  all-zero [] h v s e y k i = absurd i
+  all-zero (z ∷ l) h v s e y k (inl q) =
+      ap (λ (x : View). pointerAt x e y) (storeAll-append storeView (resetStores p z) (flat (resetStores p) l) v)
+      ∙ zeros-all l (λ x i. h x (inr i)) (storeAll storeView (resetStores p z) v) (shape-resets z (h z (inl refl)) v s) e y (ap (pointerAt (storeAll storeView (resetStores p z) v) e) q ∙ one)
+    where
+      one : pointerAt (storeAll storeView (resetStores p z) v) e z ≡ 0
+      one = unfold resetStores zoneOn in resets-zero p z (h z (inl refl)) (drivesOf p) drives-low v s e (unfold drivesOf in has-below e (p .N) k)
+  all-zero (z ∷ l) h v s e y k (inr i) =
+      ap (λ (x : View). pointerAt x e y) (storeAll-append storeView (resetStores p z) (flat (resetStores p) l) v)
+      ∙ all-zero l (λ x j. h x (inr j)) (storeAll storeView (resetStores p z) v) (shape-resets z (h z (inl refl)) v s) e y k i
+
+  -- the free zones are those that don't remain
+  pub free-has : (v : View) (gone z : ℕ) → Has z (freeZones p (segments p v gone)) → (z < p .Z) × (Has z (remaining p v gone) → ⊥)
+  unfolding freeZones segmentNumbers segments
+  free-has v gone z i =
+      let a : Has z (below (p .Z)) × (not (any (λ (g : Segment). eqb (g .seg) z) (map (segmentOf p v gone) (remaining p v gone))) ≡ true) =
+      keep-has (λ z. not (any (λ (g : Segment). eqb (g .seg) z) (map (segmentOf p v gone) (remaining p v gone)))) z (below (p .Z)) i in (
+        below-has z (p .Z) (a .0),
+        λ j. not-2 (any (λ (g : Segment). eqb (g .seg) z) (map (segmentOf p v gone) (remaining p v gone))) (a .1)
+            (has-any (λ (g : Segment). eqb (g .seg) z) (map (segmentOf p v gone) (remaining p v gone)) (segmentOf p v gone z)
+            (has-map (segmentOf p v gone) (remaining p v gone) z j) (eq-eqb (segmentOf p v gone z .seg) z (own z))),
+      )
+    where
+      own : (z : ℕ) → segmentOf p v gone z .seg ≡ z
+      own z = unfold segmentOf in refl
+
+  pub has-free : (v : View) (gone z : ℕ) → z < p .Z → (Has z (remaining p v gone) → ⊥) → Has z (freeZones p (segments p v gone))
+  unfolding freeZones segmentNumbers segments segmentOf
+  has-free v gone z b n = has-keep (λ z. not (any (λ (g : Segment). eqb (g .seg) z) (map (segmentOf p v gone) (remaining p v gone)))) z (below (p .Z)) (has-below z (p .Z) b)
+      (ap not (none-any (λ (g : Segment). eqb (g .seg) z) (map (segmentOf p v gone) (remaining p v gone)) (λ g j.
+      let a : (y : ℕ) × Has y (remaining p v gone) × (g ≡ segmentOf p v gone y) = map-has (segmentOf p v gone) g (remaining p v gone) j in
+      ap (λ (x : Segment). eqb (x .seg) z) (a .2) ∙ ne-eqb (a .0) z (λ e. n (subst (λ (x : ℕ). Has x (remaining p v gone)) e (a .1))))))
+
+  pub drops-follow : (v u : View) (gone : ℕ) → Follows p u (dropStores p (segments p v gone)) (dropItems p (segments p v gone))
+  unfolding dropStores dropItems
+  drops-follow v u gone = follows-flat p (resetStores p) (λ z. map (λ d. m-reset d z) (drivesOf p)) (freeZones p (segments p v gone)) (λ x z i. reset-follows p z (free-has v gone z i .0) x) u
+
+-- ---- the machine's Dropping
+
+module _ (p : Params) (r : Ranged p) (g : Ghost) (v : View) (k : OnDrives p r g v) (none : p .N ≤ g .un) where
+  far : p .N ≤ noDrive
+  unfolding noDrive
+  far = omega (arith, r .drives-high)
+
+  gone-of : (z : ℕ) → (Has z (remaining p v (named noDrive)) → ⊥) → Dropped (parOf p r) g (itemsIn p v) z
+  gone-of z n q = n (has-remaining p r g v k noDrive (inl none) z (R-none-any (parOf p r) (g .hd) (itemsIn p v) (g .un) noDrive none far z q))
+
+  of-gone : (z : ℕ) → Dropped (parOf p r) g (itemsIn p v) z → Has z (remaining p v (named noDrive)) → ⊥
+  of-gone z q i = q (R-none-any (parOf p r) (g .hd) (itemsIn p v) noDrive (g .un) far none z (remaining-has p r g v k noDrive (inl none) z i .1))
+
+  pub dropping : Dropping (parOf p r) g (itemsIn p v) none (dropItems p (segments p v (named noDrive)))
+  unfolding dropItems
+  dropping = record { are = are; every = every }
+    where
+      ms : List m-Store
+      ms = flat (λ z. map (λ d. m-reset d z) (drivesOf p)) (freeZones p (segments p v (named noDrive)))
+
+      are : AllS (DropOf (parOf p r) g none (Dropped (parOf p r) g (itemsIn p v))) (flat (λ z. map (λ d. m-reset d z) (drivesOf p)) (freeZones p (segments p v (named noDrive))))
+      are = all-S (DropOf (parOf p r) g none (Dropped (parOf p r) g (itemsIn p v))) ms (λ s i.
+          let a : (z : ℕ) × Has z (freeZones p (segments p v (named noDrive))) × Has s (map (λ d. m-reset d z) (drivesOf p)) =
+          flat-has (λ z. map (λ d. m-reset d z) (drivesOf p)) s (freeZones p (segments p v (named noDrive))) i in
+          let b : (d : ℕ) × Has d (drivesOf p) × (s ≡ m-reset d (a .0)) = map-has (λ d. m-reset d (a .0)) s (drivesOf p) (a .2) in
+          (b .0, a .0, drives-low p r (b .0) (b .1), gone-of (a .0) (free-has p r v (named noDrive) (a .0) (a .1) .1), b .2))
+
+      every : (z : ℕ) → Used (parOf p r) (g .un) (itemsIn p v) z → Dropped (parOf p r) g (itemsIn p v) z → (d : ℕ) → d < p .N
+          → InS (m-reset d z) (flat (λ z. map (λ d. m-reset d z) (drivesOf p)) (freeZones p (segments p v (named noDrive))))
+      every z u q d l = in-S (m-reset d z) ms (has-flat (λ z. map (λ d. m-reset d z) (drivesOf p)) (m-reset d z) (freeZones p (segments p v (named noDrive))) z
+          (has-free p r v (named noDrive) z (k .facts .«open» .bound z u) (of-gone z q)) (has-map (λ d. m-reset d z) (drivesOf p) d (unfold drivesOf in has-below d (p .N) l)))

@@ -1,0 +1,340 @@
+-- Restart, 4: missing footers, store by store. Assumes nothing.
+use mathlib.Core.Path.{_≡_, refl, sym, ap, _∙_, subst}
+use mathlib.Core.List.{List, [], _∷_, map}
+use mathlib.Core.Bool.{Bool, true, false}
+use mathlib.Core.Logic.{_⊎_, inl, inr, _≢_}
+use Prim.Native.Nat.{ℕ, suc, _+_, _-_, min, _≤_, _<_}
+use native.Mathlib.Decide.{ℕ-discrete}
+use borrow.Author.Tests.{eq-eqb, eqb-true}
+use native.Mathlib.Omega.{arith}
+use lib.Dec.{eqb}
+use lib.ListN.{length, getD, set}
+use Rattle.spec.specs.declared.Params.{Params}
+use Rattle.spec.specs.Drives.{Zone, noZone, View, zoneAt, pointerAt, Store, putZone, storeView, storeAll, zoneOn, sealedIn, dataStored, footersOf, zeroSpare, footerStores}
+use Rattle.spec.specs.Drives.Store.{put}
+use Rattle.spec.specs.Faults.{footersStored}
+use Rattle.spec.specs.Layout.{recordOf, footerBlock}
+use Rattle.spec.specs.Lists.Opt.{none}
+use Rattle.spec.specs.Lists.{upFrom, below, consIf, keep, flat}
+use Rattle.spec.specs.Params.{footers, capacity, noDrive, named, drivesOf}
+use Rattle.spec.specs.Restart.{isWhole, missingFooters}
+use Rattle.spec.specs.Segments.{remaining, Segment, segmentOf, offsetOn, hasChunk, counts, counted}
+use Rattle.law_basic.specs.Geometry.{Ranged}
+use Rattle.law_basic.specs.Ranges.{length-below, map-map, getD-map-below, length-keep}
+use Rattle.proof_crash_machine.specs.Exec.{low}
+use Rattle.proof_crash_machine.specs.Facts.Pair.{alone}
+use Rattle.proof_crash_machine.specs.Facts.{Ghost, R, Stripe, Used}
+use Rattle.proof_crash_machine.specs.Ghosts.{withPr}
+use Rattle.proof_crash_machine.specs.History.Mode.{off}
+use Rattle.proof_crash_machine.specs.History.{at}
+use Rattle.proof_crash_items.specs.ZoneBytes.Kind.{footer}
+use Rattle.proof_crash_machine.specs.History.Step.{restart-footer}
+use Rattle.proof_crash_machine.specs.Put.{in-fwd, R-fwd as Put·R-fwd, Used-back as Put·Used-back}
+use Rattle.proof_crash_machine.specs.Reset.{same}
+use Rattle.proof_crash_machine.specs.Rewrite.{st, left}
+use Rattle.proof_crash_machine.specs.Val.{Val}
+use Rattle.proof_crash_machine.specs.View.{Item, View as m-View, after, In}
+use Rattle.proof_crash_machine.specs.View.Item.{chunk, foot}
+use Rattle.proof_crash_items.specs.Items.{itemsOf, itemsIn, items-in}
+use Rattle.proof_crash_items.specs.Member.{Has, true-false, has-keep, below-has, has-below}
+use Rattle.proof_crash_items.specs.Named.{none-named, present-all}
+use Rattle.proof_crash_items.specs.Ranges.{parOf}
+use Rattle.proof_crash_items.specs.Segs.{zone-bytes, zone-len}
+use Rattle.proof_crash_items.specs.Shape.{Shape, zone-set, zone-set-other, shape-zone, shape-store}
+use Rattle.proof_crash_items.specs.Sound.{Sound, AllSound, sound-fits, bytes-store, items-put-kind}
+use Rattle.proof_crash_items.specs.Stripes.{pointer-is, offset-on, counted-has, pieceAt, counted-stripe}
+use Rattle.proof_crash_items.specs.ZoneBytes.{sparesIn, blockIn, Kind, kindItem, old-spares}
+use Rattle.proof_crash_restarts.specs.Ends.{InOrder, none-choice, full-is, one-of}
+use Rattle.proof_crash_restarts.specs.Link.{stateOn, Linked, linked-on, linked-step}
+use Rattle.proof_crash_restarts.specs.Order.{pigeon, flat-same, pointer-zone}
+use Rattle.proof_crash_restarts.specs.Rest.{Settled, far-off, settled-remains, settled-used}
+use Rattle.proof_crash_restarts.specs.Runs.{Always, run-always, run-end, runs-always, runs-end, run-sound, runs-sound}
+use Rattle.proof_crash_restarts.specs.Same.{segment-same}
+
+-- all pass where none is left out
+keep-full : {A : Type 0} (f : A → Bool) (l : List A) → length (keep f l) ≡ length l → (a : A) → Has a l → f a ≡ true
+unfolding keep
+keep-full f [] e a i = absurd i
+keep-full {A} f (b ∷ l) e a i = go (f b) refl e i (keep-full f l)
+  where
+    go : (t : Bool) → f b ≡ t → length (consIf t b (keep f l)) ≡ suc (length l) → Has a (b ∷ l) → (length (keep f l) ≡ length l → (a : A) → Has a l → f a ≡ true) → f a ≡ true
+    go true q e (inl w) ih = ap f w ∙ q
+    go true q e (inr w) ih = ih (shorter e) a w
+      where
+        shorter : length (consIf true b (keep f l)) ≡ suc (length l) → length (keep f l) ≡ length l
+        shorter e = unfold consIf in (let x : suc (length (keep f l)) ≡ suc (length l) = e in omega (arith, x))
+    go false q e w ih = absurd (long e)
+      where
+        long : length (consIf false b (keep f l)) ≡ suc (length l) → ⊥
+        long e = unfold consIf in (let x : length (keep f l) ≡ suc (length l) = e in let y : ⊥ = omega (arith, x, length-keep f l) in y)
+
+module _ (p : Params) (r : Ranged p) (g₀ : Ghost) (a : List Val) (s : Bool) where
+  abbrev gA : Ghost
+  gA = withPr g₀ alone
+
+  -- what holds after each store: the facts, and all stripes of o on every drive
+  pub record Footing (o : ℕ) (w : View) : Type 0 where
+    pub linked : Linked p r w (withPr g₀ alone) a s off
+    pub set : Settled p r (withPr g₀ alone) w
+    pub stripes : (d t : ℕ) → d < p .N → t < p .S → (x : Val) × In (chunk t x) (itemsIn p w d o)
+
+  module _ (o : ℕ) (ob : o < p .Z) where
+    foot-kind : (w : View) (d j : ℕ) → pointerAt w d o ≡ suc (p .S + j) → j < footers p → Kind p d o (zoneAt w d o) (footerBlock p (sparesIn p (zoneAt w d o)) j) zeroSpare
+    foot-kind w d j e l = footer j (pointer-is w d o ∙ e) l
+
+    foot-view : View → ℕ → ℕ → View
+    foot-view w d j = storeView (put d o (footerBlock p (sparesIn p (zoneAt w d o)) j) zeroSpare) w
+
+    module _ (w : View) (d j : ℕ) (k : Footing o w) (dl : d < p .N) (e : pointerAt w d o ≡ suc (p .S + j)) (jl : j < footers p) where
+      w′ : View
+      w′ = foot-view w d j
+
+      sound : Sound p w (put d o (footerBlock p (sparesIn p (zoneAt w d o)) j) zeroSpare)
+      sound = (dl, ob, foot-kind w d j e jl)
+
+      items′ : itemsIn p (storeView (put d o (footerBlock p (sparesIn p (zoneAt w d o)) j) zeroSpare) w) ≡ after (itemsIn p w) d o (foot j)
+      items′ = items-put-kind p r w d o (footerBlock p (sparesIn p (zoneAt w d o)) j) zeroSpare (k .linked .shape) dl ob (foot-kind w d j e jl) ∙ ap (after (itemsIn p w) d o) is-foot
+        where
+          is-foot : kindItem p d o (zoneAt w d o) (footerBlock p (sparesIn p (zoneAt w d o)) j) zeroSpare (foot-kind w d j e jl) ≡ foot j
+          is-foot = unfold kindItem foot-kind in refl
+
+      len : length (itemsIn p w d o) ≡ suc (p .S + j)
+      len = zone-len p r (withPr g₀ alone) w (k .set .on) d o dl (omega (arith, dl, k .set .none)) ob ∙ e
+
+      shape′ : Shape p (storeView (put d o (footerBlock p (sparesIn p (zoneAt w d o)) j) zeroSpare) w)
+      shape′ =
+          shape-store p w (put d o (footerBlock p (sparesIn p (zoneAt w d o)) j) zeroSpare) (k .linked .shape)
+          (sound-fits p r w (put d o (footerBlock p (sparesIn p (zoneAt w d o)) j) zeroSpare) (k .linked .shape) sound)
+
+      linked′ : Linked p r (storeView (put d o (footerBlock p (sparesIn p (zoneAt w d o)) j) zeroSpare) w) (withPr g₀ alone) a s off
+      linked′ =
+          linked-step p r w (storeView (put d o (footerBlock p (sparesIn p (zoneAt w d o)) j) zeroSpare) w) (withPr g₀ alone) (withPr g₀ alone) a a s
+          s off off (after (itemsIn p w) d o (foot j)) (k .linked)
+          (restart-footer (stateOn p w (withPr g₀ alone) a s off) d o j (k .set .none) (k .set .rest) dl (omega (arith, len)) (unfold capacity in omega (arith, len, jl)) (λ t l. k .stripes d t dl l))
+          (sym items′) shape′ (λ e l n. bytes-store p r w (put d o (footerBlock p (sparesIn p (zoneAt w d o)) j) zeroSpare) (k .linked .shape) sound e (k .linked .bytes e l n))
+
+      pub foot-step : Footing o (storeView (put d o (footerBlock p (sparesIn p (zoneAt w d o)) j) zeroSpare) w)
+      foot-step = record {
+        linked = linked′;
+        set = record {
+          on = linked-on p r (storeView (put d o (footerBlock p (sparesIn p (zoneAt w d o)) j) zeroSpare) w) (withPr g₀ alone) a s off linked′;
+          none = k .set .none;
+          no-pair = refl;
+          rest = subst (λ (u : m-View). (z : ℕ) → Used (parOf p r) (g₀ .un) u z → R (parOf p r) (g₀ .hd) u (g₀ .un) z) (sym items′)
+              (λ z u. Put·R-fwd (itemsIn p w) d o (foot j) (omega (arith, len)) (parOf p r) (withPr g₀ alone) (g₀ .un) z
+              (k .set .rest z (Put·Used-back (itemsIn p w) d o (foot j) (omega (arith, len)) (parOf p r) (withPr g₀ alone) z u)));
+        };
+        stripes = subst (λ (u : m-View). (d t : ℕ) → d < p .N → t < p .S → (x : Val) × In (chunk t x) (u d o)) (sym items′)
+            (λ e t l b. (k .stripes e t l b .0, in-fwd (itemsIn p w) d o (foot j) (chunk t (k .stripes e t l b .0)) e o (k .stripes e t l b .1)));
+      }
+
+      -- what the store changes
+      pub foot-pointer : pointerAt (storeView (put d o (footerBlock p (sparesIn p (zoneAt w d o)) j) zeroSpare) w) d o ≡ suc (p .S + suc j)
+      unfolding storeView pointerAt
+      foot-pointer = ap (λ (q : Zone). q .pointer) (zone-set p w (k .linked .shape) d o (putZone (footerBlock p (sparesIn p (zoneAt w d o)) j) zeroSpare (zoneAt w d o)) dl ob)
+          ∙ (unfold putZone in (ap suc (pointer-is w d o ∙ e) ∙ (let x : suc (suc (p .S + j)) ≡ suc (p .S + suc j) = omega arith in x)))
+
+      pub foot-spares : sparesIn p (zoneAt (storeView (put d o (footerBlock p (sparesIn p (zoneAt w d o)) j) zeroSpare) w) d o) ≡ sparesIn p (zoneAt w d o)
+      unfolding storeView
+      foot-spares = ap (sparesIn p) (zone-set p w (k .linked .shape) d o (putZone (footerBlock p (sparesIn p (zoneAt w d o)) j) zeroSpare (zoneAt w d o)) dl ob)
+          ∙ old-spares p r d o (zoneAt w d o) (shape-zone p w (k .linked .shape) d o dl ob) (footerBlock p (sparesIn p (zoneAt w d o)) j) zeroSpare j (pointer-is w d o ∙ e)
+
+      pub foot-other : (e y : ℕ) → (e ≢ d) ⊎ (y ≢ o) → zoneAt (storeView (put d o (footerBlock p (sparesIn p (zoneAt w d o)) j) zeroSpare) w) e y ≡ zoneAt w e y
+      unfolding storeView
+      foot-other e y n = zone-set-other p w (k .linked .shape) d o (putZone (footerBlock p (sparesIn p (zoneAt w d o)) j) zeroSpare (zoneAt w d o)) dl e y n
+
+    -- ---- one drive, then all
+    module _ (v : View) where
+      abbrev feetOn : ℕ → List Store
+      feetOn d = map (λ j. put d o (footerBlock p (sparesIn p (zoneAt v d o)) j) zeroSpare) (upFrom (footersStored p (zoneAt v d o)) (footers p - footersStored p (zoneAt v d o)))
+
+      -- drives below d are done, the others as they were
+      pub record Upto (d : ℕ) (w : View) : Type 0 where
+        pub foot : Footing o w
+        pub done : (e : ℕ) → e < d → e < p .N → pointerAt w e o ≡ capacity p
+        pub left : (e : ℕ) → d ≤ e → zoneAt w e o ≡ zoneAt v e o
+        pub other : (e y : ℕ) → y ≢ o → zoneAt w e y ≡ zoneAt v e y
+
+      -- within drive d
+      pub record Within (d j : ℕ) (w : View) : Type 0 where
+        pub foot : Footing o w
+        pub at : pointerAt w d o ≡ suc (p .S + j)
+        pub spares : sparesIn p (zoneAt w d o) ≡ sparesIn p (zoneAt v d o)
+        pub done : (e : ℕ) → e < d → e < p .N → pointerAt w e o ≡ capacity p
+        pub left : (e : ℕ) → d < e → zoneAt w e o ≡ zoneAt v e o
+        pub other : (e y : ℕ) → y ≢ o → zoneAt w e y ≡ zoneAt v e y
+
+      within-step : (d j : ℕ) (w : View) → d < p .N → j < footers p → Within d j w → Within d (suc j) (storeView (put d o (footerBlock p (sparesIn p (zoneAt v d o)) j) zeroSpare) w)
+      unfolding pointerAt
+      within-step d j w dl jl k = subst (λ (ss : List (List ℕ)). Within d (suc j) (storeView (put d o (footerBlock p ss j) zeroSpare) w)) (k .spares) (record {
+        foot = foot-step w d j (k .foot) dl (k .at) jl;
+        at = foot-pointer w d j (k .foot) dl (k .at) jl;
+        spares = foot-spares w d j (k .foot) dl (k .at) jl ∙ k .spares;
+        done = λ e b l. ap (λ (q : Zone). q .pointer) (foot-other w d j (k .foot) dl (k .at) jl e o (inl (omega arith))) ∙ k .done e b l;
+        left = λ e b. foot-other w d j (k .foot) dl (k .at) jl e o (inl (omega arith)) ∙ k .left e b;
+        other = λ e y n. foot-other w d j (k .foot) dl (k .at) jl e y (inr n) ∙ k .other e y n;
+      })
+
+      stored-few : (q : Zone) → footersStored p q ≤ footers p
+      stored-few q = unfold footersStored in omega arith
+
+      drive-step : ((d : ℕ) → d < p .N → pointerAt v d o ≡ suc (p .S + footersStored p (zoneAt v d o)))
+          → (d : ℕ) (w : View) → d < p .N → Upto d w → Always (Footing o) w (feetOn d) × Upto (suc d) (storeAll storeView (feetOn d) w)
+      drive-step starts d w dl k = (
+        run-always (Footing o) (Within d) st (footers p) (λ j u i. i .foot) (λ j u l i. within-step d j u dl l i) (footersStored p (zoneAt v d o))
+            (footers p - footersStored p (zoneAt v d o)) fits w begin?,
+        ended? (storeAll storeView (feetOn d) w) (run-end (Footing o) (Within d) st (footers p) (λ j u i. i .foot)
+            (λ j u l i. within-step d j u dl l i) (footersStored p (zoneAt v d o)) (footers p - footersStored p (zoneAt v d o)) (footers p) fits
+            (omega (arith, stored-few (zoneAt v d o))) w begin?),
+      )
+        where
+          st : ℕ → Store
+          st j = put d o (footerBlock p (sparesIn p (zoneAt v d o)) j) zeroSpare
+
+          fits : footersStored p (zoneAt v d o) + (footers p - footersStored p (zoneAt v d o)) ≤ footers p
+          fits = omega (arith, stored-few (zoneAt v d o))
+
+          begin? : Within d (footersStored p (zoneAt v d o)) w
+          begin? = record {
+            foot = k .foot;
+            at = pointer-zone w v d o (k .left d (omega arith)) ∙ starts d dl;
+            spares = ap (sparesIn p) (k .left d (omega arith));
+            done = k .done;
+            left = λ e b. k .left e (omega arith);
+            other = k .other;
+          }
+
+          ended? : (u : View) → Within d (footers p) u → Upto (suc d) u
+          ended? u i = record { foot = i .foot; done = λ e b l. done e b l (ℕ-discrete e d); left = λ e b. i .left e b; other = i .other }
+            where
+              done : (e : ℕ) → e < suc d → e < p .N → Dec (e ≡ d) → pointerAt u e o ≡ capacity p
+              done e b l (yes q) = unfold capacity in (ap (λ (x : ℕ). pointerAt u x o) q ∙ i .at ∙ (let x : suc (p .S + footers p) ≡ 1 + p .S + footers p = omega arith in x))
+              done e b l (no q) = i .done e (omega arith) l
+
+      within-sound : (d j : ℕ) (w : View) → d < p .N → j < footers p → Within d j w → Sound p w (put d o (footerBlock p (sparesIn p (zoneAt v d o)) j) zeroSpare)
+      within-sound d j w dl jl k = subst (λ (ss : List (List ℕ)). Sound p w (put d o (footerBlock p ss j) zeroSpare)) (k .spares) (sound w d j (k .foot) dl (k .at) jl)
+
+      drive-sound : ((d : ℕ) → d < p .N → pointerAt v d o ≡ suc (p .S + footersStored p (zoneAt v d o)))
+          → (d : ℕ) (w : View) → d < p .N → Upto d w → AllSound p w (feetOn d) × Upto (suc d) (storeAll storeView (feetOn d) w)
+      drive-sound starts d w dl k = (
+        run-sound p (Within d) (λ j. put d o (footerBlock p (sparesIn p (zoneAt v d o)) j) zeroSpare) (footers p) (λ j u l i. within-step d j u dl l i) (λ j u l i. within-sound d j u dl l i)
+            (footersStored p (zoneAt v d o)) (footers p - footersStored p (zoneAt v d o)) (omega (arith, stored-few (zoneAt v d o))) w (record {
+              foot = k .foot;
+              at = pointer-zone w v d o (k .left d (omega arith)) ∙ starts d dl;
+              spares = ap (sparesIn p) (k .left d (omega arith));
+              done = k .done;
+              left = λ e b. k .left e (omega arith);
+              other = k .other;
+            }),
+        drive-step starts d w dl k .1,
+      )
+
+      pub feet-sound : ((d : ℕ) → d < p .N → pointerAt v d o ≡ suc (p .S + footersStored p (zoneAt v d o))) → Footing o v → AllSound p v (flat feetOn (below (p .N)))
+      unfolding below
+      feet-sound starts k =
+          runs-sound p Upto feetOn (p .N) (drive-sound starts) 0 (p .N) (omega arith) v
+          (record { foot = k; done = λ e b l. absurd (let q : ⊥ = omega arith in q); left = λ e b. refl; other = λ e y n. refl })
+
+      pub feet-all : ((d : ℕ) → d < p .N → pointerAt v d o ≡ suc (p .S + footersStored p (zoneAt v d o))) → Footing o v
+          → Always (Footing o) v (flat feetOn (below (p .N))) × Upto (p .N) (storeAll storeView (flat feetOn (below (p .N))) v)
+      unfolding below
+      feet-all starts k = (
+        runs-always (Footing o) Upto feetOn (p .N) (λ d w i. i .foot) (drive-step starts) 0 (p .N) (omega arith) v first,
+        runs-end (Footing o) Upto feetOn (p .N) (λ d w i. i .foot) (drive-step starts) 0 (p .N) (p .N) (omega arith) (omega arith) v first,
+      )
+        where
+          first : Upto 0 v
+          first = record { foot = k; done = λ e b l. absurd (let q : ⊥ = omega arith in q); left = λ e b. refl; other = λ e y n. refl }
+
+-- ---- a whole segment
+
+module _ (p : Params) (r : Ranged p) (g : Ghost) (v : View) (k : Settled p r g v) (o : ℕ) (i : Has o (remaining p v (named noDrive))) (w : isWhole p (segmentOf p v (named noDrive) o) ≡ true) where
+  abbrev G : Segment
+  G = segmentOf p v (named noDrive) o
+
+  ob : o < p .Z
+  ob = settled-used p r g v k o i .0
+
+  all-count : (s : ℕ) → s < p .S → Has s (counted p (named noDrive) G)
+  all-count s l = unfold counted in has-keep (counts p (named noDrive) G) s (below (p .S)) (has-below s (p .S) l) (keep-full (counts p (named noDrive) G) (below (p .S)) full s (has-below s (p .S) l))
+    where
+      full : length (keep (counts p (named noDrive) G) (below (p .S))) ≡ length (below (p .S))
+      full = long ∙ sym (length-below (p .S))
+        where
+          long : length (keep (counts p (named noDrive) G) (below (p .S))) ≡ p .S
+          long = subst (λ (n : ℕ). length (keep (counts p n G) (below (p .S))) ≡ p .S) (sym none-named) (unfold isWhole counted in eqb-true (length (keep (counts p 0 G) (below (p .S)))) (p .S) w)
+
+  pub whole-stripes : (d t : ℕ) → d < p .N → t < p .S → (x : Val) × In (chunk t x) (itemsIn p v d o)
+  whole-stripes d t l b =
+      let st : Stripe (parOf p r) (itemsIn p v) noDrive o t (pieceAt p r g v (k .on) noDrive (none-choice p r g v k) o t) =
+      counted-stripe p r g v (k .on) noDrive (none-choice p r g v k) o t ob (all-count t b) in
+      (pieceAt p r g v (k .on) noDrive (none-choice p r g v k) o t d, st .on d l (omega (arith, l, far-off p r g v k)))
+
+  -- its data blocks are all there
+  pub whole-pointers : (d : ℕ) → d < p .N → pointerAt v d o ≡ suc (p .S + footersStored p (zoneAt v d o))
+  whole-pointers d l =
+      let n : d ≢ noDrive = omega (arith, l, far-off p r g v k) in
+      let has : (t : ℕ) → t < p .S → hasChunk G t d ≡ true = λ t b. counted-has p r g v (k .on) noDrive (none-choice p r g v k) o t (all-count t b) .1 d l n in
+      let at : (t : ℕ) → t < p .S → (offsetOn G d t < dataStored p (zoneAt v d o)) × (recordOf (blockIn (zoneAt v d o) (suc (offsetOn G d t)) .spare) .stripe ≡ t) =
+      λ t b. offset-on p r g v (k .on) noDrive (none-choice p r g v k) o t d ob l n (has t b) in
+      let q : p .S ≤ dataStored p (zoneAt v d o) = pigeon (p .S) (dataStored p (zoneAt v d o)) (λ t. offsetOn G d t) (λ t b. at t b .0)
+      (λ s t a b e. sym (at s a .1) ∙ ap (λ (x : ℕ). recordOf (blockIn (zoneAt v d o) (suc x) .spare) .stripe) e ∙ at t b .1) in
+      let low : zoneAt v d o .pointer ≤ capacity p = zone-bytes p r g v (k .on) d o l (omega (arith, l, k .none)) ob .low in
+      sym (pointer-is v d o) ∙ exact (zoneAt v d o) q low
+    where
+      exact : (z : Zone) → p .S ≤ dataStored p z → z .pointer ≤ capacity p → z .pointer ≡ suc (p .S + footersStored p z)
+      exact z q l = unfold dataStored footersStored capacity in (go q l)
+        where
+          go : p .S ≤ min (z .pointer - 1) (p .S) → z .pointer ≤ 1 + p .S + footers p → z .pointer ≡ suc (p .S + min (z .pointer - 1 - p .S) (footers p))
+          go q l = omega (arith, r .stripes-low)
+
+  pub feet-are :
+      missingFooters p G
+      ≡ flat (λ d. map (λ j. put d o (footerBlock p (sparesIn p (zoneAt v d o)) j) zeroSpare)
+      (upFrom (footersStored p (zoneAt v d o)) (footers p - footersStored p (zoneAt v d o)))) (below (p .N))
+  feet-are = unfold missingFooters drivesOf zoneOn footerStores footersOf segmentOf in
+      same (below (p .N)) (λ d j. below-has d (p .N) j)
+    where
+      one : ℕ → Zone → List Store
+      one d q = map (λ (b : List ℕ). put d o b zeroSpare) (map (footerBlock p (sparesIn p q)) (upFrom (footersStored p q) (footers p - footersStored p q)))
+
+      same : (l : List ℕ) → ((d : ℕ) → Has d l → d < p .N)
+          → flat (λ d. one d (getD (map (λ d. zoneAt v d o) (below (p .N))) d noZone)) l
+          ≡ flat (λ d. map (λ j. put d o (footerBlock p (sparesIn p (zoneAt v d o)) j) zeroSpare) (upFrom (footersStored p (zoneAt v d o)) (footers p - footersStored p (zoneAt v d o)))) l
+      same l h = flat-same (λ d. one d (getD (map (λ d. zoneAt v d o) (below (p .N))) d noZone))
+          (λ d. map (λ j. put d o (footerBlock p (sparesIn p (zoneAt v d o)) j) zeroSpare) (upFrom (footersStored p (zoneAt v d o)) (footers p - footersStored p (zoneAt v d o)))) l
+          (λ d j. ap (one d) (getD-map-below (λ d. zoneAt v d o) (p .N) d noZone (h d j))
+          ∙ map-map (λ (b : List ℕ). put d o b zeroSpare) (footerBlock p (sparesIn p (zoneAt v d o))) (upFrom (footersStored p (zoneAt v d o)) (footers p - footersStored p (zoneAt v d o))))
+
+-- ---- once all footers stand, every segment is full
+
+module _ (p : Params) (r : Ranged p) (g₀ : Ghost) (a : List Val) (s : Bool) (v u : View) (k : Settled p r (withPr g₀ alone) v) (o : ℕ) (i : Has o (remaining p v (named noDrive)))
+    (un : segmentOf p v (named noDrive) o .full ≡ false) (q : Upto p r g₀ a s o (settled-used p r (withPr g₀ alone) v k o i .0) v (p .N) u) where
+  abbrev gB : Ghost
+  gB = withPr g₀ alone
+
+  all-full : (z : ℕ) → Has z (remaining p u (named noDrive)) → segmentOf p u (named noDrive) z .full ≡ false → ⊥
+  all-full z j e = go (ℕ-discrete z o)
+    where
+      set : Settled p r (withPr g₀ alone) u
+      set = q .foot .set
+
+      go : Dec (z ≡ o) → ⊥
+      go (yes w) = true-false (sealedIn p u (named noDrive) o) sealed (sym (full-is p r (withPr g₀ alone) u set o) ∙ ap (λ (x : ℕ). segmentOf p u (named noDrive) x .full) (sym w) ∙ e)
+        where
+          sealed : sealedIn p u (named noDrive) o ≡ true
+          sealed = unfold sealedIn zoneOn in present-all p r noDrive (λ d. eqb (pointerAt u d o) (capacity p)) (λ d l n. eq-eqb (pointerAt u d o) (capacity p) (q .done d l l))
+      go (no w) =
+          let same : (d : ℕ) → d < p .N → zoneAt u d z ≡ zoneAt v d z = λ d l. q .other d z w in
+          let used? : (z < p .Z) × Used (parOf p r) (g₀ .un) (itemsIn p u) z = settled-used p r (withPr g₀ alone) u set z j in
+          let j′ : Has z (remaining p v (named noDrive)) = settled-remains p r (withPr g₀ alone) v k z (
+            used? .1 .0,
+            used? .1 .1,
+            subst (λ (x : List Item). 0 < length x)
+                (items-in p u (used? .1 .0) z ∙ ap (itemsOf p) (same (used? .1 .0) (used? .1 .1 .0)) ∙ sym (items-in p v (used? .1 .0) z))
+                (used? .1 .2),
+          ) in
+          w (one-of p r (withPr g₀ alone) v k z o j′ i (ap (λ (x : Segment). x .full) (sym (segment-same p r v u noDrive z same)) ∙ e) un)
+
+  pub feet-order : InOrder p u
+  feet-order z j e = absurd (all-full z j e)

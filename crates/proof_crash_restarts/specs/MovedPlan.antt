@@ -1,0 +1,352 @@
+-- Restart, 4: a counted stripe rewritten under another number: its pieces, their widths, and the machine's plan. Assumes nothing.
+use mathlib.Core.Path.{_≡_, refl, sym, ap, _∙_, subst}
+use mathlib.Core.List.{List, [], _∷_, map}
+use mathlib.Core.Bool.{Bool, true, false, cond, not}
+use mathlib.Core.Logic.{inl, inr, _≢_}
+use Prim.Native.Nat.{ℕ, suc, _^_, _≤_, _<_}
+use native.Mathlib.Decide.{decLt}
+use borrow.Author.Tests.{lt-ltb, le-ltb, eq-eqb, eqb-false, not-true}
+use native.Mathlib.Omega.{arith}
+use lib.Dec.{ltb, eqb}
+use lib.ListN.{length, getD, take}
+use lib.Bits.{xor-lt}
+use lib.Pow.{pow-pos}
+use Rattle.spec.specs.declared.Params.{Params}
+use Rattle.spec.specs.Bytes.{xorAll}
+use Rattle.spec.specs.Calls.Check.{zones}
+use Rattle.spec.specs.Drives.{Zone, stored, View, zoneAt, pointerAt, dataStored}
+use Rattle.spec.specs.Layout.{parityDrive, dataDrive, dataPosition, isData, dataDrives, Rec, mkRec, recordOf}
+use Rattle.spec.specs.Lists.Opt.{none}
+use Rattle.spec.specs.Lists.{below, all, keep}
+use Rattle.spec.specs.Params.{dataCount, noDrive, named}
+use Rattle.spec.specs.Parity.{Piece, mkPiece, parityRec, parityPiece}
+use Rattle.spec.specs.Restart.{renumbered, movedPieces, movedOn}
+use Rattle.spec.specs.Segments.{remaining, Segment, segmentOf, offsetOn, hasChunk, counts, counted, storedPiece}
+use Rattle.law_basic.specs.Geometry.{Ranged, position-drive, drive-is-data, data-drive-lt, data-not-parity, drive-position, position-lt}
+use Rattle.law_basic.specs.Ranges.{length-below, map-below-same, map-map, getD-map-below, length-keep}
+use Rattle.law_basic.specs.Xor.{length-parity}
+use Rattle.proof_crash_machine.specs.Facts.Pair.{alone}
+use Rattle.proof_crash_machine.specs.Facts.{Ghost, Choice, Stripe, Datum, Used, Ragged}
+use Rattle.proof_crash_machine.specs.Reset.{same}
+use Rattle.proof_crash_machine.specs.Restart.{Ready}
+use Rattle.proof_crash_machine.specs.Rewrite.{Plan as m-Plan, st}
+use Rattle.proof_crash_machine.specs.Val.{Val, 𝟘, _⊕_, ⊕-self, xorN, xorN-put}
+use Rattle.proof_crash_items.specs.Cands.{data-drives, is-data, has-data-drive}
+use Rattle.proof_crash_items.specs.Codec.{Wide}
+use Rattle.proof_crash_items.specs.Items.{valueOf, itemsFrom, itemsOf, itemsIn, items-in}
+use Rattle.proof_crash_items.specs.Member.{Has, cond-true, cond-false, keep-has, has-keep, below-has, has-below, map-has, getD-has, has-getD}
+use Rattle.proof_crash_items.specs.Ranges.{parity-on, parOf}
+use Rattle.proof_crash_items.specs.Refuse.{Rising, rising-keep, rising-below}
+use Rattle.proof_crash_items.specs.SegFacts.{ragged-of}
+use Rattle.proof_crash_items.specs.Segs.{zone-bytes}
+use Rattle.proof_crash_items.specs.Stripes.{stored-below, pointer-is, offset-on, stored-piece, stored-long, counted-has, pieceAt, piece-here, counted-stripe, stripe-counted}
+use Rattle.proof_crash_items.specs.Values.{pieceValue, xorL, PiecesLong, blocks-of-long, pieces-long, parity-value, onlyWhere, only-there, only-else, xor-below}
+use Rattle.proof_crash_items.specs.ZoneBytes.{blockIn}
+use Rattle.proof_crash_restarts.specs.Done.{serialTop}
+use Rattle.proof_crash_restarts.specs.Ends.{none-choice, ends-serials}
+use Rattle.proof_crash_restarts.specs.Order.{rising-same}
+use Rattle.proof_crash_restarts.specs.Rest.{Settled, far-off, settled-used}
+use Rattle.proof_crash_restarts.specs.Same.{Stripe-none-any}
+
+rising-map : (f : ℕ → ℕ) → ((i j : ℕ) → i < j → f i < f j) → (l : List ℕ) → Rising l → Rising (map f l)
+rising-map f h [] r = tt
+rising-map f h (a ∷ l) r =
+    ((λ b i. let q : (j : ℕ) × Has j l × (b ≡ f j) = map-has f b l i in let w : f a < f (q .0) = h a (q .0) (r .0 (q .0) (q .1)) in omega (arith, w, q .2)), rising-map f h l (r .1))
+
+data-rises : (p : Params) (s i j : ℕ) → i < j → dataDrive p s i < dataDrive p s j
+unfolding dataDrive
+data-rises p s i j l = go (decLt i (parityDrive p s)) (decLt j (parityDrive p s))
+  where
+    go : Dec (i < parityDrive p s) → Dec (j < parityDrive p s) → cond (ltb i (parityDrive p s)) i (suc i) < cond (ltb j (parityDrive p s)) j (suc j)
+    go (yes a) (yes b) = rw (cond-true (ltb i (parityDrive p s)) i (suc i) (lt-ltb i (parityDrive p s) a), cond-true (ltb j (parityDrive p s)) j (suc j) (lt-ltb j (parityDrive p s) b)) l
+    go (yes a) (no b) =
+        rw (cond-true (ltb i (parityDrive p s)) i (suc i) (lt-ltb i (parityDrive p s) a), cond-false (ltb j (parityDrive p s)) j (suc j) (le-ltb j (parityDrive p s) (omega arith))) (omega arith)
+    go (no a) (yes b) = absurd (let q : ⊥ = omega arith in q)
+    go (no a) (no b) =
+        rw (
+          cond-false (ltb i (parityDrive p s)) i (suc i) (le-ltb i (parityDrive p s) (omega arith)),
+          cond-false (ltb j (parityDrive p s)) j (suc j) (le-ltb j (parityDrive p s) (omega arith)),
+        ) (omega arith)
+
+-- the data drives are the drives that aren't parity's, rising
+pub keep-data : (p : Params) → Ranged p → (s : ℕ) → keep (isData p s) (below (p .N)) ≡ dataDrives p s
+keep-data p r s = rising-same (keep (isData p s) (below (p .N))) (dataDrives p s) (rising-keep (isData p s) (below (p .N)) (rising-below (p .N))) rises
+    (λ d i. let q : Has d (below (p .N)) × (isData p s d ≡ true) = keep-has (isData p s) d (below (p .N)) i in has-data-drive p r s d (below-has d (p .N) (q .0)) (no-parity d (q .1)))
+    (λ d i. let q : (d < p .N) × (d ≢ parityDrive p s) = data-drives p r s d i in has-keep (isData p s) d (below (p .N)) (has-below d (p .N) (q .0)) (is-data p s d (q .1)))
+  where
+    rises : Rising (dataDrives p s)
+    rises = unfold dataDrives in rising-map (dataDrive p s) (data-rises p s) (below (dataCount p)) (rising-below (dataCount p))
+
+    no-parity : (d : ℕ) → isData p s d ≡ true → d ≢ parityDrive p s
+    no-parity d e = unfold isData in eqb-false d (parityDrive p s) (not-true (eqb d (parityDrive p s)) e)
+
+pub value-renumbered : (t : ℕ) (q : Piece) → pieceValue (renumbered t q) ≡ pieceValue q
+unfolding renumbered pieceValue valueOf
+value-renumbered t q = refl
+
+pub xorAll-map-lt : {A : Type 0} (k : ℕ) (f : A → ℕ) (l : List A) → ((q : A) → Has q l → f q < 2 ^ k) → xorAll (map f l) < 2 ^ k
+unfolding xorAll
+xorAll-map-lt k f [] h = pow-pos k
+xorAll-map-lt k f (q ∷ l) h = xor-lt k (f q) (xorAll (map f l)) (h q (inl refl)) (xorAll-map-lt k f l (λ x i. h x (inr i)))
+
+-- the parity of wide records is wide
+pub parity-wide : (p : Params) (t : ℕ) (qs : List Piece) → t < 256 ^ 4 → ((q : Piece) → Has q qs → Wide (q .rec)) → Wide (parityPiece p t qs .rec)
+unfolding parityPiece parityRec
+parity-wide p t qs l h = record {
+  address =
+      subst (λ (x : List ℕ). xorAll x < 2 ^ 64) (sym (map-map (λ (x : Rec). x .address) (λ (q : Piece). q .rec) qs)) (xorAll-map-lt 64 (λ (q : Piece). q .rec .address) qs (λ q i. h q i .address));
+  stamp = subst (λ (x : List ℕ). xorAll x < 2 ^ 64) (sym (map-map (λ (x : Rec). x .stamp) (λ (q : Piece). q .rec) qs)) (xorAll-map-lt 64 (λ (q : Piece). q .rec .stamp) qs (λ q i. h q i .stamp));
+  stripe = l;
+}
+
+module _ (p : Params) (r : Ranged p) (g : Ghost) (v : View) (k : Settled p r g v) (o : ℕ) (i : Has o (remaining p v (named noDrive))) where
+  abbrev G : Segment
+  G = segmentOf p v (named noDrive) o
+
+  abbrev ch : Choice (parOf p r) (g .un) noDrive
+  ch = none-choice p r g v k
+
+  ob : o < p .Z
+  ob = settled-used p r g v k o i .0
+
+  away : (d : ℕ) → d < p .N → d ≢ noDrive
+  away d l = omega (arith, l, far-off p r g v k)
+
+  here? : (s d : ℕ) → Has s (counted p (named noDrive) G) → d < p .N → hasChunk G s d ≡ true
+  here? s d h l = counted-has p r g v (k .on) noDrive ch o s h .1 d l (away d l)
+
+  -- a stored piece of a counted stripe
+  piece-block : (s d : ℕ) → Has s (counted p (named noDrive) G) → d < p .N → length (storedPiece G s d .block) ≡ p .B
+  piece-block s d h l = stored-long p r g v (k .on) noDrive ch o s d ob l (away d l) (here? s d h l)
+
+  piece-wide : (s d : ℕ) → Has s (counted p (named noDrive) G) → d < p .N → Wide (storedPiece G s d .rec)
+  piece-wide s d h l =
+      let a : (offsetOn G d s < dataStored p (zoneAt v d o)) × (recordOf (blockIn (zoneAt v d o) (suc (offsetOn G d s)) .spare) .stripe ≡ s) =
+      offset-on p r g v (k .on) noDrive ch o s d ob l (away d l) (here? s d h l) in
+      let b : (offsetOn G d s < p .S) × (suc (offsetOn G d s) < zoneAt v d o .pointer) = stored-below p (zoneAt v d o) (offsetOn G d s) (a .0) in
+      subst (λ (q : Piece). Wide (q .rec)) (sym (stored-piece p r g v (k .on) noDrive ch o s d ob l (away d l) (here? s d h l)))
+      (zone-bytes p r g v (k .on) d o l (omega (arith, l, k .none)) ob .wide (offsetOn G d s) (b .0) (b .1))
+
+  -- ---- stripe s as stripe t
+  module _ (s t : ℕ) (h : Has s (counted p (named noDrive) G)) (tl : t < p .S) where
+    abbrev qs : List Piece
+    qs = movedPieces p G s t
+
+    noPiece : Piece
+    noPiece = mkPiece [] (mkRec 0 0 0)
+
+    qs-is : movedPieces p G s t ≡ map (λ j. renumbered t (storedPiece G s (dataDrive p s j))) (below (dataCount p))
+    unfolding movedPieces dataDrives
+    qs-is = map-map (λ d. renumbered t (storedPiece G s d)) (dataDrive p s) (below (dataCount p))
+
+    qs-at : (j : ℕ) → j < dataCount p → getD (movedPieces p G s t) j (mkPiece [] (mkRec 0 0 0)) ≡ renumbered t (storedPiece G s (dataDrive p s j))
+    qs-at j b = ap (λ (l : List Piece). getD l j (mkPiece [] (mkRec 0 0 0))) qs-is ∙ getD-map-below (λ j. renumbered t (storedPiece G s (dataDrive p s j))) (dataCount p) j (mkPiece [] (mkRec 0 0 0)) b
+
+    qs-long : PiecesLong (p .B) (movedPieces p G s t)
+    qs-long = subst (PiecesLong (p .B)) (sym qs-is) (pieces-long (p .B) (λ j. renumbered t (storedPiece G s (dataDrive p s j))) (below (dataCount p))
+        (λ j b. same (storedPiece G s (dataDrive p s j)) ∙ piece-block s (dataDrive p s j) h (data-drive-lt p s j (below-has j (dataCount p) b))))
+      where
+        same : (q : Piece) → length (renumbered t q .block) ≡ length (q .block)
+        same q = unfold renumbered in refl
+
+    on-data : (d : ℕ) → isData p t d ≡ true → d < p .N → movedOn p (movedPieces p G s t) t d ≡ renumbered t (storedPiece G s (dataDrive p s (dataPosition p t d)))
+    unfolding movedOn
+    on-data d e l =
+        cond-true (isData p t d) (getD (movedPieces p G s t) (dataPosition p t d) (mkPiece [] (mkRec 0 0 0))) (parityPiece p t (movedPieces p G s t))
+        e
+        ∙ qs-at (dataPosition p t d) (position-lt p t d e l)
+
+    on-parity : (d : ℕ) → isData p t d ≡ false → movedOn p (movedPieces p G s t) t d ≡ parityPiece p t (movedPieces p G s t)
+    unfolding movedOn
+    on-parity d e = cond-false (isData p t d) (getD (movedPieces p G s t) (dataPosition p t d) (mkPiece [] (mkRec 0 0 0))) (parityPiece p t (movedPieces p G s t)) e
+
+    moved-wide-at : (q : Piece) → Wide (q .rec) → Wide (renumbered t q .rec)
+    unfolding renumbered
+    moved-wide-at q w = record { address = w .address; stamp = w .stamp; stripe = omega (arith, tl, r .stripes-high) }
+
+    pub moved-wide : (d : ℕ) → d < p .N → Wide (movedOn p (movedPieces p G s t) t d .rec)
+    moved-wide d l = go (isData p t d) refl
+      where
+        go : (b : Bool) → isData p t d ≡ b → Wide (movedOn p (movedPieces p G s t) t d .rec)
+        go true e = subst (λ (q : Piece). Wide (q .rec)) (sym (on-data d e l))
+            (moved-wide-at (storedPiece G s (dataDrive p s (dataPosition p t d)))
+            (piece-wide s (dataDrive p s (dataPosition p t d)) h (data-drive-lt p s (dataPosition p t d) (position-lt p t d e l))))
+        go false e = subst (λ (q : Piece). Wide (q .rec)) (sym (on-parity d e)) (parity-wide p t (movedPieces p G s t) (omega (arith, tl, r .stripes-high)) (λ q m.
+            let a : (j : ℕ) × Has j (below (dataCount p)) × (q ≡ renumbered t (storedPiece G s (dataDrive p s j))) =
+            map-has (λ j. renumbered t (storedPiece G s (dataDrive p s j))) q (below (dataCount p)) (subst (λ (x : List Piece). Has q x) qs-is m) in
+            subst (λ (x : Piece). Wide (x .rec)) (sym (a .2))
+            (moved-wide-at (storedPiece G s (dataDrive p s (a .0)))
+            (piece-wide s (dataDrive p s (a .0)) h (data-drive-lt p s (a .0) (below-has (a .0) (dataCount p) (a .1)))))))
+
+    pub moved-long : (d : ℕ) → d < p .N → length (movedOn p (movedPieces p G s t) t d .block) ≡ p .B
+    moved-long d l = go (isData p t d) refl
+      where
+        go : (b : Bool) → isData p t d ≡ b → length (movedOn p (movedPieces p G s t) t d .block) ≡ p .B
+        go true e =
+            ap (λ (q : Piece). length (q .block)) (on-data d e l)
+            ∙ same (storedPiece G s (dataDrive p s (dataPosition p t d)))
+            ∙ piece-block s (dataDrive p s (dataPosition p t d)) h (data-drive-lt p s (dataPosition p t d) (position-lt p t d e l))
+          where
+            same : (q : Piece) → length (renumbered t q .block) ≡ length (q .block)
+            same q = unfold renumbered in refl
+        go false e = ap (λ (q : Piece). length (q .block)) (on-parity d e) ∙ long
+          where
+            long : length (parityPiece p t (movedPieces p G s t) .block) ≡ p .B
+            long = unfold parityPiece in length-parity (p .B) (map (λ (q : Piece). q .block) (movedPieces p G s t)) (blocks-of-long (p .B) (movedPieces p G s t) qs-long)
+
+    pub moved-stripe : (d : ℕ) → d < p .N → movedOn p (movedPieces p G s t) t d .rec .stripe ≡ t
+    moved-stripe d l = go (isData p t d) refl
+      where
+        go : (b : Bool) → isData p t d ≡ b → movedOn p (movedPieces p G s t) t d .rec .stripe ≡ t
+        go true e = ap (λ (q : Piece). q .rec .stripe) (on-data d e l) ∙ is (storedPiece G s (dataDrive p s (dataPosition p t d)))
+          where
+            is : (q : Piece) → renumbered t q .rec .stripe ≡ t
+            is q = unfold renumbered in refl
+        go false e = ap (λ (q : Piece). q .rec .stripe) (on-parity d e) ∙ is
+          where
+            is : parityPiece p t (movedPieces p G s t) .rec .stripe ≡ t
+            is = unfold parityPiece parityRec in refl
+
+    -- ---- values
+    pub moved-data : (d : ℕ) → isData p t d ≡ true → d < p .N → pieceValue (movedOn p (movedPieces p G s t) t d) ≡ pieceValue (storedPiece G s (dataDrive p s (dataPosition p t d)))
+    moved-data d e l = ap pieceValue (on-data d e l) ∙ value-renumbered t (storedPiece G s (dataDrive p s (dataPosition p t d)))
+
+    abbrev F : ℕ → Val
+    F d = pieceValue (movedOn p (movedPieces p G s t) t d)
+
+    values-same : map F (dataDrives p t) ≡ map pieceValue (movedPieces p G s t)
+    unfolding dataDrives
+    values-same =
+        map-map F (dataDrive p t) (below (dataCount p))
+        ∙ map-below-same (λ j. F (dataDrive p t j)) (λ j. pieceValue (renumbered t (storedPiece G s (dataDrive p s j)))) (dataCount p) (λ j b.
+        moved-data (dataDrive p t j) (drive-is-data p t j) (data-drive-lt p t j b)
+        ∙ ap (λ (x : ℕ). pieceValue (storedPiece G s (dataDrive p s x))) (position-drive p t j) ∙ sym (value-renumbered t (storedPiece G s (dataDrive p s j))))
+        ∙ sym (map-map pieceValue (λ j. renumbered t (storedPiece G s (dataDrive p s j))) (below (dataCount p))) ∙ ap (map pieceValue) (sym qs-is)
+
+    pub moved-xor : xorN (p .N) (λ d. pieceValue (movedOn p (movedPieces p G s t) t d)) ≡ 𝟘
+    moved-xor =
+        let X : Val = xorN (p .N) (onlyWhere (isData p t) F) in
+        let pd : parityDrive p t < p .N = parity-on p r t in
+        let np : isData p t (parityDrive p t) ≡ false = parity-not t in
+        let e : F (parityDrive p t) ≡ X =
+        ap pieceValue (on-parity (parityDrive p t) np)
+        ∙ parity-value p t (movedPieces p G s t) qs-long
+        ∙ ap xorL (sym values-same)
+        ∙ ap (λ (l : List ℕ). xorL (map F l)) (sym (keep-data p r t))
+        ∙ xor-below (isData p t) F (p .N) in
+        xorN-put (p .N) (parityDrive p t) F (onlyWhere (isData p t) F) pd (λ d l n. sym (only-there (isData p t) F d (is-data p t d n))) (only-else (isData p t) F (parityDrive p t) np)
+        ∙ ap (λ (x : Val). x ⊕ X) e ∙ ⊕-self X
+      where
+        parity-not : (t : ℕ) → isData p t (parityDrive p t) ≡ false
+        parity-not t = unfold isData in ap not (eq-eqb (parityDrive p t) (parityDrive p t) refl)
+
+  -- ---- the plan: the counted stripes, numbered from 0
+  abbrev cs : List ℕ
+  cs = counted p (named noDrive) G
+
+  piece-is : (s d : ℕ) → d < p .N → pieceAt p r g v (k .on) noDrive ch o s d ≡ pieceValue (storedPiece G s d)
+  piece-is s d l = unfold pieceAt in ap pieceValue (piece-here p r g v (k .on) noDrive ch o s d l (away d l))
+
+  pub plan-few : length (counted p (named noDrive) G) ≤ p .S
+  plan-few = unfold counted in omega (arith, length-keep (counts p (named noDrive) G) (below (p .S)), length-below (p .S))
+
+  pub plan-src : (j : ℕ) → j < length (counted p (named noDrive) G) → Has (getD (counted p (named noDrive) G) j 0) (counted p (named noDrive) G)
+  plan-src j l = getD-has (counted p (named noDrive) G) j 0 l
+
+  pub plan-F : ℕ → ℕ → Val
+  plan-F j d = pieceValue (movedOn p (movedPieces p (segmentOf p v (named noDrive) o) (getD (counted p (named noDrive) (segmentOf p v (named noDrive) o)) j 0) j) j d)
+
+  pub plan-E : ℕ → ℕ → Val
+  plan-E j d = pieceAt p r g v (k .on) noDrive (none-choice p r g v k) o (getD (counted p (named noDrive) (segmentOf p v (named noDrive) o)) j 0) d
+
+  pub plan-F-is : (j d : ℕ) → plan-F j d ≡ pieceValue (movedOn p (movedPieces p (segmentOf p v (named noDrive) o) (getD (counted p (named noDrive) (segmentOf p v (named noDrive) o)) j 0) j) j d)
+  unfolding plan-F
+  plan-F-is j d = refl
+
+  pub plan-xor : (j : ℕ) → j < length (counted p (named noDrive) G) → xorN (p .N) (plan-F j) ≡ 𝟘
+  unfolding plan-F
+  plan-xor j l = moved-xor (getD cs j 0) j (plan-src j l) (omega (arith, l, plan-few))
+
+  pub plan-to : (j : ℕ) (x : Val) → j < length (counted p (named noDrive) G) → Datum (parOf p r) (getD (counted p (named noDrive) G) j 0) (plan-E j) x → Datum (parOf p r) j (plan-F j) x
+  unfolding plan-F plan-E
+  plan-to j x l dt =
+      let s : ℕ = getD cs j 0 in
+      let e : isData p s (dt .d) ≡ true = is-data p s (dt .d) (dt .data?) in
+      let n : ℕ = dataPosition p s (dt .d) in
+      let b : n < dataCount p = position-lt p s (dt .d) e (dt .lt) in
+      record {
+        d = dataDrive p j n;
+        lt = data-drive-lt p j n b;
+        data? = data-not-parity p j n;
+        val = moved-data s j (plan-src j l) (omega (arith, l, plan-few)) (dataDrive p j n) (drive-is-data p j n) (data-drive-lt p j n b)
+            ∙ ap (λ (y : ℕ). pieceValue (storedPiece G s (dataDrive p s y))) (position-drive p j n) ∙ ap (λ (y : ℕ). pieceValue (storedPiece G s y)) (drive-position p s (dt .d) e)
+            ∙ sym (piece-is s (dt .d) (dt .lt)) ∙ dt .val;
+      }
+
+  pub plan-from : (j : ℕ) (x : Val) → j < length (counted p (named noDrive) G) → Datum (parOf p r) j (plan-F j) x → Datum (parOf p r) (getD (counted p (named noDrive) G) j 0) (plan-E j) x
+  unfolding plan-F plan-E
+  plan-from j x l dt =
+      let s : ℕ = getD cs j 0 in
+      let e : isData p j (dt .d) ≡ true = is-data p j (dt .d) (dt .data?) in
+      let n : ℕ = dataPosition p j (dt .d) in
+      let b : n < dataCount p = position-lt p j (dt .d) e (dt .lt) in
+      record {
+        d = dataDrive p s n;
+        lt = data-drive-lt p s n b;
+        data? = data-not-parity p s n;
+        val = piece-is s (dataDrive p s n) (data-drive-lt p s n b) ∙ sym (moved-data s j (plan-src j l) (omega (arith, l, plan-few)) (dt .d) e (dt .lt)) ∙ dt .val;
+      }
+
+  abbrev pub planOf : m-Plan (parOf p r)
+  planOf = record {
+    c = length (counted p (named noDrive) (segmentOf p v (named noDrive) o));
+    src = λ j. getD (counted p (named noDrive) (segmentOf p v (named noDrive) o)) j 0;
+    F = plan-F;
+    E = plan-E;
+    few = plan-few;
+    xor = plan-xor;
+    to = plan-to;
+    from = plan-from;
+  }
+
+  -- ---- the plan copies just what counts
+  pub plan-stripe : (j : ℕ) → j < length (counted p (named noDrive) G) → Stripe (parOf p r) (itemsIn p v) (g .un) o (getD (counted p (named noDrive) G) j 0) (plan-E j)
+  unfolding plan-E
+  plan-stripe j l = Stripe-none-any (parOf p r) (g .hd) (itemsIn p v) noDrive (g .un) (far-off p r g v k) (k .none) o (getD cs j 0) (pieceAt p r g v (k .on) noDrive ch o (getD cs j 0))
+      (counted-stripe p r g v (k .on) noDrive ch o (getD cs j 0) ob (plan-src j l))
+
+  pub plan-all : (s : ℕ) (f : ℕ → Val) (x : Val) → Stripe (parOf p r) (itemsIn p v) (g .un) o s f → Datum (parOf p r) s f x
+      → (j : ℕ) × (j < length (counted p (named noDrive) G)) × Datum (parOf p r) (getD (counted p (named noDrive) G) j 0) (plan-E j) x
+  unfolding plan-E
+  plan-all s f x st dt =
+      let st′ : Stripe (parOf p r) (itemsIn p v) noDrive o s f = Stripe-none-any (parOf p r) (g .hd) (itemsIn p v) (g .un) noDrive (k .none) (far-off p r g v k) o s f st in
+      let q : Has s (counted p (named noDrive) G) × ((d : ℕ) → d < p .N → pieceAt p r g v (k .on) noDrive ch o s d ≡ f d) = stripe-counted p r g v (k .on) noDrive ch o s f st′ in
+      let j : (j : ℕ) × (j < length cs) × (getD cs j 0 ≡ s) = has-getD cs s 0 (q .0) in (
+        j .0,
+        j .1,
+        subst (λ (y : ℕ). Datum (parOf p r) y (pieceAt p r g v (k .on) noDrive ch o y) x) (sym (j .2))
+            (record { d = dt .d; lt = dt .lt; data? = dt .data?; val = q .1 (dt .d) (dt .lt) ∙ dt .val }),
+      )
+
+  -- ---- the machine is ready
+  pub plan-ready : (w : ℕ) → segmentOf p v (named noDrive) o .full ≡ false → w < p .Z → ((e : ℕ) → e < p .N → pointerAt v e w ≡ 0) → (n : ℕ) → serialTop p v < n → g .pr ≡ alone
+      → Ready (parOf p r) g (itemsIn p v) w o n planOf
+  plan-ready w un wb empty n top alone? = record {
+    none = k .none;
+    no-pair = alone?;
+    ragged = rag (ragged-of p r g v (k .on) noDrive ch o i un);
+    zones = (wb, ob);
+    empty = λ e l. items-in p v e w ∙ none-stored (zoneAt v e w) (pointer-is v e w ∙ empty e l);
+    newest = λ y u. let a : g .hd .ser y ≤ serialTop p v = newest y u in omega (arith, a, top);
+    src = plan-stripe;
+    all = plan-all;
+  }
+    where
+      rag : Ragged (parOf p r) noDrive (itemsIn p v) o → Ragged (parOf p r) (g .un) (itemsIn p v) o
+      rag (d, t, a, b) = (d, (t .0, omega (arith, t .0, k .none)), a, b)
+
+      newest : (y : ℕ) → Used (parOf p r) (g .un) (itemsIn p v) y → g .hd .ser y ≤ serialTop p v
+      newest y u = unfold serialTop in ends-serials p r g v k y u
+
+      none-stored : (q : Zone) → q .pointer ≡ 0 → itemsOf p q ≡ []
+      none-stored q e = unfold itemsOf stored in (ap (λ (n : ℕ). itemsFrom p 0 (take n (q .blocks))) e ∙ (unfold itemsFrom in refl))

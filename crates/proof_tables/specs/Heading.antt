@@ -1,0 +1,338 @@
+-- A segment is opened: headers in a zone that is empty on all drives. The tables stay. Assumes nothing.
+use mathlib.Core.Path.{_≡_, refl, sym, ap, ap₂, _∙_, subst}
+use mathlib.Core.List.{List, [], _∷_, map}
+use mathlib.Core.Bool.{Bool, true, false, cond, not}
+use mathlib.Core.Logic.{_⊎_, inl, inr, ⊎-elim}
+use Prim.Native.Nat.{ℕ, suc, _+_, _^_, _≤_, _<_}
+use native.Mathlib.Decide.{ℕ-discrete}
+use borrow.Author.Tests.{eq-eqb, ne-eqb, eqb-true}
+use native.Mathlib.Omega.{arith}
+use lib.Dec.{eqb, lit<}
+use lib.ListN.{length, getD, set}
+use lib.Seq.{getD-set-same}
+use Rattle.spec.specs.declared.Params.{Params}
+use Rattle.spec.specs.declared.State.{State}
+use Rattle.spec.specs.Drives.{Chunk, mkChunk, noChunk, Zone, View, zoneAt, pointerAt, chunkAt, Store, putZone, storeView, storeAll, zoneOn, emptyOnAll}
+use Rattle.spec.specs.Drives.{sealedIn, dataStored, recordIn, zeroSpare, headerStores}
+use Rattle.spec.specs.Drives.Store.{put}
+use Rattle.spec.specs.Layout.{headerBlock, headerSerial, headerCopied, Rec}
+use Rattle.spec.specs.Lists.Opt.{none}
+use Rattle.spec.specs.Lists.{upFrom, below, tally, isIn}
+use Rattle.spec.specs.Memory.{slots, filledIn, landedIn, isFree, setOpen}
+use Rattle.spec.specs.Params.{capacity, drivesOf}
+use Rattle.spec.specs.Rank.{Cand, best, candsOf}
+use Rattle.spec.specs.Segments.{headerAt, recordsIn, segmentOf, segments, recsOn, candidates, addressTable, compactRow, compactTable}
+use Rattle.law_basic.specs.Be.{room}
+use Rattle.law_basic.specs.Geometry.{Ranged}
+use Rattle.law_basic.specs.Mask.{isIn-empty}
+use Rattle.law_views.specs.Views.{blocks-long}
+use Rattle.proof_tables.specs.Idle.{slots-in}
+use Rattle.proof_tables.specs.Laid.{header-serial, header-copied}
+use Rattle.proof_tables.specs.Members.{In, map-in, all-in, in-below, below-in}
+use Rattle.proof_tables.specs.Puts.{hits-headers, header-sound}
+use Rattle.proof_tables.specs.Range.{capacity-over}
+use Rattle.proof_tables.specs.Ranks.{same-best}
+use Rattle.proof_tables.specs.Run.{usedAt, flies, awaits, Open, Lists, Tidy, Healthy}
+use Rattle.proof_tables.specs.Segs.{recs-here, CandAt, cand-at, at-cand}
+use Rattle.proof_tables.specs.Settled.{remains-used, remains-is-used, its-drive-low, chunk-of-it, cands-apart, SameZones, zones-header, zones-pointer, zones-used, cand-goes, row-goes}
+use Rattle.proof_tables.specs.Tables.{addresses-cong, grid-cong, remains, rowAt, compact-is}
+use Rattle.proof_tables.specs.Tallies.{tally-none}
+use Rattle.proof_tables.specs.Tests.{clash, and-false-left, cond-true, cond-false, cond-same, eqb-self}
+use Rattle.proof_tables.specs.Zones.{Shaped, zoneStore, hits, zone-after, Room, Within, put-pointer, Roomy}
+
+-- zones behind headers
+module _ (p : Params) (r : Ranged p) (v : View) (sh : Shaped p v) (g rn cn : ℕ) (hg : g < p .Z) (em : (d : ℕ) → d < p .N → pointerAt v d g ≡ 0) where
+  abbrev hs : List Store
+  hs = headerStores p g rn cn
+
+  abbrev u : View
+  u = storeAll storeView hs v
+
+  pub header-zone : (d : ℕ) → d < p .N → zoneAt u d g ≡ putZone (headerBlock p d g rn cn) zeroSpare (zoneAt v d g)
+  header-zone d hd =
+      zone-after p v d g hs (sh .sized) hd hg
+      ∙ ap (λ (l : List Store). storeAll zoneStore l (zoneAt v d g)) (hits-headers p d g g rn cn hd ∙ cond-true (eqb g g) (put d g (headerBlock p d g rn cn) zeroSpare ∷ []) [] (eqb-self g))
+      ∙ once
+    where
+      once : storeAll zoneStore (put d g (headerBlock p d g rn cn) zeroSpare ∷ []) (zoneAt v d g) ≡ putZone (headerBlock p d g rn cn) zeroSpare (zoneAt v d g)
+      once = unfold storeAll zoneStore in refl
+
+  pub header-other : (d y : ℕ) → d < p .N → y < p .Z → (g ≡ y → ⊥) → zoneAt u d y ≡ zoneAt v d y
+  header-other d y hd hy n =
+      zone-after p v d y hs (sh .sized) hd hy
+      ∙ ap (λ (l : List Store). storeAll zoneStore l (zoneAt v d y)) (hits-headers p d y g rn cn hd ∙ cond-false (eqb g y) (put d g (headerBlock p d g rn cn) zeroSpare ∷ []) [] (ne-eqb g y n))
+      ∙ nothing
+    where
+      nothing : storeAll zoneStore [] (zoneAt v d y) ≡ zoneAt v d y
+      nothing = unfold storeAll in refl
+
+  pub header-pointer : (d : ℕ) → d < p .N → pointerAt u d g ≡ 1
+  header-pointer d hd = at (ap (λ (q : Zone). q .pointer) (header-zone d hd) ∙ put-pointer (headerBlock p d g rn cn) zeroSpare (zoneAt v d g) ∙ ap suc (as! (em d hd)))
+    where
+      at : zoneAt u d g .pointer ≡ 1 → pointerAt u d g ≡ 1
+      at e = unfold pointerAt in e
+
+      as! : pointerAt v d g ≡ 0 → zoneAt v d g .pointer ≡ 0
+      as! e = unfold pointerAt in e
+
+  pub header-block : headerAt u 0 g ≡ headerBlock p 0 g rn cn
+  header-block =
+      let h0 : 0 < p .N = omega (arith, r .drives-low) in
+      at ∙ ap (λ (q : Zone). getD (q .blocks) 0 noChunk .block) (header-zone 0 h0) ∙ back (zoneAt v 0 g) (as! (em 0 h0)) (sh .zone-ok 0 g h0 hg .blocks-long)
+    where
+      at : headerAt u 0 g ≡ getD (zoneAt u 0 g .blocks) 0 noChunk .block
+      at = unfold headerAt chunkAt zoneOn in refl
+
+      as! : pointerAt v 0 g ≡ 0 → zoneAt v 0 g .pointer ≡ 0
+      as! e = unfold pointerAt in e
+
+      back : (q : Zone) → q .pointer ≡ 0 → length (q .blocks) ≡ capacity p → getD (putZone (headerBlock p 0 g rn cn) zeroSpare q .blocks) 0 noChunk .block ≡ headerBlock p 0 g rn cn
+      back q e l = unfold putZone in (ap (λ (x : ℕ). getD (set (q .blocks) x (mkChunk (headerBlock p 0 g rn cn) zeroSpare)) 0 noChunk .block) e
+          ∙ ap (λ (c : Chunk). c .block) (getD-set-same (q .blocks) 0 (mkChunk (headerBlock p 0 g rn cn) zeroSpare) noChunk (let c = capacity-over p r in omega arith)))
+
+  pub header-roomy : Roomy p v hs
+  header-roomy d y hd hy = go (ℕ-discrete g y)
+    where
+      go : Dec (g ≡ y) → Room p (pointerAt v d y) (hits d y hs)
+      go (no n) = subst (λ (l : List Store). Room p (pointerAt v d y) l)
+          (sym (hits-headers p d y g rn cn hd ∙ cond-false (eqb g y) (put d g (headerBlock p d g rn cn) zeroSpare ∷ []) [] (ne-eqb g y n))) tt
+      go (yes e) = subst (λ (x : ℕ). Room p (pointerAt v d x) (hits d x hs)) e
+          (subst (λ (l : List Store). Room p (pointerAt v d g) l)
+          (sym (hits-headers p d g g rn cn hd ∙ cond-true (eqb g g) (put d g (headerBlock p d g rn cn) zeroSpare ∷ []) [] (eqb-self g)))
+          (subst (λ (x : ℕ). Room p x (put d g (headerBlock p d g rn cn) zeroSpare ∷ [])) (sym (em d hd))
+          (record { room = let c = capacity-over p r in omega arith; fine = header-sound p r d g rn cn }, tt)))
+
+  pub header-within : (s : Store) → In s hs → Within p s
+  header-within s m = go (as! m)
+    where
+      as! : In s hs → In s (map (λ d. put d g (headerBlock p d g rn cn) zeroSpare) (below (p .N)))
+      as! m = unfold headerStores drivesOf zoneOn in m
+
+      go : In s (map (λ d. put d g (headerBlock p d g rn cn) zeroSpare) (below (p .N))) → Within p s
+      go m = let (d, i, e) = map-in (λ d. put d g (headerBlock p d g rn cn) zeroSpare) (below (p .N)) s m in subst (λ (x : Store). Within p x) (sym e) (below-in (p .N) d i, hg)
+
+-- ---- the segment that a write opens
+
+pub empty-all : (p : Params) (v : View) (g : ℕ) → emptyOnAll p v g ≡ true → (d : ℕ) → d < p .N → pointerAt v d g ≡ 0
+unfolding emptyOnAll drivesOf zoneOn
+empty-all p v g q d h = eqb-true (pointerAt v d g) 0 (all-in (λ d. eqb (pointerAt v d g) 0) (below (p .N)) q d (in-below (p .N) d h))
+
+module _ (p : Params) (r : Ranged p) (v : View) (sh : Shaped p v) (s g : ℕ) (t : Tidy p v s) (hg : g < p .Z) (em : (d : ℕ) → d < p .N → pointerAt v d g ≡ 0) (fit : suc s < 256 ^ 8) where
+  abbrev after : View
+  after = storeAll storeView (headerStores p g (suc s) 0) v
+
+  same-off : (y : ℕ) → y < p .Z → (g ≡ y → ⊥) → SameZones p v after y
+  same-off y hy n d hd = sym (header-other p r v sh g (suc s) 0 hg em d y hd hy n)
+
+  h0 : 0 < p .N
+  h0 = omega (arith, r .drives-low)
+
+  unused : usedAt v g ≡ false
+  unused = ap not (eq-eqb (pointerAt v 0 g) 0 (em 0 h0))
+
+  head-serial : headerSerial (headerAt after 0 g) ≡ suc s
+  head-serial = ap headerSerial (header-block p r v sh g (suc s) 0 hg em) ∙ header-serial p 0 g (suc s) 0 fit
+
+  head-copied : headerCopied (headerAt after 0 g) ≡ 0
+  head-copied = ap headerCopied (header-block p r v sh g (suc s) 0 hg em) ∙ header-copied p 0 g (suc s) 0 (lit< tt)
+
+  -- a used segment is the new one or was used
+  was : (y : ℕ) → y < p .Z → usedAt after y ≡ true → (y ≡ g) ⊎ ((g ≡ y → ⊥) × (usedAt v y ≡ true))
+  was y hy q = go (ℕ-discrete g y)
+    where
+      go : Dec (g ≡ y) → (y ≡ g) ⊎ ((g ≡ y → ⊥) × (usedAt v y ≡ true))
+      go (yes e) = inl (sym e)
+      go (no n) = inr (n, zones-used p r v after y (same-off y hy n) ∙ q)
+
+  hdr-same : (y : ℕ) → y < p .Z → (g ≡ y → ⊥) → headerAt v 0 y ≡ headerAt after 0 y
+  hdr-same y hy n = zones-header p r v after y (same-off y hy n)
+
+  pub head-tidy : Tidy p after (suc s)
+  head-tidy = record {
+    pointer-low = λ d z hd hz. low d z hd hz (ℕ-discrete g z);
+    together = λ d z hd hz. tog d z hd hz (ℕ-discrete g z);
+    copied-less = λ z hz q. less z hz (was z hz q);
+    serial-known = λ z hz q. known z hz (was z hz q);
+    serial-once = λ y z hy hz a b e. one y z hy hz e (was y hy a) (was z hz b);
+    no-copy = λ y z hy hz a b e. nc y z hy hz e (was y hy a) (was z hz b);
+  }
+    where
+      low : (d z : ℕ) → d < p .N → z < p .Z → Dec (g ≡ z) → pointerAt after d z ≤ capacity p
+      low d z hd hz (yes e) = subst (λ (x : ℕ). pointerAt after d x ≤ capacity p) e (let q = header-pointer p r v sh g (suc s) 0 hg em d hd in let c = capacity-over p r in omega arith)
+      low d z hd hz (no n) = subst (λ (x : ℕ). x ≤ capacity p) (zones-pointer p r v after z (same-off z hz n) d hd) (t .pointer-low d z hd hz)
+
+      tog : (d z : ℕ) → d < p .N → z < p .Z → Dec (g ≡ z) → eqb (pointerAt after d z) 0 ≡ eqb (pointerAt after 0 z) 0
+      tog d z hd hz (yes e) = subst (λ (x : ℕ). eqb (pointerAt after d x) 0 ≡ eqb (pointerAt after 0 x) 0) e
+          (ap (λ (x : ℕ). eqb x 0) (header-pointer p r v sh g (suc s) 0 hg em d hd ∙ sym (header-pointer p r v sh g (suc s) 0 hg em 0 h0)))
+      tog d z hd hz (no n) =
+          ap (λ (x : ℕ). eqb x 0) (sym (zones-pointer p r v after z (same-off z hz n) d hd)) ∙ t .together d z hd hz ∙ ap (λ (x : ℕ). eqb x 0) (zones-pointer p r v after z (same-off z hz n) 0 h0)
+
+      less : (z : ℕ) → z < p .Z → (z ≡ g) ⊎ ((g ≡ z → ⊥) × (usedAt v z ≡ true)) → headerCopied (headerAt after 0 z) < headerSerial (headerAt after 0 z)
+      less z hz (inl e) = subst (λ (x : ℕ). headerCopied (headerAt after 0 x) < headerSerial (headerAt after 0 x)) (sym e) (let a = head-serial in let b = head-copied in omega arith)
+      less z hz (inr (n, q)) = subst (λ (x : List ℕ). headerCopied x < headerSerial x) (hdr-same z hz n) (t .copied-less z hz q)
+
+      known : (z : ℕ) → z < p .Z → (z ≡ g) ⊎ ((g ≡ z → ⊥) × (usedAt v z ≡ true)) → headerSerial (headerAt after 0 z) ≤ suc s
+      known z hz (inl e) = subst (λ (x : ℕ). headerSerial (headerAt after 0 x) ≤ suc s) (sym e) (let a = head-serial in omega arith)
+      known z hz (inr (n, q)) = subst (λ (x : List ℕ). headerSerial x ≤ suc s) (hdr-same z hz n) (let a = t .serial-known z hz q in omega arith)
+
+      old-low : (z : ℕ) → z < p .Z → (g ≡ z → ⊥) → usedAt v z ≡ true → headerSerial (headerAt after 0 z) ≤ s
+      old-low z hz n q = subst (λ (x : List ℕ). headerSerial x ≤ s) (hdr-same z hz n) (t .serial-known z hz q)
+
+      new-is : (y : ℕ) → y ≡ g → headerSerial (headerAt after 0 y) ≡ suc s
+      new-is y e = ap (λ (x : ℕ). headerSerial (headerAt after 0 x)) e ∙ head-serial
+
+      one : (y z : ℕ) → y < p .Z → z < p .Z → headerSerial (headerAt after 0 y) ≡ headerSerial (headerAt after 0 z)
+          → (y ≡ g) ⊎ ((g ≡ y → ⊥) × (usedAt v y ≡ true)) → (z ≡ g) ⊎ ((g ≡ z → ⊥) × (usedAt v z ≡ true)) → y ≡ z
+      one y z hy hz e (inl a) (inl b) = a ∙ sym b
+      one y z hy hz e (inl a) (inr (n, q)) = absurd (let x = old-low z hz n q in let w = new-is y a in let bad : ⊥ = omega arith in bad)
+      one y z hy hz e (inr (n, q)) (inl b) = absurd (let x = old-low y hy n q in let w = new-is z b in let bad : ⊥ = omega arith in bad)
+      one y z hy hz e (inr (n, q)) (inr (m, w)) = t .serial-once y z hy hz q w (ap headerSerial (hdr-same y hy n) ∙ e ∙ ap headerSerial (sym (hdr-same z hz m)))
+
+      nc : (y z : ℕ) → y < p .Z → z < p .Z → headerCopied (headerAt after 0 y) ≡ headerSerial (headerAt after 0 z)
+          → (y ≡ g) ⊎ ((g ≡ y → ⊥) × (usedAt v y ≡ true)) → (z ≡ g) ⊎ ((g ≡ z → ⊥) × (usedAt v z ≡ true)) → ⊥
+      nc y z hy hz e (inl a) c =
+          let x = less z hz c in
+          let w : headerCopied (headerAt after 0 y) ≡ 0 = ap (λ (x : ℕ). headerCopied (headerAt after 0 x)) a ∙ head-copied in
+          let bad : ⊥ = omega arith in bad
+      nc y z hy hz e (inr (n, q)) (inl b) =
+          let x = less y hy (inr (n, q)) in
+          let l = old-low y hy n q in
+          let w = new-is z b in
+          let bad : ⊥ = omega arith in bad
+      nc y z hy hz e (inr (n, q)) (inr (m, w)) = t .no-copy y z hy hz q w (ap headerCopied (hdr-same y hy n) ∙ e ∙ ap headerSerial (sym (hdr-same z hz m)))
+
+  -- ---- the new segment has no chunk
+
+  no-data : (d : ℕ) → d < p .N → dataStored p (zoneAt after d g) ≡ 0
+  no-data d hd = go (zoneAt after d g) (as! (header-pointer p r v sh g (suc s) 0 hg em d hd))
+    where
+      as! : pointerAt after d g ≡ 1 → zoneAt after d g .pointer ≡ 1
+      as! e = unfold pointerAt in e
+
+      go : (q : Zone) → q .pointer ≡ 1 → dataStored p q ≡ 0
+      go q e = unfold dataStored in omega arith
+
+  pub head-cands : (a : ℕ) → best none (candsOf a (candidates p 0 (segments p v 0))) ≡ best none (candsOf a (candidates p 0 (segments p after 0)))
+  head-cands a = same-best a (candidates p 0 (segments p v 0)) (candidates p 0 (segments p after 0)) (cands-apart p r after (suc s) head-tidy) fwd bwd
+    where
+      fwd : (c : Cand) → c .address ≡ a → In c (candidates p 0 (segments p v 0)) → In c (candidates p 0 (segments p after 0))
+      fwd c e m =
+          let k = cand-at p v 0 c m in
+          let (hk, q) = remains-is-used p r v s t (k .of) (k .remains) in
+          let n : g ≡ k .of → ⊥ = λ x. clash q (subst (λ (y : ℕ). usedAt v y ≡ false) x unused) in
+          at-cand p after 0 c (cand-goes p r v after (suc s) head-tidy c k (same-off (k .of) hk n) (sym (zones-used p r v after (k .of) (same-off (k .of) hk n)) ∙ q))
+
+      bwd : (c : Cand) → c .address ≡ a → In c (candidates p 0 (segments p after 0)) → In c (candidates p 0 (segments p v 0))
+      bwd c e m = go (cand-at p after 0 c m)
+        where
+          go : CandAt p after 0 c → In c (candidates p 0 (segments p v 0))
+          go k = two (was (k .of) hk q)
+            where
+              hk : k .of < p .Z
+              hk = remains-is-used p r after (suc s) head-tidy (k .of) (k .remains) .0
+
+              q : usedAt after (k .of) ≡ true
+              q = remains-is-used p r after (suc s) head-tidy (k .of) (k .remains) .1
+
+              two : (k .of ≡ g) ⊎ ((g ≡ k .of → ⊥) × (usedAt v (k .of) ≡ true)) → In c (candidates p 0 (segments p v 0))
+              two (inl e) = absurd (
+                  let l = chunk-of-it p r after (suc s) head-tidy c k .stored-there in
+                  let z : dataStored p (zoneAt after (c .drive) (k .of)) ≡ 0 =
+                  ap (λ (x : ℕ). dataStored p (zoneAt after (c .drive) x)) e ∙ no-data (c .drive) (its-drive-low p r after (suc s) head-tidy c k) in
+                  let bad : ⊥ = omega arith in bad)
+              two (inr (n, w)) = at-cand p v 0 c (cand-goes p r after v s t c k (λ d hd. sym (same-off (k .of) hk n d hd)) w)
+
+  pub head-rows : (d y : ℕ) → d < p .N → y < p .Z → rowAt p v 0 d y ≡ rowAt p after 0 d y
+  head-rows d y hd hy = go (ℕ-discrete g y)
+    where
+      empty-before : rowAt p v 0 d g ≡ []
+      empty-before = unfold rowAt in cond-false (remains p v 0 g) (recsOn (segmentOf p v 0 g) d) [] (remains-used p r v s t g hg ∙ unused)
+
+      empty-recs : recsOn (segmentOf p after 0 g) d ≡ []
+      empty-recs = recs-here p after 0 g d hd (isIn-empty d) ∙ go (sealedIn p after 0 g) (zoneAt after d g) (no-data d hd)
+        where
+          go : (w : Bool) (q : Zone) → dataStored p q ≡ 0 → recordsIn p w q ≡ []
+          go w q e = unfold recordsIn in (ap (λ (n : ℕ). map (recordIn p w q) (below n)) e ∙ (unfold below upFrom in refl))
+
+      empty-after : rowAt p after 0 d g ≡ []
+      empty-after = unfold rowAt in (ap (λ (l : List Rec). cond (remains p after 0 g) l []) empty-recs ∙ cond-same (remains p after 0 g) [])
+
+      go : Dec (g ≡ y) → rowAt p v 0 d y ≡ rowAt p after 0 d y
+      go (yes e) = subst (λ (x : ℕ). rowAt p v 0 d x ≡ rowAt p after 0 d x) e (empty-before ∙ sym empty-after)
+      go (no n) = row-goes p r v after s (suc s) t head-tidy d y hy (same-off y hy n)
+
+  pub head-addresses : addressTable p (candidates p 0 (segments p v 0)) ≡ addressTable p (candidates p 0 (segments p after 0))
+  head-addresses = addresses-cong p (candidates p 0 (segments p v 0)) (candidates p 0 (segments p after 0)) (λ a h. head-cands a)
+
+  pub head-compact : compactTable p (segments p v 0) ≡ compactTable p (segments p after 0)
+  head-compact =
+      compact-is p v 0
+      ∙ grid-cong p (λ d z. compactRow p (rowAt p v 0 d z)) (λ d z. compactRow p (rowAt p after 0 d z))
+      (λ d z hd hz. ap (compactRow p) (head-rows d z hd hz))
+      ∙ sym (compact-is p after 0)
+
+  -- ---- what holds
+
+  pub head-healthy : (st : State) → Healthy p v st → st .serial .0 ≡ s → ((z : ℕ) → st .opened ≡ suc z → ⊥) → ((i : ℕ) → i < 8 → flies st i ≡ false) → Healthy p after (setOpen st g (suc s))
+  head-healthy st h es nz nf = record {
+    tidy = subst (λ (x : ℕ). Tidy p after x) (sym serial-is!) head-tidy;
+    sealed-but = λ z hz q. sealed z hz (was z hz q);
+    opens-at = λ z q. at z (sym opened-is ∙ q);
+    shut = λ q. absurd (let x : suc g ≡ 0 = sym opened-is ∙ q in let y : ⊥ = omega arith in y);
+    serial-fits = subst (λ (x : ℕ). x < 256 ^ 8) (sym serial-is!) fit;
+    stamp-fits = subst (λ (x : ℕ). x < 256 ^ 8) (sym stamp-is) (h .stamp-fits);
+    lists = lists-same (h .lists);
+  }
+    where
+      su : State
+      su = setOpen st g (suc s)
+
+      serial-is! : su .serial .0 ≡ suc s
+      serial-is! = unfold setOpen in refl
+
+      stamp-is : su .stamp .0 ≡ st .stamp .0
+      stamp-is = unfold setOpen in refl
+
+      opened-is : su .opened ≡ suc g
+      opened-is = unfold setOpen in refl
+
+      next-is : su .next ≡ 0
+      next-is = unfold setOpen in refl
+
+      flies-is : (i : ℕ) → flies su i ≡ flies st i
+      flies-is i = unfold setOpen isFree filledIn in refl
+
+      lists-same : Lists st → Lists su
+      lists-same l = unfold setOpen in record {
+        numbers-long = l .numbers-long;
+        filled-long = l .filled-long;
+        writes-long = l .writes-long;
+        landed-long = l .landed-long;
+        addresses-long = l .addresses-long;
+        stamps-long = l .stamps-long;
+        offsets-long = l .offsets-long;
+      }
+
+      sealed : (z : ℕ) → z < p .Z → (z ≡ g) ⊎ ((g ≡ z → ⊥) × (usedAt v z ≡ true)) → (su .opened ≡ suc z) ⊎ ((d : ℕ) → d < p .N → pointerAt after d z ≡ capacity p)
+      sealed z hz (inl e) = inl (opened-is ∙ ap suc (sym e))
+      sealed z hz (inr (n, q)) = ⊎-elim (λ x. absurd (nz z x)) (λ x. inr (λ d hd. sym (zones-pointer p r v after z (same-off z hz n) d hd) ∙ x d hd)) (h .sealed-but z hz q)
+
+      none : (d : ℕ) → tally (awaits su (flies su) d) slots ≡ 0
+      none d = tally-none (awaits su (flies su) d) slots (λ i m. and-false-left (flies su i) (not (isIn (landedIn su i) d)) (flies-is i ∙ nf i (slots-in i m)))
+
+      one : (d : ℕ) → d < p .N → pointerAt after d g ≡ 1
+      one d hd = header-pointer p r v sh g (suc s) 0 hg em d hd
+
+      new : Open p after su (flies su) g
+      new = record {
+        opened-zone = hg;
+        has-header = λ d hd. let e = one d hd in omega arith;
+        count = λ d hd. ap₂ (λ (x y : ℕ). x + y) (one d hd) (none d) ∙ ap suc (sym next-is);
+        below-next = λ d o hd q. absurd (let e = one d hd in let z : ⊥ = omega arith in z);
+        flight = λ i hi q. clash q (flies-is i ∙ nf i hi);
+        once = λ i j hi hj a b e. clash a (flies-is i ∙ nf i hi);
+        goes-on = λ q. absurd (let e = sym next-is ∙ q in let l = r .stripes-low in let z : ⊥ = omega arith in z);
+      }
+
+      at : (z : ℕ) → suc g ≡ suc z → Open p after su (flies su) z
+      at z q = subst (λ (x : ℕ). Open p after su (flies su) x) (let e : g ≡ z = omega arith in e) new

@@ -1,0 +1,224 @@
+-- Headers, records and footers as bytes: lengths, that they are bytes, and that they are read back. Assumes nothing.
+use mathlib.Core.Path.{_≡_, refl, sym, ap, _∙_, subst}
+use mathlib.Core.List.{List, [], _∷_, _++_, append-nil, append-assoc}
+use mathlib.Core.Logic.{inl, inr}
+use Prim.Native.Nat.{ℕ, zero, suc, _+_, _-_, _*_, _/_, _%_, _^_, _≤_, _<_}
+use native.Mathlib.Nat.{div-add-mod', pow-le-pow-right, mod-lt, mul-suc, mul-le-mul-right}
+use native.Mathlib.Omega.{arith}
+use lib.Dec.{lit<}
+use lib.ListN.{length, getD, take, drop, replicate, length-take, length-drop, length-replicate}
+use lib.Seq.{take-at, getD-take, getD-drop}
+use Rattle.spec.specs.declared.Params.{Params}
+use Rattle.spec.specs.Bytes.{beOf, toBe, part, Field, field, bytesOf, readField}
+use Rattle.spec.specs.Drives.{zeroSpare}
+use Rattle.spec.specs.Layout.{headerWidths, headerValues, headerFields, headerBlock, headerSerial, headerCopied, Rec, recordFields, recordBytes, recordOf, footerBlock}
+use Rattle.spec.specs.Lists.{flat, total, padTo, zipped}
+use Rattle.spec.specs.Params.{recordWidths, spareLen, perFooter}
+use Rattle.law_basic.specs.Be.{beOf-lt, toBe-byte}
+use Rattle.law_basic.specs.Fields.{widths, length-bytesOf, readField-bytesOf}
+use Rattle.law_basic.specs.Geometry.{Ranged, spare-len, per-footer-low, per-footer-fits}
+use Rattle.law_basic.specs.Ranges.{length-padTo}
+use Rattle.law_basic.specs.Splice.{part-append-right}
+use Rattle.proof_tables.specs.Image.{bytes-part}
+use Rattle.proof_tables.specs.Members.{In}
+use Rattle.proof_tables.specs.Tables.{length-flat-in, zero-at}
+use Rattle.proof_tables.specs.Zones.{Bytes}
+
+-- ---- bytes
+
+pub bytes-nil : Bytes []
+bytes-nil i = omega arith
+
+pub bytes-append : (s t : List ℕ) → Bytes s → Bytes t → Bytes (s ++ t)
+bytes-append [] t a b i = b i
+bytes-append (x ∷ s) t a b zero = a 0
+bytes-append (x ∷ s) t a b (suc i) = bytes-append s t (λ j. a (suc j)) b i
+
+pub bytes-zeros : (n : ℕ) → Bytes (replicate n 0)
+bytes-zeros n i = subst (λ (x : ℕ). x < 256) (sym (zero-at n i)) (lit< tt)
+
+pub bytes-toBe : (w n : ℕ) → Bytes (toBe w n)
+bytes-toBe w n i = toBe-byte w n i
+
+pub bytes-pad : (n : ℕ) (l : List ℕ) → Bytes l → Bytes (padTo n l)
+unfolding padTo
+bytes-pad n l h = bytes-append l (replicate (n - length l) 0) h (bytes-zeros (n - length l))
+
+pub bytes-fields : (fs : List Field) → Bytes (bytesOf fs)
+unfolding bytesOf
+bytes-fields [] = bytes-nil
+bytes-fields (f ∷ fs) = bytes-append (toBe (f .width) (f .value)) (bytesOf fs) (bytes-toBe (f .width) (f .value)) (bytes-fields fs)
+
+-- what bytes say
+pub beOf-low : (l : List ℕ) → Bytes l → beOf l < 256 ^ length l
+beOf-low l h = beOf-lt l (λ k x. h k)
+
+-- ---- lengths
+
+header-width : (p : Params) (d z r c : ℕ) → widths (headerFields p d z r c) ≡ 41
+unfolding widths headerFields headerWidths headerValues zipped
+header-width p d z r c = refl
+
+pub length-header : (p : Params) (d z r c : ℕ) → 41 ≤ p .B → length (headerBlock p d z r c) ≡ p .B
+unfolding headerBlock
+length-header p d z r c h =
+    let e : length (bytesOf (headerFields p d z r c)) ≡ 41 = length-bytesOf (headerFields p d z r c) ∙ header-width p d z r c in
+    length-padTo (p .B) (bytesOf (headerFields p d z r c)) (omega (arith, e))
+
+pub bytes-header : (p : Params) (d z r c : ℕ) → Bytes (headerBlock p d z r c)
+unfolding headerBlock
+bytes-header p d z r c = bytes-pad (p .B) (bytesOf (headerFields p d z r c)) (bytes-fields (headerFields p d z r c))
+
+pub length-zeroSpare : length zeroSpare ≡ spareLen
+unfolding zeroSpare
+length-zeroSpare = length-replicate spareLen 0
+
+pub bytes-zeroSpare : Bytes zeroSpare
+unfolding zeroSpare
+bytes-zeroSpare = bytes-zeros spareLen
+
+record-width : (r : Rec) → widths (recordFields r) ≡ 20
+unfolding widths recordFields recordWidths zipped
+record-width r = refl
+
+pub length-record : (r : Rec) → length (recordBytes r) ≡ spareLen
+unfolding recordBytes
+length-record r = length-bytesOf (recordFields r) ∙ record-width r ∙ sym spare-len
+
+pub bytes-record : (r : Rec) → Bytes (recordBytes r)
+unfolding recordBytes
+bytes-record r = bytes-fields (recordFields r)
+
+-- spares of their length, in a row
+abbrev pub Long : ℕ → List (List ℕ) → Type 0
+Long n ss = (s : List ℕ) → In s ss → length s ≡ n
+
+pub in-take : {A : Type 0} (n : ℕ) (l : List A) (a : A) → In a (take n l) → In a l
+in-take zero l a m = absurd m
+in-take (suc n) [] a m = absurd m
+in-take (suc n) (x ∷ l) a (inl e) = inl e
+in-take (suc n) (x ∷ l) a (inr m) = inr (in-take n l a m)
+
+pub in-drop : {A : Type 0} (n : ℕ) (l : List A) (a : A) → In a (drop n l) → In a l
+in-drop zero l a m = m
+in-drop (suc n) [] a m = absurd m
+in-drop (suc n) (x ∷ l) a m = inr (in-drop n l a m)
+
+length-rows : (k : ℕ) (ss : List (List ℕ)) → Long k ss → length (flat (λ (b : List ℕ). b) ss) ≡ length ss * k
+length-rows k ss h = length-flat-in (λ (b : List ℕ). b) k ss h
+
+pub length-footer : (p : Params) → Ranged p → (ss : List (List ℕ)) (i : ℕ) → Long spareLen ss → length (footerBlock p ss i) ≡ p .B
+unfolding footerBlock
+length-footer p r ss i h =
+    let l = take (perFooter p) (drop (i * perFooter p) ss) in
+    let e : length (flat (λ (b : List ℕ). b) l) ≡ length l * spareLen = length-rows spareLen l (λ s m. h s (in-drop (i * perFooter p) ss s (in-take (perFooter p) (drop (i * perFooter p) ss) s m))) in
+    let n : length l ≤ perFooter p = subst (λ (x : ℕ). x ≤ perFooter p) (sym (length-take (perFooter p) (drop (i * perFooter p) ss))) (omega arith) in
+    let m : length l * spareLen ≤ perFooter p * spareLen = mul-le-mul-right spareLen n in
+    let q : perFooter p * spareLen ≤ p .B = per-footer-fits p r in
+    length-padTo (p .B) (flat (λ (b : List ℕ). b) l) (omega arith)
+
+bytes-rows : (ss : List (List ℕ)) → ((s : List ℕ) → In s ss → Bytes s) → Bytes (flat (λ (b : List ℕ). b) ss)
+unfolding flat
+bytes-rows [] h = bytes-nil
+bytes-rows (s ∷ ss) h = bytes-append s (flat (λ (b : List ℕ). b) ss) (h s (inl refl)) (bytes-rows ss (λ t m. h t (inr m)))
+
+pub bytes-footer : (p : Params) (ss : List (List ℕ)) (i : ℕ) → ((s : List ℕ) → In s ss → Bytes s) → Bytes (footerBlock p ss i)
+unfolding footerBlock
+bytes-footer p ss i h = bytes-pad (p .B) (flat (λ (b : List ℕ). b) (take (perFooter p) (drop (i * perFooter p) ss)))
+    (bytes-rows (take (perFooter p) (drop (i * perFooter p) ss)) (λ s m. h s (in-drop (i * perFooter p) ss s (in-take (perFooter p) (drop (i * perFooter p) ss) s m))))
+
+-- ---- fields are read back
+
+pub header-serial : (p : Params) (d z r c : ℕ) → r < 256 ^ 8 → headerSerial (headerBlock p d z r c) ≡ r
+unfolding headerSerial headerBlock padTo headerFields headerWidths headerValues
+header-serial p d z r c h =
+    let vs = headerValues p d z r c in
+    let t : List ℕ = replicate (p .B - length (bytesOf (zipped field headerWidths vs))) 0 in
+    readField-bytesOf headerWidths vs 9 t (lit< tt) (lit< tt) h
+
+pub header-copied : (p : Params) (d z r c : ℕ) → c < 256 ^ 8 → headerCopied (headerBlock p d z r c) ≡ c
+unfolding headerCopied headerBlock padTo headerFields headerWidths headerValues
+header-copied p d z r c h =
+    let vs = headerValues p d z r c in
+    let t : List ℕ = replicate (p .B - length (bytesOf (zipped field headerWidths vs))) 0 in
+    readField-bytesOf headerWidths vs 10 t (lit< tt) (lit< tt) h
+
+record-field : (r : Rec) (i : ℕ) → i < length recordWidths → i < 3 → getD (r .address ∷ r .stamp ∷ r .stripe ∷ []) i 0 < 256 ^ getD recordWidths i 0
+    → readField recordWidths i (recordBytes r) ≡ getD (r .address ∷ r .stamp ∷ r .stripe ∷ []) i 0
+unfolding recordBytes recordFields
+record-field r i h l b =
+    let vs = r .address ∷ r .stamp ∷ r .stripe ∷ [] in
+    ap (readField recordWidths i) (sym (append-nil (bytesOf (zipped field recordWidths vs)))) ∙ readField-bytesOf recordWidths vs i [] h l b
+
+pub record-stripe : (r : Rec) → r .stripe < 256 ^ 4 → recordOf (recordBytes r) .stripe ≡ r .stripe
+unfolding recordOf recordWidths
+record-stripe r h = record-field r 2 (lit< tt) (lit< tt) h
+
+pub record-back : (r : Rec) → r .address < 256 ^ 8 → r .stamp < 256 ^ 8 → r .stripe < 256 ^ 4 → recordOf (recordBytes r) ≡ r
+unfolding recordOf recordWidths
+record-back r a t s =
+    λ i. record {
+      address = record-field r 0 (lit< tt) (lit< tt) a i;
+      stamp = record-field r 1 (lit< tt) (lit< tt) t i;
+      stripe = record-field r 2 (lit< tt) (lit< tt) s i;
+    }
+
+-- ---- what bytes say is small
+
+length-part-le : (a n : ℕ) (l : List ℕ) → length (part a n l) ≤ n
+unfolding part
+length-part-le a n l = subst (λ (x : ℕ). x ≤ n) (sym (length-take n (drop a l))) (omega arith)
+
+pub field-low : (ws : List ℕ) (i : ℕ) (l : List ℕ) → Bytes l → readField ws i l < 256 ^ getD ws i 0
+unfolding readField
+field-low ws i l h =
+    let q = part (total (take i ws)) (getD ws i 0) l in
+    let m : 256 ^ length q ≤ 256 ^ getD ws i 0 = pow-le-pow-right (lit< tt) {i = length q} {j = getD ws i 0} (length-part-le (total (take i ws)) (getD ws i 0) l) in
+    let b = beOf-low q (bytes-part (total (take i ws)) (getD ws i 0) l h) in
+    omega arith
+
+pub serial-low : (l : List ℕ) → Bytes l → headerSerial l < 256 ^ 8
+unfolding headerSerial headerWidths
+serial-low l h = field-low headerWidths 9 l h
+
+pub address-low : (l : List ℕ) → Bytes l → recordOf l .address < 256 ^ 8
+unfolding recordOf recordWidths
+address-low l h = field-low recordWidths 0 l h
+
+pub stamp-low : (l : List ℕ) → Bytes l → recordOf l .stamp < 256 ^ 8
+unfolding recordOf recordWidths
+stamp-low l h = field-low recordWidths 1 l h
+
+-- ---- footers are read back
+
+part-front : (s t : List ℕ) (n : ℕ) → length s ≡ n → part 0 n (s ++ t) ≡ s
+unfolding part
+part-front s t n e = take-at s t n e
+
+row-of : (k : ℕ) (t : List (List ℕ)) (j : ℕ) (u : List ℕ) → Long k t → j < length t → part (k * j) k (flat (λ (b : List ℕ). b) t ++ u) ≡ getD t j []
+unfolding flat
+row-of k [] j u h l = absurd (let z : ⊥ = omega arith in z)
+row-of k (s ∷ t) zero u h l =
+    ap (λ (x : ℕ). part x k (s ++ flat (λ (b : List ℕ). b) t ++ u)) (let e : k * 0 ≡ 0 = omega arith in e)
+    ∙ ap (part 0 k) (append-assoc s (flat (λ (b : List ℕ). b) t) u) ∙ part-front s (flat (λ (b : List ℕ). b) t ++ u) k (h s (inl refl))
+row-of k (s ∷ t) (suc j) u h l =
+    ap (λ (x : ℕ). part x k (s ++ flat (λ (b : List ℕ). b) t ++ u)) (let e : k * suc j ≡ length s + k * j = mul-suc k j ∙ (let q : length s ≡ k = h s (inl refl) in omega arith) in e)
+    ∙ ap (part (length s + k * j) k) (append-assoc s (flat (λ (b : List ℕ). b) t) u) ∙ part-append-right (k * j) k s (flat (λ (b : List ℕ). b) t ++ u)
+    ∙ row-of k t j u (λ x m. h x (inr m)) (omega arith)
+
+pub getD-footer : (p : Params) → Ranged p → (ss : List (List ℕ)) (o : ℕ) → Long spareLen ss → o < length ss
+    → part (spareLen * (o % perFooter p)) spareLen (footerBlock p ss (o / perFooter p)) ≡ getD ss o []
+unfolding footerBlock padTo
+getD-footer p r ss o h l =
+    let k = perFooter p in
+    let j = o % k in
+    let i = o / k in
+    let jk : j < k = mod-lt o (let z : 0 < k = omega (arith, per-footer-low p r) in z) in
+    let e : i * k + j ≡ o = div-add-mod' o k in
+    let d = drop (i * k) ss in
+    let t = take k d in
+    let pad : List ℕ = replicate (p .B - length (flat (λ (b : List ℕ). b) t)) 0 in
+    let ld : j < length d = subst (λ (x : ℕ). j < x) (sym (length-drop (i * k) ss)) (omega arith) in
+    let lt : j < length t = subst (λ (x : ℕ). j < x) (sym (length-take k d)) (omega arith) in
+    row-of spareLen t j pad (λ s m. h s (in-drop (i * k) ss s (in-take k d s m))) lt
+    ∙ getD-take k d j [] jk ∙ getD-drop (i * k) ss j [] ∙ ap (λ (x : ℕ). getD ss x []) e

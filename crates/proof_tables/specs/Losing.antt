@@ -1,0 +1,233 @@
+-- With a drive missing: the restart that names it, the calls that are refused, and its rebuild. Assumes nothing.
+use mathlib.Core.Path.{_≡_, refl, sym, ap, _∙_, subst}
+use mathlib.Core.List.{List, [], _∷_, _++_, map}
+use mathlib.Core.Bool.{Bool, true, false, cond, not, _&&_, _||_}
+use mathlib.Core.Logic.{inl}
+use Prim.Native.Nat.{ℕ, _^_, _≤_, _<_}
+use native.Mathlib.Decide.{ℕ-discrete}
+use borrow.Author.Tests.{ne-eqb, ltb-true, eqb-true, not-false}
+use native.Mathlib.Omega.{arith}
+use lib.Dec.{leb, ltb, eqb}
+use lib.ListN.{length}
+use lib.Count.{ones}
+use Rattle.spec.specs.declared.Params.{Params}
+use Rattle.spec.specs.declared.Answer.{Answer}
+use Rattle.spec.specs.declared.Answer.the-variants.{Cut, Rebuilt}
+use Rattle.proof_tables.specs.Run.{Lost, Run, Kept}
+use Rattle.spec.specs.Answers.{kind, isRefused, isRefusedAs, isCut}
+use Rattle.spec.specs.Calls.{Check, firstRefusal, Plan, mkPlan, decided, After, outcome}
+use Rattle.spec.specs.Calls.Check.{rule, zones}
+use Rattle.spec.specs.Closing.{closeChecks, closePlan, closeVerdict}
+use Rattle.spec.specs.Drives.{View, storeView, Disk, storeDisk, storeAll}
+use Rattle.spec.specs.Engine.Call.{write, land, close, reclaim, rebuild}
+use Rattle.spec.specs.Engine.{storeCount, lentBlock, verdict, lentOk, callOn, callDisk}
+use Rattle.spec.specs.Faults.{imageChecks}
+use Rattle.spec.specs.Landing.{waiting, landFaults, landChecks, landPlan, landVerdict}
+use Rattle.spec.specs.Lists.{keep, isNil, firstOr, only, isIn}
+use Rattle.spec.specs.Memory.{Memory, hasFilling, stateFaults}
+use Rattle.spec.specs.Params.{between, inRange, placeBlock, named, present}
+use Rattle.spec.specs.Rebuild.{namesMissing, rebuildChecks, rebuildStores, rebuildVerdict}
+use Rattle.spec.specs.Reclaim.{tableFaults, victim, isNone, victimSegment, victimLive, idle, reclaimChecks, resetPlan, copyPlan, reclaimVerdict}
+use Rattle.spec.specs.Segments.{lowDrive, segments, candidates, addressTable, compactTable}
+use Rattle.spec.specs.Write.{opens, noStamp, noSerial, mustWait, scarce, writeChecks, writePlan, writeVerdict}
+use Rattle.law_basic.specs.Be.{room}
+use Rattle.law_basic.specs.Geometry.{Ranged, ranged}
+use Rattle.law_basic.specs.Mask.{isIn-only}
+use Rattle.law_basic.specs.Ranges.{and-left, and-right}
+use Rattle.law_views.specs.Views.{seen, view-stores, whole-stores}
+use Rattle.proof_tables.specs.Accept.{Accepted, checks-of, in-groups}
+use Rattle.proof_tables.specs.Base.{Base}
+use Rattle.proof_tables.specs.Checks.{Passes, Clear, clear}
+use Rattle.proof_tables.specs.Frame.{Agree, same-candidates, same-compact, same-accepted}
+use Rattle.proof_tables.specs.Idle.{lengths-of, of-lengths, whole-of}
+use Rattle.proof_tables.specs.Masks.{only-low, ones-only, only-nonzero}
+use Rattle.proof_tables.specs.Members.{In, first-in, in-some}
+use Rattle.proof_tables.specs.Outcomes.{Ended, ended, cut-cut, cut-mild}
+use Rattle.proof_tables.specs.Outcomes.Ended.{ended-refused, ended-done, ended-cut}
+use Rattle.proof_tables.specs.Range.{capacity-word}
+use Rattle.proof_tables.specs.Reading.{Idle}
+use Rattle.proof_tables.specs.Reads.{InGroups}
+use Rattle.proof_tables.specs.Rebuilding.{rebuild-roomy, rebuild-within, rebuild-agrees}
+use Rattle.proof_tables.specs.Segs.{in-present}
+use Rattle.proof_tables.specs.Tests.{clash, or-right, eqb-self}
+use Rattle.proof_tables.specs.Zones.{Shaped, all-fit, shaped-after}
+
+-- ---- the mask of a drive
+
+module _ (p : Params) (r : Ranged p) (d : ℕ) (hd : d < p .N) where
+  eight : d < 8
+  eight = omega (arith, r .drives-high)
+
+  pub named-in : isIn (named d) d ≡ true
+  unfolding named
+  named-in = isIn-only d d eight eight ∙ eqb-self d
+
+  pub named-low : named d < 2 ^ p .N
+  unfolding named
+  named-low = only-low d (p .N) hd (r .drives-high)
+
+  pub named-ones : ones (named d) ≤ 1
+  unfolding named
+  named-ones = ones-only d eight
+
+  pub named-some : eqb (named d) 0 ≡ false
+  unfolding named
+  named-some = only-nonzero d eight
+
+  other : (e : ℕ) → e < p .N → (e ≡ d → ⊥) → In e (present p (named d))
+  unfolding named
+  other e he ne = in-present p (only d) e he (isIn-only d e eight (omega (arith, r .drives-high)) ∙ ne-eqb e d ne)
+
+  pub low-present : In (lowDrive p (named d)) (present p (named d))
+  unfolding lowDrive
+  low-present = first-in (present p (named d)) 0 (go (ℕ-discrete 0 d))
+    where
+      go : Dec (0 ≡ d) → isNil (present p (named d)) ≡ false
+      go (no n) = in-some (present p (named d)) 0 (other 0 (omega (arith, r .drives-low)) n)
+      go (yes n) = in-some (present p (named d)) 1 (other 1 (omega (arith, r .drives-low)) (λ e. let z : ⊥ = omega arith in z))
+
+-- ---- a call that changes nothing keeps what holds
+
+pub idle-kept : (p : Params) (k : Disk) (m : Memory) (b : Base p k m) (r : After Disk) → Run p k m → Idle p k m b r → Kept p r
+idle-kept p k m b r u i = record {
+  never-ninth = i .mild;
+  runs-on = λ c. subst (λ (x : Disk). Run p x (r .memory)) (sym (i .same-drives)) (subst (λ (x : Memory). Run p k x) (sym (i .same-memory)) u);
+}
+
+-- a refusal that isn't the ninth keeps all
+pub refused-kept : (p : Params) (k : Disk) (m : Memory) (r : After Disk) (a : Answer) → Run p k m → isRefusedAs 9 a ≡ false → r .answer ≡ a → r .drives ≡ k → r .memory ≡ m → Kept p r
+refused-kept p k m r a u h e f g = record {
+  never-ninth = ap (isRefusedAs 9) e ∙ h;
+  runs-on = λ c. subst (λ (x : Disk). Run p x (r .memory)) (sym f) (subst (λ (x : Memory). Run p k x) (sym g) u);
+}
+
+pub cut-kept : (p : Params) (r : After Disk) → r .answer ≡ Cut → Kept p r
+cut-kept p r e = record {
+  never-ninth = ap (isRefusedAs 9) e ∙ cut-mild;
+  runs-on = λ c. clash (ap isCut e ∙ cut-cut) c;
+}
+
+-- ---- calls while a drive is missing
+
+module _ (p : Params) (k : Disk) (m : Memory) (u : Run p k m) (lo : Lost p k m) where
+  abbrev v : View
+  v = seen p k
+
+  abbrev d : ℕ
+  d = lo .which
+
+  rg : Ranged p
+  rg = ranged p (u .base .ranged)
+
+  missing-some : eqb (m .state .missing) 0 ≡ false
+  missing-some = ap (λ (x : ℕ). eqb x 0) (lo .names-it) ∙ named-some p rg d (lo .which-low)
+
+  -- a list of checks with the third one among the first three stops a call
+  stopped : (c1 c2 : Bool) (cs : List Check) (q : Plan) (n : ℕ) (b : List ℕ)
+      → Kept p (outcome p (storeDisk p) n k m b (decided (firstRefusal (rule 1 c1 ∷ rule 2 c2 ∷ rule 3 (not (eqb (m .state .missing) 0)) ∷ cs)) q))
+  stopped c1 c2 cs q n b = go (ended p k m (rule 1 c1 ∷ rule 2 c2 ∷ rule 3 (not (eqb (m .state .missing) 0)) ∷ cs) q n b)
+    where
+      never : {X : Type 0} → not (eqb (m .state .missing) 0) ≡ false → X
+      never e = clash (ap not missing-some) e
+
+      go : Ended p k m (rule 1 c1 ∷ rule 2 c2 ∷ rule 3 (not (eqb (m .state .missing) 0)) ∷ cs) q
+          (outcome p (storeDisk p) n k m b (decided (firstRefusal (rule 1 c1 ∷ rule 2 c2 ∷ rule 3 (not (eqb (m .state .missing) 0)) ∷ cs)) q))
+          → Kept p (outcome p (storeDisk p) n k m b (decided (firstRefusal (rule 1 c1 ∷ rule 2 c2 ∷ rule 3 (not (eqb (m .state .missing) 0)) ∷ cs)) q))
+      go (ended-refused a e f g h) = refused-kept p k m _ a u
+          (clear (rule 1 c1 ∷ rule 2 c2 ∷ rule 3 (not (eqb (m .state .missing) 0)) ∷ cs) (refl, λ x. (refl, λ y. (refl, λ z. never z))) a e) f g h
+      go (ended-done c f g h) = never (c .1 .1 .0)
+      go (ended-cut c f) = cut-kept p _ f
+
+  pub lost-write : (a : ℕ) (b : List ℕ) (n : ℕ) → Kept p (callDisk p k m (write a b n))
+  unfolding callDisk callOn verdict storeCount lentBlock writeVerdict writeChecks
+  lost-write a b n = stopped _ _ _ _ n b
+
+  pub lost-land : (e s n : ℕ) → Kept p (callDisk p k m (land e s n))
+  unfolding callDisk callOn verdict storeCount lentBlock landVerdict landChecks
+  lost-land e s n = stopped _ _ _ _ n []
+
+  pub lost-close : (n : ℕ) → Kept p (callDisk p k m (close n))
+  unfolding callDisk callOn verdict storeCount lentBlock closeVerdict closeChecks
+  lost-close n = stopped _ _ _ _ n []
+
+  pub lost-reclaim : (n : ℕ) → Kept p (callDisk p k m (reclaim n))
+  unfolding callDisk callOn verdict storeCount lentBlock reclaimVerdict reclaimChecks
+  lost-reclaim n = stopped _ _ _ _ n []
+
+  -- ---- the rebuild
+
+  module _ (e n : ℕ) where
+    abbrev plan : Plan
+    plan = mkPlan (rebuildStores p e (segments p v (named e))) Rebuilt m []
+
+    abbrev checks : List Check
+    checks = rule 1 (not (inRange p) || not (namesMissing p (m .state) e)) ∷ rule 2 (not (lentOk p k m)) ∷ imageChecks p v (named e) (segments p v (named e))
+
+    clear-images : named e ≡ m .state .missing → Clear (imageChecks p v (named e) (segments p v (named e)))
+    unfolding imageChecks
+    clear-images q =
+        let a : Accepted p v (named e) = subst (λ (x : ℕ). Accepted p v x) (sym q) (lo .accepts) in
+        checks-of p v (named e) a
+
+    pub named-same : not (inRange p) || not (namesMissing p (m .state) e) ≡ false → (e < p .N) × (m .state .missing ≡ named e)
+    unfolding namesMissing
+    named-same q =
+        let t = not-false (ltb e (p .N) && eqb (m .state .missing) (named e)) (or-right (not (inRange p)) (not (ltb e (p .N) && eqb (m .state .missing) (named e))) q) in
+        (ltb-true e (p .N) (and-left (ltb e (p .N)) (eqb (m .state .missing) (named e)) t), eqb-true (m .state .missing) (named e) (and-right (ltb e (p .N)) (eqb (m .state .missing) (named e)) t))
+
+    done : Passes checks → (x : Disk) → x ≡ storeAll (storeDisk p) (plan .stores) k → Run p x m
+    done c x ex =
+        let (he, q) = named-same (c .0) in
+        let w = whole-of p k m (u .base .lent) in
+        let lost = named-in p rg e he in
+        let room = rebuild-roomy p rg v (u .base .shaped) e he lost in
+        let fit = all-fit p v (plan .stores) (u .base .shaped .sized) (rebuild-within p rg v (u .base .shaped) e he lost) room in
+        let ev : seen p (storeAll (storeDisk p) (plan .stores) k) ≡ storeAll storeView (plan .stores) v = view-stores p k (plan .stores) (capacity-word p rg) w fit in
+        let w′ = whole-stores p k (plan .stores) (capacity-word p rg) w fit in
+        let l = lengths-of p k m (u .base .lent) in
+        let v′ = storeAll storeView (plan .stores) v in
+        let ag : Agree p (named e) v v′ = rebuild-agrees p rg v (u .base .shaped) e he lost in
+        let gone = m .state .missing in
+        let low : In (lowDrive p gone) (present p gone) = subst (λ (y : ℕ). In (lowDrive p y) (present p y)) (sym q) (low-present p rg e he) in
+        let ag′ : Agree p gone v v′ = subst (λ (y : ℕ). Agree p y v v′) (sym q) ag in
+        let acc : Accepted p v′ gone = same-accepted p gone v v′ low ag′ (lo .accepts) in
+        subst (λ (y : Disk). Run p y m) (sym ex)
+        (back e he q (storeAll (storeDisk p) (plan .stores) k) v′ ev
+        (of-lengths p (storeAll (storeDisk p) (plan .stores) k) m
+        (record { image-ok = w′ .image-long; pointers-ok = w′ .pointers-long; addresses-ok = l .addresses-ok; compact-ok = l .compact-ok; inflight-ok = l .inflight-ok }))
+        (shaped-after p v (plan .stores) (u .base .shaped) room)
+        (u .base .addresses-say ∙ ap (addressTable p) (same-candidates p gone v v′ low ag′))
+        (u .base .compact-says ∙ same-compact p gone v v′ low ag′) acc)
+      where
+        back : (e : ℕ) → e < p .N → m .state .missing ≡ named e → (y : Disk) (w : View) → seen p y ≡ w → lentOk p y m ≡ true → Shaped p w
+            → m .addresses ≡ addressTable p (candidates p (m .state .missing) (segments p w (m .state .missing)))
+            → m .compact ≡ compactTable p (segments p w (m .state .missing)) → Accepted p w (m .state .missing) → Run p y m
+        back e he q y w ew ll sh a1 a2 acc =
+            let g = m .state .missing in
+            record {
+              base = record {
+                ranged = u .base .ranged;
+                lent = ll;
+                shaped = subst (λ (x : View). Shaped p x) (sym ew) sh;
+                state-ok = u .base .state-ok;
+                addresses-say = subst (λ (x : View). m .addresses ≡ addressTable p (candidates p g (segments p x g))) (sym ew) a1;
+                compact-says = subst (λ (x : View). m .compact ≡ compactTable p (segments p x g)) (sym ew) a2;
+                decodes = λ d h. subst (λ (x : View). InGroups p x g) (sym ew) (in-groups p w g acc);
+              };
+              mode = inl (record { which = e; which-low = he; names-it = q; accepts = subst (λ (x : View). Accepted p x g) (sym ew) acc });
+            }
+
+    pub lost-rebuild : Kept p (callDisk p k m (rebuild e n))
+    unfolding callDisk callOn verdict storeCount lentBlock rebuildVerdict rebuildChecks
+    lost-rebuild = go (ended p k m checks plan n [])
+      where
+        mild-rebuilt : isRefusedAs 9 Rebuilt ≡ false
+        mild-rebuilt = unfold isRefusedAs isRefused kind in refl
+
+        go : Ended p k m checks plan (outcome p (storeDisk p) n k m [] (decided (firstRefusal checks) plan)) → Kept p (outcome p (storeDisk p) n k m [] (decided (firstRefusal checks) plan))
+        go (ended-refused a x f g h) = refused-kept p k m _ a u (clear checks (refl, λ y. (refl, λ z. clear-images (sym (named-same y .1)))) a x) f g h
+        go (ended-done c f g h) = record {
+          never-ninth = ap (isRefusedAs 9) f ∙ mild-rebuilt;
+          runs-on = λ x. subst (λ (y : Memory). Run p (outcome p (storeDisk p) n k m [] (decided (firstRefusal checks) plan) .drives) y) (sym h) (done c _ g);
+        }
+        go (ended-cut c f) = cut-kept p _ f

@@ -1,0 +1,80 @@
+-- How a call ends: refused, done or cut. Assumes nothing.
+use mathlib.Core.Path.{_≡_, refl, sym, ap, subst}
+use mathlib.Core.List.{List, [], _∷_}
+use mathlib.Core.Bool.{Bool, true, false}
+use Prim.Native.Nat.{ℕ}
+use borrow.Author.Tests.{ne-eqb, leb-true}
+use native.Mathlib.Omega.{arith}
+use lib.Dec.{leb}
+use lib.ListN.{length}
+use Rattle.spec.specs.declared.Params.{Params}
+use Rattle.spec.specs.declared.Answer.{Answer}
+use Rattle.spec.specs.declared.Answer.the-variants.{Refused, BadZone, Cut}
+use Rattle.spec.specs.Answers.{kind, isRefused, isRefusedAs, isCut, finished}
+use Rattle.spec.specs.Calls.{Check, ninth, ruled, firstRefusal, Plan, Verdict, decided, After, mkAfter, limited, outcome}
+use Rattle.spec.specs.Calls.Check.{rule, zones}
+use Rattle.spec.specs.Calls.Verdict.{due}
+use Rattle.spec.specs.Drives.{Disk, storeDisk, storeAll}
+use Rattle.spec.specs.Lists.Opt.{some}
+use Rattle.spec.specs.Lists.{least}
+use Rattle.spec.specs.Memory.{Memory}
+use Rattle.law_basic.specs.Stores.{refused-same}
+use Rattle.proof_tables.specs.Checks.{Passes, Decided, decide}
+use Rattle.proof_tables.specs.Checks.Decided.{stops, goes}
+
+pub data Ended (p : Params) (k : Disk) (m : Memory) (cs : List Check) (q : Plan) (r : After Disk) : Type 0 where
+  ended-refused : (a : Answer) → firstRefusal cs ≡ some a → r .answer ≡ a → r .drives ≡ k → r .memory ≡ m → Ended p k m cs q r
+  ended-done : Passes cs → r .answer ≡ q .answer → r .drives ≡ storeAll (storeDisk p) (q .stores) k → r .memory ≡ q .memory → Ended p k m cs q r
+  ended-cut : Passes cs → r .answer ≡ Cut → Ended p k m cs q r
+
+pub ended : (p : Params) (k : Disk) (m : Memory) (cs : List Check) (q : Plan) (n : ℕ) (b : List ℕ) → Ended p k m cs q (outcome p (storeDisk p) n k m b (decided (firstRefusal cs) q))
+ended p k m cs q n b = go (decide cs q)
+  where
+    limits : (t : Bool) → leb (length (q .stores)) n ≡ t → Passes cs → Ended p k m cs q (outcome p (storeDisk p) n k m b (due q))
+    limits true e c = ended-done c (ap (λ (r : After Disk). r .answer) (all! e)) (ap (λ (r : After Disk). r .drives) (all! e)) (ap (λ (r : After Disk). r .memory) (all! e))
+      where
+        all! : leb (length (q .stores)) n ≡ true → outcome p (storeDisk p) n k m b (due q) ≡ mkAfter (q .answer) (storeAll (storeDisk p) (q .stores) k) (q .memory) (q .block)
+        all! e = unfold outcome limited in rw e
+    limits false e c = ended-cut c (cut! e)
+      where
+        cut! : leb (length (q .stores)) n ≡ false → outcome p (storeDisk p) n k m b (due q) .answer ≡ Cut
+        cut! e = unfold outcome limited in rw e
+
+    go : Decided cs q (decided (firstRefusal cs) q) → Ended p k m cs q (outcome p (storeDisk p) n k m b (decided (firstRefusal cs) q))
+    go (stops a e w) = subst (λ (x : Verdict). Ended p k m cs q (outcome p (storeDisk p) n k m b x)) (sym w)
+        (ended-refused a e (ap (λ (r : After Disk). r .answer) (refused-same p (storeDisk p) n k m b a))
+        (ap (λ (r : After Disk). r .drives) (refused-same p (storeDisk p) n k m b a))
+        (ap (λ (r : After Disk). r .memory) (refused-same p (storeDisk p) n k m b a)))
+    go (goes c w) = subst (λ (x : Verdict). Ended p k m cs q (outcome p (storeDisk p) n k m b x)) (sym w) (limits (leb (length (q .stores)) n) refl c)
+
+-- ---- answers
+
+pub refusal-kind : (cs : List Check) (a : Answer) → firstRefusal cs ≡ some a → isRefused a ≡ true
+unfolding firstRefusal ruled ninth
+refusal-kind [] a q = absurd (let z : _≡_ {A = ℕ} 0 1 = cc in let y : ⊥ = omega arith in y)
+refusal-kind (rule n true ∷ cs) a q = let e : Refused n ≡ a = cc in subst (λ (x : Answer). isRefused x ≡ true) e kind0
+  where
+    kind0 : isRefused (Refused n) ≡ true
+    kind0 = unfold isRefused kind in refl
+refusal-kind (rule n false ∷ cs) a q = refusal-kind cs a q
+refusal-kind (zones [] ∷ cs) a q = refusal-kind cs a q
+refusal-kind (zones (z ∷ zs) ∷ cs) a q = let e : BadZone (least z zs) ≡ a = cc in subst (λ (x : Answer). isRefused x ≡ true) e kind1
+  where
+    kind1 : isRefused (BadZone (least z zs)) ≡ true
+    kind1 = unfold isRefused kind in refl
+
+pub refused-unfinished : (a : Answer) → isRefused a ≡ true → finished a ≡ false
+unfolding isRefused finished
+refused-unfinished a q = let h = leb-true (kind a) 1 q in ne-eqb (kind a) 12 (λ e. let z : ⊥ = omega arith in z)
+
+pub cut-unfinished : finished Cut ≡ false
+unfolding finished kind
+cut-unfinished = refl
+
+pub cut-cut : isCut Cut ≡ true
+unfolding isCut kind
+cut-cut = refl
+
+pub cut-mild : isRefusedAs 9 Cut ≡ false
+unfolding isRefusedAs isRefused kind
+cut-mild = refl

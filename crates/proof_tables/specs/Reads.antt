@@ -1,0 +1,195 @@
+-- What the two read calls find, where the tables are what the drives say. Assumes nothing.
+use mathlib.Core.Path.{_≡_, refl, sym, ap, ap₂, _∙_, subst}
+use mathlib.Core.List.{List, []}
+use mathlib.Core.Bool.{Bool, true, false, cond, not, _&&_}
+use Prim.Native.Nat.{ℕ, zero, suc, _+_, _-_, _*_, _/_, _%_, _≤_, _<_}
+use native.Mathlib.Nat.{div-add-mod', mod-lt}
+use native.Mathlib.Decide.{ℕ-discrete}
+use borrow.Author.Tests.{lt-leb, lt-ltb, eq-eqb, ltb-true, eqb-true}
+use native.Mathlib.Omega.{arith}
+use lib.Dec.{leb, ltb, eqb}
+use lib.ListN.{length, getD}
+use lib.Arith.{digits-div}
+use Rattle.spec.specs.declared.Params.{Params}
+use Rattle.spec.specs.Counts.{neverPlace}
+use Rattle.spec.specs.Drives.{View, zoneAt, pointerAt, zoneOn, sealedIn, dataStored, recordIn}
+use Rattle.spec.specs.Layout.{dataDrive, group, inGroupOf, groupOffsets, compactEntry, Rec, mkRec}
+use Rattle.spec.specs.Lists.{upFrom, consIf, keep, isNil, firstOr, isIn}
+use Rattle.spec.specs.Memory.{compactAt, shownAt}
+use Rattle.spec.specs.Params.{capacity, placeOf, placeBlock, placeZone, placeDrive, present}
+use Rattle.spec.specs.Rank.{Cand}
+use Rattle.spec.specs.Read.{placeFaults}
+use Rattle.spec.specs.Read.Found.{here}
+use Rattle.spec.specs.Segments.{remaining, Segment, recordsIn, segmentOf, segments, recsOn, offsetOn, hasChunk, counts, offsetOf, candOf, compactTable}
+use Rattle.law_basic.specs.Geometry.{between-of, Ranged, place-block, place-zone, place-drive, data-drive-lt}
+use Rattle.law_basic.specs.Ranges.{Test, test, and-left, and-right, and-both}
+use Rattle.law_basic.specs.Ranges.Test.{yes!, no! }
+use Rattle.proof_tables.specs.Members.{In, all-in, keep-keep}
+use Rattle.proof_tables.specs.Range.{capacity-over, place-low}
+use Rattle.proof_tables.specs.Segs.{in-present, remaining-low, length-records, record-at, data-low, low-data, recs-here, seg-is, chunk-at, CandAt}
+use Rattle.proof_tables.specs.Tables.{row-at, remains, remaining-in, rowAt, compact-at}
+use Rattle.proof_tables.specs.Tests.{true-false, not-so, cond-true}
+
+-- ---- the spot of a candidate
+
+pub record Spot (p : Params) (v : View) (gone : ℕ) (c : Cand) : Type 0 where
+  pub zone : ℕ
+  pub drive-low : c .drive < p .N
+  pub zone-low : zone < p .Z
+  pub offset-low : c .offset < p .S
+  pub place-is : c .place ≡ placeOf p (c .drive) zone (1 + c .offset)
+  pub visible : isIn gone (c .drive) ≡ false → 1 + c .offset < pointerAt v (c .drive) zone
+
+pub counts-in : (p : Params) (gone : ℕ) (g : Segment) (s d : ℕ) → counts p gone g s ≡ true → d < p .N → isIn gone d ≡ false → hasChunk g s d ≡ true
+unfolding counts
+counts-in p gone g s d q h i = all-in (hasChunk g s) (present p gone) q d (in-present p gone d h i)
+
+module _ (p : Params) (r : Ranged p) (v : View) (gone : ℕ) where
+  pub spot-of : (c : Cand) → CandAt p v gone c → Spot p v gone c
+  unfolding candOf offsetOf zoneOn pointerAt
+  spot-of c k =
+      let g = k .of in
+      let s = k .stripe in
+      let d = dataDrive p s (k .position) in
+      let x = segmentOf p v gone g in
+      let hd : d < p .N = data-drive-lt p s (k .position) (k .position-low) in
+      let hz : g < p .Z = remaining-low p v gone g (k .remains) in
+      let o = offsetOf gone x s d in
+      let m : (o < p .S) × (isIn gone d ≡ false → 1 + o < zoneAt v d g .pointer) = go g s d hd (k .stripe-low) (k .it-counts) (test (isIn gone d)) in
+      subst (λ (y : Cand). Spot p v gone y) (sym (k .it-is)) (record {
+        zone = g;
+        drive-low = hd;
+        zone-low = hz;
+        offset-low = m .0;
+        place-is = ap (λ (u : ℕ). placeOf p d u (1 + o)) (seg-is p v gone g);
+        visible = m .1;
+      })
+    where
+      go : (g s d : ℕ) → d < p .N → s < p .S → counts p gone (segmentOf p v gone g) s ≡ true → Test (isIn gone d)
+          → (cond (isIn gone d) s (offsetOn (segmentOf p v gone g) d s) < p .S)
+          × (isIn gone d ≡ false → 1 + cond (isIn gone d) s (offsetOn (segmentOf p v gone g) d s) < zoneAt v d g .pointer)
+      go g s d hd hs q (yes! e) = rw e (hs, λ f. true-false f)
+      go g s d hd hs q (no! e) =
+          let l = data-low p (zoneAt v d g) (offsetOn (segmentOf p v gone g) d s) (chunk-at p v gone g d s hd e (counts-in p gone (segmentOf p v gone g) s d q hd e) .stored-there) in
+          rw e (l .0, λ f. l .1)
+
+  module _ (c : Cand) (t : Spot p v gone c) where
+    block-fits : 1 + c .offset < capacity p
+    block-fits = omega (arith, capacity-over p r, t .offset-low)
+
+    pub spot-block : placeBlock p (c .place) ≡ 1 + c .offset
+    spot-block = ap (placeBlock p) (t .place-is) ∙ place-block p (c .drive) (t .zone) (1 + c .offset) block-fits
+
+    pub spot-zone : placeZone p (c .place) ≡ t .zone
+    spot-zone = ap (placeZone p) (t .place-is) ∙ place-zone p (c .drive) (t .zone) (1 + c .offset) (t .zone-low) block-fits
+
+    pub spot-drive : placeDrive p (c .place) ≡ c .drive
+    spot-drive = ap (placeDrive p) (t .place-is) ∙ place-drive p (c .drive) (t .zone) (1 + c .offset) (t .zone-low) block-fits
+
+    pub spot-low : c .place < neverPlace
+    spot-low = subst (λ (x : ℕ). x < neverPlace) (sym (t .place-is)) (place-low p r (c .drive) (t .zone) (1 + c .offset) (t .drive-low) (t .zone-low) block-fits)
+
+    pub spot-faults : placeFaults p v gone (c .place) ≡ []
+    unfolding placeFaults consIf
+    spot-faults = rw (
+      spot-drive,
+      spot-zone,
+      spot-block,
+      lt-leb (p .N) (c .drive) (t .drive-low),
+      between-of 1 (p .S) (1 + c .offset) (omega arith) (omega (arith, t .offset-low)),
+    ) (go (test (isIn gone (c .drive))))
+      where
+        go : Test (isIn gone (c .drive)) → consIf (not (isIn gone (c .drive)) && leb (pointerAt v (c .drive) (t .zone)) (1 + c .offset)) (t .zone) [] ≡ []
+        go (yes! e) = rw e
+        go (no! e) = rw (e, lt-leb (pointerAt v (c .drive) (t .zone)) (1 + c .offset) (t .visible e))
+
+-- ---- the offsets that the compact table shows
+
+first-kept : (f : ℕ → Bool) (b n o : ℕ) → b ≤ o → o < b + n → f o ≡ true → ((i : ℕ) → b ≤ i → i < o → f i ≡ false)
+    → (firstOr 0 (keep f (upFrom b n)) ≡ o) × (isNil (keep f (upFrom b n)) ≡ false)
+unfolding keep consIf upFrom firstOr isNil
+first-kept f b zero o x y q g = absurd (let z : ⊥ = omega arith in z)
+first-kept f b (suc n) o x y q g = go (ℕ-discrete b o) (first-kept f (suc b) n o)
+  where
+    go : Dec (b ≡ o) → (suc b ≤ o → o < suc b + n → f o ≡ true → ((i : ℕ) → suc b ≤ i → i < o → f i ≡ false)
+        → (firstOr 0 (keep f (upFrom (suc b) n)) ≡ o) × (isNil (keep f (upFrom (suc b) n)) ≡ false))
+        → (firstOr 0 (consIf (f b) b (keep f (upFrom (suc b) n))) ≡ o) × (isNil (consIf (f b) b (keep f (upFrom (suc b) n))) ≡ false)
+    go (yes e) ih = let t : f b ≡ true = ap f e ∙ q in rw t (e, refl)
+    go (no e) ih = let t : f b ≡ false = g b (omega arith) (omega arith) in rw t (ih (omega arith) (omega arith) q (λ i u w. g i (omega arith) w))
+
+-- a number is its group and its place in the group
+same-number : (g a b : ℕ) → a / g ≡ b / g → a % g ≡ b % g → a ≡ b
+same-number g a b d m = sym (div-add-mod' a g) ∙ ap₂ (λ (x y : ℕ). x * g + y) d m ∙ div-add-mod' b g
+
+-- every chunk of what remains sits at an offset of its group
+abbrev pub InGroups : Params → View → ℕ → Type 0
+InGroups p v gone = (g d o : ℕ) → In g (remaining p v gone) → d < p .N → isIn gone d ≡ false → o < dataStored p (zoneAt v d g)
+    → inGroupOf p o (recordIn p (sealedIn p v gone g) (zoneAt v d g) o .stripe) ≡ true
+
+module _ (p : Params) (r : Ranged p) (v : View) (gone : ℕ) (groups : InGroups p v gone) (g d s : ℕ) (hg : In g (remaining p v gone)) (hd : d < p .N)
+    (pr : isIn gone d ≡ false) (c : hasChunk (segmentOf p v gone g) s d ≡ true) where
+  abbrev table : List ℕ
+  table = compactTable p (segments p v gone)
+
+  abbrev shows : ℕ → Bool
+  shows o = ltb (1 + o) (pointerAt v d g) && eqb (getD table (compactAt p d g o) 0) (compactEntry p s)
+
+  hz : g < p .Z
+  hz = remaining-low p v gone g hg
+
+  entry-is : (o : ℕ) → o < dataStored p (zoneAt v d g) → getD table (compactAt p d g o) 0 ≡ compactEntry p (recordIn p (sealedIn p v gone g) (zoneAt v d g) o .stripe)
+  unfolding rowAt
+  entry-is o h =
+      let e : rowAt p v gone d g ≡ recordsIn p (sealedIn p v gone g) (zoneAt v d g) =
+      cond-true (remains p v gone g) (recsOn (segmentOf p v gone g) d) [] (remaining-in p v gone g hg .1) ∙ recs-here p v gone g d hd pr in
+      let l : length (rowAt p v gone d g) ≡ dataStored p (zoneAt v d g) = ap length e ∙ length-records p (sealedIn p v gone g) (zoneAt v d g) in
+      compact-at p v gone d g o hd hz (data-low p (zoneAt v d g) o h .0)
+      ∙ row-at p (rowAt p v gone d g) o (subst (λ (x : ℕ). o < x) (sym l) h)
+      ∙ ap (λ (x : Rec). compactEntry p (x .stripe)) (ap (λ (x : List Rec). getD x o (mkRec 0 0 0)) e ∙ record-at p (sealedIn p v gone g) (zoneAt v d g) o (mkRec 0 0 0) h)
+
+  pub shown-first : (firstOr 0 (shownAt p v table d g s) ≡ offsetOn (segmentOf p v gone g) d s) × (isNil (shownAt p v table d g s) ≡ false)
+  unfolding shownAt groupOffsets pointerAt
+  shown-first =
+      let k = chunk-at p v gone g d s hd pr c in
+      let o = offsetOn (segmentOf p v gone g) d s in
+      let b = group p s * p .G in
+      let low = data-low p (zoneAt v d g) o (k .stored-there) in
+      let gr : inGroupOf p o s ≡ true = subst (λ (x : ℕ). inGroupOf p o x ≡ true) (k .its-stripe) (groups g d o hg hd pr (k .stored-there)) in
+      let same : s / p .G ≡ o / p .G = go-group o gr in
+      let eo : o / p .G * p .G + o % p .G ≡ o = div-add-mod' o (p .G) in
+      let mo : o % p .G < p .G = mod-lt o (r .group-low) in
+      let es : s / p .G * p .G ≡ o / p .G * p .G = ap (λ (x : ℕ). x * p .G) same in
+      let f : ℕ → Bool = λ x. ltb x (p .S) && shows x in
+      let here : f o ≡ true = and-both (ltb o (p .S)) (shows o) (lt-ltb o (p .S) (low .0))
+      (and-both (ltb (1 + o) (pointerAt v d g)) (eqb (getD table (compactAt p d g o) 0) (compactEntry p s)) (lt-ltb (1 + o) (pointerAt v d g) (low .1))
+      (eq-eqb (getD table (compactAt p d g o) 0) (compactEntry p s) (entry-is o (k .stored-there) ∙ ap (compactEntry p) (k .its-stripe)))) in
+      let base : group p s * p .G ≡ s / p .G * p .G = group-base in
+      let q = first-kept f b (p .G) o (omega arith) (omega arith) here (λ i u w. earlier i (omega arith) (omega arith) w) in
+      let e : keep shows (keep (λ x. ltb x (p .S)) (upFrom b (p .G))) ≡ keep f (upFrom b (p .G)) = keep-keep shows (λ x. ltb x (p .S)) (upFrom b (p .G)) in
+      (ap (firstOr 0) e ∙ q .0, ap isNil e ∙ q .1)
+    where
+      group-base : group p s * p .G ≡ s / p .G * p .G
+      group-base = unfold group in refl
+
+      go-group : (o : ℕ) → inGroupOf p o s ≡ true → s / p .G ≡ o / p .G
+      go-group o q = unfold inGroupOf group in eqb-true (s / p .G) (o / p .G) (and-right (ltb s (p .S)) (eqb (s / p .G) (o / p .G)) q)
+
+      earlier : (i : ℕ) → s / p .G * p .G ≤ i → i < s / p .G * p .G + p .G → i < offsetOn (segmentOf p v gone g) d s → ltb i (p .S) && shows i ≡ false
+      earlier i u w l = not-so (ltb i (p .S) && shows i) (λ q.
+          let a = and-left (ltb i (p .S)) (shows i) q in
+          let x = and-right (ltb i (p .S)) (shows i) q in
+          let y = ltb-true (1 + i) (pointerAt v d g) (and-left (ltb (1 + i) (pointerAt v d g)) (eqb (getD table (compactAt p d g i) 0) (compactEntry p s)) x) in
+          let z = eqb-true (getD table (compactAt p d g i) 0) (compactEntry p s) (and-right (ltb (1 + i) (pointerAt v d g)) (eqb (getD table (compactAt p d g i) 0) (compactEntry p s)) x) in
+          let st : i < dataStored p (zoneAt v d g) = low-data p (zoneAt v d g) i (ltb-true i (p .S) a) y in
+          let t = recordIn p (sealedIn p v gone g) (zoneAt v d g) i .stripe in
+          let gr : t / p .G ≡ i / p .G = in-same i t (groups g d i hg hd pr st) in
+          let di : i / p .G ≡ s / p .G = ap (λ (x : ℕ). x / p .G) (let e : i ≡ s / p .G * p .G + (i - s / p .G * p .G) = omega arith in e)
+          ∙ digits-div (s / p .G) (let e : i - s / p .G * p .G < p .G = omega arith in e) in
+          let md : t % p .G ≡ s % p .G = mod-same t (sym (entry-is i st) ∙ z) in
+          chunk-at p v gone g d s hd pr c .first i l (same-number (p .G) t s (gr ∙ di) md))
+        where
+          in-same : (o t : ℕ) → inGroupOf p o t ≡ true → t / p .G ≡ o / p .G
+          in-same o t q = unfold inGroupOf group in eqb-true (t / p .G) (o / p .G) (and-right (ltb t (p .S)) (eqb (t / p .G) (o / p .G)) q)
+
+          mod-same : (t : ℕ) → compactEntry p t ≡ compactEntry p s → t % p .G ≡ s % p .G
+          mod-same t q = unfold compactEntry in q

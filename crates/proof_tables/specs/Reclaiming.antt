@@ -1,0 +1,368 @@
+-- Reclaim, with no drive missing. Assumes nothing.
+use mathlib.Core.Path.{_≡_, refl, sym, ap, ap₂, _∙_, subst}
+use mathlib.Core.List.{List, [], _∷_, _++_, map}
+use mathlib.Core.Bool.{Bool, true, false, cond, not, _&&_, _||_}
+use mathlib.Core.Logic.{_⊎_, inl, inr, ⊎-elim}
+use Prim.Native.Nat.{ℕ, _+_, _-_, _^_, _<_}
+use borrow.Author.Tests.{leb-false, eqb-true}
+use native.Mathlib.Omega.{arith}
+use lib.Dec.{ltb, eqb}
+use lib.ListN.{length}
+use Rattle.spec.specs.declared.Params.{Params}
+use Rattle.spec.specs.declared.State.{State}
+use Rattle.spec.specs.Answers.{kind, isRefused, isRefusedAs}
+use Rattle.spec.specs.Calls.{Check, firstRefusal, Plan, decided, outcome}
+use Rattle.spec.specs.Calls.Check.{rule, zones}
+use Rattle.spec.specs.Drives.{View, zoneAt, pointerAt, chunkAt, Store, storeView, Disk, storeDisk, storeAll, segmentNumbers, zoneOn, placeSegment, emptyZones}
+use Rattle.spec.specs.Drives.{sealedIn, recordIn, recordAt, resetStores}
+use Rattle.spec.specs.Engine.Call.{reclaim}
+use Rattle.spec.specs.Engine.{storeCount, lentBlock, verdict, lentOk, callOn, callDisk}
+use Rattle.spec.specs.History.{step}
+use Rattle.spec.specs.Layout.{dataDrive, Rec}
+use Rattle.spec.specs.Lists.{Opt, below, all, isMember, keep, isNil, firstOr, isIn}
+use Rattle.spec.specs.Lists.Opt.{none, some}
+use Rattle.spec.specs.Memory.{Memory, mkMemory, stateFaults}
+use Rattle.spec.specs.Params.{between, inRange, capacity, placeOf, placeBlock, placeZone, placeDrive, drivesOf, present}
+use Rattle.spec.specs.Parity.{parityRec}
+use Rattle.spec.specs.Rank.{Cand, best, candsOf}
+use Rattle.spec.specs.Reclaim.{placesIn, tableFaults, segmentPlaces, liveIn, flying, Victim, victimOf, fewer, fewest, victim, isNone, victimSegment}
+use Rattle.spec.specs.Reclaim.{victimLive, idle, reclaimChecks, cleared, resetPlan, copyPlan, reclaimVerdict}
+use Rattle.spec.specs.Segments.{Segment, segmentOf, segments, storedRec, recOf, candOf, candidates, addressTable}
+use Rattle.spec.specs.Write.{opens, noSerial, mustWait, scarce, sending}
+use Rattle.law_basic.specs.Geometry.{between-of, Ranged, ranged}
+use Rattle.law_basic.specs.Mask.{isIn-empty}
+use Rattle.law_basic.specs.Ranges.{Test, test}
+use Rattle.law_basic.specs.Ranges.Test.{yes!, no! }
+use Rattle.law_views.specs.Views.{seen}
+use Rattle.proof_tables.specs.Base.{cand-zone}
+use Rattle.proof_tables.specs.Bounds.{record-low}
+use Rattle.proof_tables.specs.Checks.{Passes, clear}
+use Rattle.proof_tables.specs.Going.{well-run, address-table, compact-table, buffer-long, sent-run}
+use Rattle.proof_tables.specs.Idle.{StateOk, state-of, whole-of}
+use Rattle.proof_tables.specs.Live.{Pointed, places-pointed, holds-place, table-clear}
+use Rattle.proof_tables.specs.Losing.{refused-kept, cut-kept}
+use Rattle.proof_tables.specs.Members.{In, in-map, map-in, in-flat, in-keep, keep-in, all-in, keep-nothing, in-below, below-in, first-in, nil-is, is-member, member-is}
+use Rattle.proof_tables.specs.Outcomes.{Ended, ended}
+use Rattle.proof_tables.specs.Outcomes.Ended.{ended-refused, ended-done, ended-cut}
+use Rattle.proof_tables.specs.Range.{capacity-over}
+use Rattle.proof_tables.specs.Reading.{state-clear, nil-append}
+use Rattle.proof_tables.specs.Reads.{spot-of, spot-block, spot-zone, spot-drive}
+use Rattle.proof_tables.specs.Resetting.{reset-roomy, reset-within, reset-addresses, reset-rows, reset-healthy, cleared-is}
+use Rattle.proof_tables.specs.Run.{Tidy, Well, Run, Kept}
+use Rattle.proof_tables.specs.Segs.{remaining-low, CandAt}
+use Rattle.proof_tables.specs.Sending.{sends}
+use Rattle.proof_tables.specs.Settled.{present-all, its-drive, its-offset, chunk-of-it}
+use Rattle.proof_tables.specs.Tables.{remains}
+use Rattle.proof_tables.specs.Tests.{true-false, or-left, or-right, cond-true, cond-false}
+
+-- ---- the segment that it takes
+
+fewer-is : (a : Opt Victim) (b w : Victim) → fewer a b ≡ some w → (a ≡ some w) ⊎ (w ≡ b)
+unfolding fewer
+fewer-is none b w q = inr (let e : b ≡ w = cc in sym e)
+fewer-is (some a) b w q = go (test (ltb (length (b .live)) (length (a .live))))
+  where
+    go : Test (ltb (length (b .live)) (length (a .live))) → (some a ≡ some w) ⊎ (w ≡ b)
+    go (yes! e) = let x : some b ≡ some w = ap some (sym (cond-true (ltb (length (b .live)) (length (a .live))) b a e)) ∙ q in inr (let y : b ≡ w = cc in sym y)
+    go (no! e) = inl (ap some (sym (cond-false (ltb (length (b .live)) (length (a .live))) b a e)) ∙ q)
+
+fewest-is : (a : Opt Victim) (bs : List Victim) (w : Victim) → fewest a bs ≡ some w → (a ≡ some w) ⊎ In w bs
+unfolding fewest
+fewest-is a [] w q = inl q
+fewest-is a (b ∷ bs) w q = two (fewest-is (fewer a b) bs w q)
+  where
+    two : (fewer a b ≡ some w) ⊎ In w bs → (a ≡ some w) ⊎ ((w ≡ b) ⊎ In w bs)
+    two (inr m) = inr (inr m)
+    two (inl e) = ⊎-elim (λ x. inl x) (λ x. inr (inl x)) (fewer-is a b w e)
+
+pub record Taken (p : Params) (v : View) (tb : List ℕ) (w : Opt Victim) : Type 0 where
+  pub taken-low : victimSegment w < p .Z
+  pub taken-sealed : sealedIn p v 0 (victimSegment w) ≡ true
+  pub taken-live : victimLive w ≡ liveIn p (placesIn p tb) (victimSegment w)
+
+pub taken : (p : Params) (v : View) (tb : List ℕ) → isNone (victim p v tb) ≡ false → Taken p v tb (victim p v tb)
+taken p v tb q = go (victim p v tb) refl q
+  where
+    qs : List ℕ
+    qs = placesIn p tb
+
+    member : (w : Victim) → victim p v tb ≡ some w → In w (map (victimOf p qs) (keep (sealedIn p v 0) (below (p .Z))))
+    member w e = step (fewest-is none (map (victimOf p qs) (keep (sealedIn p v 0) (below (p .Z)))) w (as! e))
+      where
+        as! : victim p v tb ≡ some w → fewest none (map (victimOf p qs) (keep (sealedIn p v 0) (below (p .Z)))) ≡ some w
+        as! e = unfold victim segmentNumbers in e
+
+        step : (none ≡ some w) ⊎ In w (map (victimOf p qs) (keep (sealedIn p v 0) (below (p .Z)))) → In w (map (victimOf p qs) (keep (sealedIn p v 0) (below (p .Z))))
+        step (inl x) = absurd (let z : _≡_ {A = ℕ} 0 1 = cc in let y : ⊥ = omega arith in y)
+        step (inr m) = m
+
+    of-victim : (g : ℕ) → g < p .Z → sealedIn p v 0 g ≡ true → Taken p v tb (some (victimOf p qs g))
+    of-victim g hg s = unfold victimSegment victimLive victimOf in record { taken-low = hg; taken-sealed = s; taken-live = refl }
+
+    go : (w : Opt Victim) → victim p v tb ≡ w → isNone w ≡ false → Taken p v tb w
+    go none e x = true-false (none! x)
+      where
+        none! : isNone none ≡ false → true ≡ false
+        none! x = unfold isNone in x
+    go (some w) e x =
+        let (g, m, f) = map-in (victimOf p qs) (keep (sealedIn p v 0) (below (p .Z))) w (member w e) in
+        let (i, s) = keep-in (sealedIn p v 0) (below (p .Z)) g m in
+        subst (λ (y : Victim). Taken p v tb (some y)) (sym f) (of-victim g (below-in (p .Z) g i) s)
+
+-- ---- live blocks
+
+live-in : (p : Params) (qs : List ℕ) (g q : ℕ) → In q (liveIn p qs g) → In q qs
+live-in p qs g q m = is-member q qs (keep-in (λ q. isMember q qs) (segmentPlaces p g) q (as! m) .1)
+  where
+    as! : In q (liveIn p qs g) → In q (keep (λ q. isMember q qs) (segmentPlaces p g))
+    as! m = unfold liveIn in m
+
+in-live : (p : Params) (qs : List ℕ) (g d b : ℕ) → d < p .N → b < capacity p → In (placeOf p d g b) qs → In (placeOf p d g b) (liveIn p qs g)
+in-live p qs g d b hd hb m = as! (in-keep (λ q. isMember q qs) (segmentPlaces p g) (placeOf p d g b) place (member-is (placeOf p d g b) qs m))
+  where
+    as! : In (placeOf p d g b) (keep (λ q. isMember q qs) (segmentPlaces p g)) → In (placeOf p d g b) (liveIn p qs g)
+    as! m = unfold liveIn in m
+
+    place : In (placeOf p d g b) (segmentPlaces p g)
+    place = unfold segmentPlaces drivesOf zoneOn in
+        in-flat (λ d. map (placeOf p d g) (below (capacity p))) (below (p .N)) d (placeOf p d g b) (in-below (p .N) d hd) (in-map (placeOf p d g) (below (capacity p)) b (in-below (capacity p) b hb))
+
+-- with none live, no record of the segment holds
+pub dead-segment : (p : Params) (r : Ranged p) (v : View) (tb : List ℕ) → tb ≡ addressTable p (candidates p 0 (segments p v 0)) → (g : ℕ) → liveIn p (placesIn p tb) g ≡ []
+    → (a : ℕ) (c : Cand) (k : CandAt p v 0 c) → a < p .L → best none (candsOf a (candidates p 0 (segments p v 0))) ≡ some c → k .of ≡ g → ⊥
+dead-segment p r v tb e g n a c k ha b eo =
+    let t = spot-of p r v 0 c k in
+    let ez : t .zone ≡ g = sym (spot-zone p r v 0 c t) ∙ cand-zone p r v 0 c k t ∙ eo in
+    let ep : c .place ≡ placeOf p (c .drive) g (1 + c .offset) = t .place-is ∙ ap (λ (x : ℕ). placeOf p (c .drive) x (1 + c .offset)) ez in
+    let m : In (c .place) (placesIn p tb) = holds-place p r v tb e a c ha b in
+    let l : 1 + c .offset < capacity p = (let x = t .offset-low in let y = capacity-over p r in omega arith) in
+    subst (λ (x : List ℕ). In (placeOf p (c .drive) g (1 + c .offset)) x) n
+    (in-live p (placesIn p tb) g (c .drive) (1 + c .offset) (t .drive-low) l (subst (λ (x : ℕ). In x (placesIn p tb)) ep m))
+
+pub sealed-full : (p : Params) (v : View) (g : ℕ) → sealedIn p v 0 g ≡ true → (d : ℕ) → d < p .N → pointerAt v d g ≡ capacity p
+sealed-full p v g q d h = eqb-true (pointerAt v d g) (capacity p) (all-in (λ d. eqb (pointerAt v d g) (capacity p)) (present p 0) (as! q) d (present-all p d h))
+  where
+    as! : sealedIn p v 0 g ≡ true → all (λ d. eqb (pointerAt v d g) (capacity p)) (present p 0) ≡ true
+    as! q = unfold sealedIn zoneOn in q
+
+-- the record of a candidate, as stored
+pub cand-record : (p : Params) (r : Ranged p) (v : View) (s : ℕ) (t : Tidy p v s) (c : Cand) (k : CandAt p v 0 c)
+    → (c .address ≡ recordIn p (sealedIn p v 0 (k .of)) (zoneAt v (c .drive) (k .of)) (c .offset) .address)
+    × (c .stamp ≡ recordIn p (sealedIn p v 0 (k .of)) (zoneAt v (c .drive) (k .of)) (c .offset) .stamp)
+cand-record p r v s t c k =
+    let x = segmentOf p v 0 (k .of) in
+    let d = dataDrive p (k .stripe) (k .position) in
+    let e : c .drive ≡ d = its-drive p r v s t c k in
+    let q : storedRec x (k .stripe) (c .drive) ≡ recordIn p (sealedIn p v 0 (k .of)) (zoneAt v (c .drive) (k .of)) (c .offset) =
+    chunk-of-it p r v s t c k .its-record ∙ ap (recordIn p (sealedIn p v 0 (k .of)) (zoneAt v (c .drive) (k .of))) (sym (its-offset p r v s t c k)) in
+    let f : recOf p 0 x (k .stripe) d ≡ storedRec x (k .stripe) (c .drive) = rec-of x (k .stripe) d ∙ ap (storedRec x (k .stripe)) (sym e) in (
+      ap (λ (y : Cand). y .address) (k .it-is) ∙ cand-address x (k .stripe) d ∙ ap (λ (y : Rec). y .address) (f ∙ q),
+      ap (λ (y : Cand). y .stamp) (k .it-is) ∙ cand-stamp x (k .stripe) d ∙ ap (λ (y : Rec). y .stamp) (f ∙ q),
+    )
+  where
+    rec-of : (x : Segment) (s d : ℕ) → recOf p 0 x s d ≡ storedRec x s d
+    rec-of x s d = unfold recOf in cond-false (isIn 0 d) (parityRec s (map (storedRec x s) (present p 0))) (storedRec x s d) (isIn-empty d)
+
+    cand-address : (x : Segment) (s d : ℕ) → candOf p 0 x s d .address ≡ recOf p 0 x s d .address
+    cand-address x s d = unfold candOf in refl
+
+    cand-stamp : (x : Segment) (s d : ℕ) → candOf p 0 x s d .stamp ≡ recOf p 0 x s d .stamp
+    cand-stamp x s d = unfold candOf in refl
+
+-- ---- the call
+
+module _ (p : Params) (k : Disk) (m : Memory) (u : Run p k m) (we : Well p k m) where
+  abbrev v : View
+  v = seen p k
+
+  abbrev st : State
+  st = m .state
+
+  abbrev w : Opt Victim
+  w = victim p v (m .addresses)
+
+  abbrev live : Bool
+  live = not (isNil (victimLive w))
+
+  abbrev plan : Plan
+  plan = cond (isNil (victimLive w)) (resetPlan p m (victimSegment w)) (copyPlan p v m (firstOr 0 (idle p v st w)))
+
+  rg : Ranged p
+  rg = ranged p (u .base .ranged)
+
+  so : StateOk p st
+  so = state-of p rg st (u .base .state-ok)
+
+  at! : m .addresses ≡ addressTable p (candidates p 0 (segments p v 0))
+  at! = address-table p k m u we
+
+  -- every live block is a data block
+  live-pointed : (q : ℕ) → isNone w ≡ false → In q (victimLive w) → Pointed p v q
+  live-pointed q nn i =
+      let t = taken p v (m .addresses) nn in
+      places-pointed p rg v (m .addresses) at! q (live-in p (placesIn p (m .addresses)) (victimSegment w) q (subst (λ (x : List ℕ). In q x) (t .taken-live) i))
+
+  pointed-block : (q : ℕ) (t : Pointed p v q) → placeBlock p q ≡ 1 + t .cand .offset
+  pointed-block q t = ap (placeBlock p) (t .place!) ∙ spot-block p rg v 0 (t .cand) (t .spot)
+
+  between-live : (q : ℕ) → Pointed p v q → between 1 (p .S) (placeBlock p q) ≡ true
+  between-live q t = between-of 1 (p .S) (placeBlock p q) (let e = pointed-block q t in omega arith) (let e = pointed-block q t in let l = t .spot .offset-low in omega arith)
+
+  reclaim-faults : isNone w ≡ false → stateFaults p st ++ tableFaults p (m .addresses) ++ map (λ q. victimSegment w) (keep (λ q. not (between 1 (p .S) (placeBlock p q))) (victimLive w)) ≡ []
+  reclaim-faults nn =
+      let e1 = state-clear p st (u .base .state-ok) in
+      let e2 = table-clear p rg v (m .addresses) at! in
+      let e3 : keep (λ q. not (between 1 (p .S) (placeBlock p q))) (victimLive w) ≡ [] =
+      keep-nothing (λ q. not (between 1 (p .S) (placeBlock p q))) (victimLive w) (λ q i. ap not (between-live q (live-pointed q nn i))) in
+      nil-append (stateFaults p st ++ tableFaults p (m .addresses)) (map (λ q. victimSegment w) (keep (λ q. not (between 1 (p .S) (placeBlock p q))) (victimLive w)))
+      (nil-append (stateFaults p st) (tableFaults p (m .addresses)) e1 e2) (ap (map (λ q. victimSegment w)) e3)
+
+  abbrev checks : List Check
+  checks = rule 1 (not (inRange p)) ∷ rule 2 (not (lentOk p k m)) ∷ rule 3 (not (eqb (st .missing) 0)) ∷ rule 5 (isNone w || (live && isNil (idle p v st w)))
+      ∷ rule 6 (live && noSerial p st) ∷ rule 7 (live && mustWait p st) ∷ rule 8 (live && opens p st && scarce p v 1)
+      ∷ zones (stateFaults p st ++ tableFaults p (m .addresses) ++ map (λ q. victimSegment w) (keep (λ q. not (between 1 (p .S) (placeBlock p q))) (victimLive w))) ∷ []
+
+  -- with none live the segment is reset
+  reset-done : isNone w ≡ false → isNil (victimLive w) ≡ true → (x : Disk) → x ≡ storeAll (storeDisk p) (resetPlan p m (victimSegment w) .stores) k → Run p x (resetPlan p m (victimSegment w) .memory)
+  reset-done nn nl x ex =
+      let g = victimSegment w in
+      let t = taken p v (m .addresses) nn in
+      let hg = t .taken-low in
+      let sh = u .base .shaped in
+      let s = st .serial .0 in
+      let ty = we .healthy .tidy in
+      let dead = dead-segment p rg v (m .addresses) at! g (sym (t .taken-live) ∙ nil-is (victimLive w) nl) in
+      subst (λ (y : Disk). Run p y (resetPlan p m g .memory)) (sym (ex ∙ ap (λ (l : List Store). storeAll (storeDisk p) l k) (stores-is g)))
+      (subst (λ (y : Memory). Run p (storeAll (storeDisk p) (resetStores p g) k) y) (sym (memory-is g))
+      (well-run p k (resetStores p g) (mkMemory st (m .addresses) (cleared p g (drivesOf p) (m .compact)) (m .inflight)) (u .base .ranged) (whole-of p k m (u .base .lent)) sh
+      (reset-roomy p rg v sh g hg) (reset-within p rg v sh g hg) (we .none-missing) so
+      (reset-healthy p rg v sh g hg st (we .healthy) so (sealed-full p v g (t .taken-sealed)))
+      (at! ∙ reset-addresses p rg v sh g hg s ty dead)
+      (ap (cleared p g (drivesOf p)) (compact-table p k m u we) ∙ cleared-is p rg g hg v (storeAll storeView (resetStores p g) v) (reset-rows p rg v sh g hg s ty))
+      (buffer-long p k m u we)))
+    where
+      stores-is : (g : ℕ) → resetPlan p m g .stores ≡ resetStores p g
+      stores-is g = unfold resetPlan in refl
+
+      memory-is : (g : ℕ) → resetPlan p m g .memory ≡ mkMemory st (m .addresses) (cleared p g (drivesOf p) (m .compact)) (m .inflight)
+      memory-is g = unfold resetPlan in refl
+
+  -- else a live block is copied
+  copy-done : isNone w ≡ false → live ≡ true → isNil (idle p v st w) ≡ false → noSerial p st ≡ false → mustWait p st ≡ false → (opens p st ≡ true → scarce p v 1 ≡ false)
+      → (x : Disk) → x ≡ storeAll (storeDisk p) (copyPlan p v m (firstOr 0 (idle p v st w)) .stores) k → Run p x (copyPlan p v m (firstOr 0 (idle p v st w)) .memory)
+  copy-done nn lv ni ns nw sc x ex =
+      let q = firstOr 0 (idle p v st w) in
+      let i : In q (victimLive w) = idle-live q (first-in (idle p v st w) 0 ni) in
+      let t = live-pointed q nn i in
+      let c = t .cand in
+      let kc = t .at-cand! in
+      let d = placeDrive p q in
+      let g = placeSegment p q in
+      let o = placeBlock p q - 1 in
+      let rc = recordAt p v 0 d g o in
+      let ed : d ≡ c .drive = ap (placeDrive p) (t .place!) ∙ spot-drive p rg v 0 c (t .spot) in
+      let eg : g ≡ kc .of = segment-is q ∙ ap (placeZone p) (t .place!) ∙ cand-zone p rg v 0 c kc (t .spot) in
+      let eb = pointed-block q t in
+      let eo : o ≡ c .offset = (let z : placeBlock p q - 1 ≡ c .offset = omega arith in z) in
+      let hd : d < p .N = subst (λ (y : ℕ). y < p .N) (sym ed) (t .spot .drive-low) in
+      let hg : g < p .Z = subst (λ (y : ℕ). y < p .Z) (sym eg) (remaining-low p v 0 (kc .of) (kc .remains)) in
+      let low = record-low p (zoneAt v d g) (u .base .shaped .zone-ok d g hd hg) (sealedIn p v 0 g) o in
+      let er : recordAt p v 0 d g o ≡ recordIn p (sealedIn p v 0 g) (zoneAt v d g) o = record-is d g o in
+      let hb : placeBlock p q < capacity p = (let l = t .spot .offset-low in let y = capacity-over p rg in omega arith) in
+      let ez : placeZone p q ≡ g = sym (segment-is q) in
+      let lb : length (chunkAt v d (placeZone p q) (placeBlock p q) .block) ≡ p .B = ap (λ (y : ℕ). length (chunkAt v d y (placeBlock p q) .block)) ez ∙ chunk-long d g (placeBlock p q) hd hg hb in
+      let s = sends p rg v (u .base .shaped) st (we .healthy) so (m .inflight) (buffer-long p k m u we) (rc .address) (rc .stamp) 0 (chunkAt v d (placeZone p q) (placeBlock p q) .block)
+      (subst (λ (y : Rec). y .address < 256 ^ 8) (sym er) (low .0)) (subst (λ (y : Rec). y .stamp < 256 ^ 8) (sym er) (low .1)) (omega arith) lb nw ns (λ z. zones-left (sc z)) in
+      let e = sending p v st (m .inflight) (rc .address) (rc .stamp) 0 (chunkAt v d (placeZone p q) (placeBlock p q) .block) in
+      subst (λ (y : Disk). Run p y (copyPlan p v m q .memory)) (sym (ex ∙ ap (λ (l : List Store). storeAll (storeDisk p) l k) (stores-is q)))
+      (subst (λ (y : Memory). Run p (storeAll (storeDisk p) (e .stores) k) y) (sym (memory-is q))
+      (sent-run p k m u we (e .state) (e .state) (e .stores) (e .inflight) s refl (s .state-after) (s .healthy-after)))
+    where
+      idle-live : (q : ℕ) → In q (idle p v st w) → In q (victimLive w)
+      idle-live q i = keep-in (λ q. not (flying p v st q)) (victimLive w) q (as! i) .0
+        where
+          as! : In q (idle p v st w) → In q (keep (λ q. not (flying p v st q)) (victimLive w))
+          as! i = unfold idle in i
+
+      segment-is : (q : ℕ) → placeSegment p q ≡ placeZone p q
+      segment-is q = unfold placeSegment in refl
+
+      record-is : (d g o : ℕ) → recordAt p v 0 d g o ≡ recordIn p (sealedIn p v 0 g) (zoneAt v d g) o
+      record-is d g o = unfold recordAt zoneOn in refl
+
+      chunk-long : (d g b : ℕ) → d < p .N → g < p .Z → b < capacity p → length (chunkAt v d g b .block) ≡ p .B
+      chunk-long d g b hd hg hb = unfold chunkAt in u .base .shaped .zone-ok d g hd hg .sound b hb .block-long
+
+      zones-left : scarce p v 1 ≡ false → isNil (emptyZones p v) ≡ false
+      zones-left q = go (emptyZones p v) (few q)
+        where
+          few : scarce p v 1 ≡ false → 1 < length (emptyZones p v)
+          few q = unfold scarce in leb-false (length (emptyZones p v)) 1 q
+
+          go : (l : List ℕ) → 1 < length l → isNil l ≡ false
+          go [] h = absurd (let z : ⊥ = omega arith in z)
+          go (x ∷ l) h = unfold isNil in refl
+
+      stores-is : (q : ℕ) → copyPlan p v m q .stores
+          ≡ sending p v st (m .inflight) (recordAt p v 0 (placeDrive p q) (placeSegment p q) (placeBlock p q - 1) .address)
+          (recordAt p v 0 (placeDrive p q) (placeSegment p q) (placeBlock p q - 1) .stamp) 0
+          (chunkAt v (placeDrive p q) (placeZone p q) (placeBlock p q) .block) .stores
+      stores-is q = unfold copyPlan in refl
+
+      memory-is : (q : ℕ) → copyPlan p v m q .memory
+          ≡ mkMemory (sending p v st (m .inflight) (recordAt p v 0 (placeDrive p q) (placeSegment p q) (placeBlock p q - 1) .address)
+          (recordAt p v 0 (placeDrive p q) (placeSegment p q) (placeBlock p q - 1) .stamp) 0
+          (chunkAt v (placeDrive p q) (placeZone p q) (placeBlock p q) .block) .state) (m .addresses) (m .compact)
+          (sending p v st (m .inflight) (recordAt p v 0 (placeDrive p q) (placeSegment p q) (placeBlock p q - 1) .address)
+          (recordAt p v 0 (placeDrive p q) (placeSegment p q) (placeBlock p q - 1) .stamp) 0
+          (chunkAt v (placeDrive p q) (placeZone p q) (placeBlock p q) .block) .inflight)
+      memory-is q = unfold copyPlan in refl
+
+  reclaim-done : Passes checks → (x : Disk) → x ≡ storeAll (storeDisk p) (plan .stores) k → Run p x (plan .memory)
+  reclaim-done (c1, (c2, (c3, (c5, (c6, (c7, (c8, (c9, c)))))))) x ex = go (test (isNil (victimLive w)))
+    where
+      nn : isNone w ≡ false
+      nn = or-left (isNone w) (live && isNil (idle p v st w)) c5
+
+      go : Test (isNil (victimLive w)) → Run p x (plan .memory)
+      go (yes! q) =
+          let e : plan ≡ resetPlan p m (victimSegment w) = cond-true (isNil (victimLive w)) (resetPlan p m (victimSegment w)) (copyPlan p v m (firstOr 0 (idle p v st w))) q in
+          subst (λ (y : Plan). Run p x (y .memory)) (sym e) (reset-done nn q x (ex ∙ ap (λ (y : Plan). storeAll (storeDisk p) (y .stores) k) e))
+      go (no! q) =
+          let e : plan ≡ copyPlan p v m (firstOr 0 (idle p v st w)) = cond-false (isNil (victimLive w)) (resetPlan p m (victimSegment w)) (copyPlan p v m (firstOr 0 (idle p v st w))) q in
+          let lv : live ≡ true = ap not q in
+          let drop! : (b : Bool) → live && b ≡ false → b ≡ false = λ b y. sym (ap (λ (c : Bool). c && b) lv) ∙ y in
+          subst (λ (y : Plan). Run p x (y .memory)) (sym e)
+          (copy-done nn lv (drop! (isNil (idle p v st w)) (or-right (isNone w) (live && isNil (idle p v st w)) c5)) (drop! (noSerial p st) c6) (drop! (mustWait p st) c7)
+          (λ z. sym (ap₂ (λ (a b : Bool). a && b && scarce p v 1) lv z) ∙ c8) x (ex ∙ ap (λ (y : Plan). storeAll (storeDisk p) (y .stores) k) e))
+
+  pub well-reclaim : (n : ℕ) → Kept p (callDisk p k m (reclaim n))
+  unfolding callDisk callOn verdict storeCount lentBlock reclaimVerdict reclaimChecks
+  well-reclaim n = go (ended p k m checks plan n [])
+    where
+      mild-plan : (b : Bool) (g q : ℕ) → isRefusedAs 9 (cond b (resetPlan p m g) (copyPlan p v m q) .answer) ≡ false
+      mild-plan true g q = unfold resetPlan isRefusedAs isRefused kind in refl
+      mild-plan false g q = unfold copyPlan isRefusedAs isRefused kind in refl
+
+      go : Ended p k m checks plan (outcome p (storeDisk p) n k m [] (decided (firstRefusal checks) plan)) → Kept p (outcome p (storeDisk p) n k m [] (decided (firstRefusal checks) plan))
+      go (ended-refused x e f g h) = refused-kept p k m _ x u
+          (clear checks (
+            refl,
+            λ c1. (
+              refl,
+              λ c2. (
+                refl,
+                λ c3. (
+                  refl,
+                  λ c5.
+                      (refl, λ c6. (refl, λ c7. (refl, λ c8. (reclaim-faults (or-left (isNone w) (live && isNil (idle p v st w)) c5), tt)))),
+                ),
+              ),
+            ),
+          )
+          x e) f g h
+      go (ended-done c f g h) = record {
+        never-ninth = ap (isRefusedAs 9) f ∙ mild-plan (isNil (victimLive w)) (victimSegment w) (firstOr 0 (idle p v st w));
+        runs-on = λ x. subst (λ (y : Memory). Run p (outcome p (storeDisk p) n k m [] (decided (firstRefusal checks) plan) .drives) y) (sym h) (reclaim-done c _ g);
+      }
+      go (ended-cut c f) = cut-kept p _ f

@@ -1,0 +1,293 @@
+-- A sealed segment with no live block is reset. Assumes nothing.
+use mathlib.Core.Path.{_≡_, refl, sym, ap, _∙_, subst}
+use mathlib.Core.List.{List, [], _∷_, map}
+use mathlib.Core.Bool.{true, false, cond, not}
+use mathlib.Core.Logic.{inl, inr, ⊎-elim}
+use Prim.Native.Nat.{ℕ, _+_, _-_, _*_, _≤_, _<_}
+use native.Mathlib.Decide.{decLt, ℕ-discrete}
+use borrow.Author.Tests.{eq-eqb, ne-eqb}
+use native.Mathlib.Omega.{arith}
+use lib.Dec.{eqb}
+use lib.ListN.{length, getD, replicate, length-replicate}
+use Rattle.spec.specs.declared.Params.{Params}
+use Rattle.spec.specs.declared.State.{State}
+use Rattle.spec.specs.Bytes.{splice}
+use Rattle.spec.specs.Drives.{Zone, View, zoneAt, pointerAt, Store, resetZone, storeView, storeAll, zoneOn, resetStores}
+use Rattle.spec.specs.Drives.Store.{reset}
+use Rattle.spec.specs.Layout.{headerSerial, headerCopied, Rec}
+use Rattle.spec.specs.Lists.Opt.{none, some}
+use Rattle.spec.specs.Lists.{below}
+use Rattle.spec.specs.Memory.{compactAt}
+use Rattle.spec.specs.Params.{capacity, compactLen, drivesOf}
+use Rattle.spec.specs.Rank.{Cand, best, candsOf}
+use Rattle.spec.specs.Reclaim.{clearedRow, cleared}
+use Rattle.spec.specs.Segments.{headerAt, segmentOf, segments, recsOn, candidates, addressTable, compactRow, compactTable}
+use Rattle.law_basic.specs.Geometry.{item, Ranged, compact-within}
+use Rattle.law_basic.specs.Ranges.{Test, test}
+use Rattle.law_basic.specs.Ranges.Test.{yes!, no! }
+use Rattle.law_basic.specs.Splice.{length-splice, getD-splice-below, getD-splice-in, getD-splice-past}
+use Rattle.law_views.specs.Pointers.{index-drive, index-zone}
+use Rattle.proof_tables.specs.Bounds.{open-view, open-short}
+use Rattle.proof_tables.specs.Idle.{StateOk}
+use Rattle.proof_tables.specs.Members.{In, map-in, in-below, below-in}
+use Rattle.proof_tables.specs.Puts.{hits-resets}
+use Rattle.proof_tables.specs.Ranks.{fewer-best, best-in}
+use Rattle.proof_tables.specs.Run.{usedAt, flies, Tidy, Healthy}
+use Rattle.proof_tables.specs.Segs.{CandAt, cand-at, at-cand}
+use Rattle.proof_tables.specs.Settled.{remains-used, remains-is-used, cands-apart, SameZones, zones-header, zones-pointer, zones-used, cand-goes, row-goes}
+use Rattle.proof_tables.specs.Tables.{addresses-cong, zero-at, row-past, grid-ext, remains, rowAt, compact-is, compact-row-long, length-compact, compact-at}
+use Rattle.proof_tables.specs.Tests.{clash, cond-true, cond-false, eqb-self}
+use Rattle.proof_tables.specs.Zones.{Shaped, zoneStore, hits, zone-after, Room, Within, reset-pointer, Roomy}
+
+module _ (p : Params) (r : Ranged p) (v : View) (sh : Shaped p v) (g : ℕ) (hg : g < p .Z) where
+  abbrev rs : List Store
+  rs = resetStores p g
+
+  abbrev u : View
+  u = storeAll storeView rs v
+
+  pub reset-zone-at : (d : ℕ) → d < p .N → zoneAt u d g ≡ resetZone (zoneAt v d g)
+  reset-zone-at d hd =
+      zone-after p v d g rs (sh .sized) hd hg
+      ∙ ap (λ (l : List Store). storeAll zoneStore l (zoneAt v d g)) (hits-resets p d g g hd ∙ cond-true (eqb g g) (reset d g ∷ []) [] (eqb-self g)) ∙ once
+    where
+      once : storeAll zoneStore (reset d g ∷ []) (zoneAt v d g) ≡ resetZone (zoneAt v d g)
+      once = unfold storeAll zoneStore in refl
+
+  pub reset-same : (y : ℕ) → y < p .Z → (g ≡ y → ⊥) → SameZones p v u y
+  reset-same y hy n d hd =
+      sym (zone-after p v d y rs (sh .sized) hd hy
+      ∙ ap (λ (l : List Store). storeAll zoneStore l (zoneAt v d y)) (hits-resets p d y g hd ∙ cond-false (eqb g y) (reset d g ∷ []) [] (ne-eqb g y n)) ∙ nothing)
+    where
+      nothing : storeAll zoneStore [] (zoneAt v d y) ≡ zoneAt v d y
+      nothing = unfold storeAll in refl
+
+  pub reset-pointers : (d : ℕ) → d < p .N → pointerAt u d g ≡ 0
+  reset-pointers d hd = at (ap (λ (q : Zone). q .pointer) (reset-zone-at d hd) ∙ reset-pointer (zoneAt v d g))
+    where
+      at : zoneAt u d g .pointer ≡ 0 → pointerAt u d g ≡ 0
+      at e = unfold pointerAt in e
+
+  pub reset-roomy : Roomy p v rs
+  reset-roomy d y hd hy = go (test (eqb g y))
+    where
+      go : Test (eqb g y) → Room p (pointerAt v d y) (hits d y rs)
+      go (yes! q) = subst (λ (l : List Store). Room p (pointerAt v d y) l) (sym (hits-resets p d y g hd ∙ cond-true (eqb g y) (reset d g ∷ []) [] q)) tt
+      go (no! q) = subst (λ (l : List Store). Room p (pointerAt v d y) l) (sym (hits-resets p d y g hd ∙ cond-false (eqb g y) (reset d g ∷ []) [] q)) tt
+
+  pub reset-within : (s : Store) → In s rs → Within p s
+  reset-within s m = go (as! m)
+    where
+      as! : In s rs → In s (map (λ d. reset d g) (below (p .N)))
+      as! m = unfold resetStores drivesOf zoneOn in m
+
+      go : In s (map (λ d. reset d g) (below (p .N))) → Within p s
+      go m = let (d, i, e) = map-in (λ d. reset d g) (below (p .N)) s m in subst (λ (x : Store). Within p x) (sym e) (below-in (p .N) d i, hg)
+
+  unused-after : usedAt u g ≡ false
+  unused-after = ap not (eq-eqb (pointerAt u 0 g) 0 (reset-pointers 0 (omega (arith, r .drives-low))))
+
+  -- what is used after it was used, and isn't the segment
+  pub reset-was : (y : ℕ) → y < p .Z → usedAt u y ≡ true → (g ≡ y → ⊥) × (usedAt v y ≡ true)
+  reset-was y hy q = go (ℕ-discrete g y)
+    where
+      go : Dec (g ≡ y) → (g ≡ y → ⊥) × (usedAt v y ≡ true)
+      go (yes e) = clash q (subst (λ (x : ℕ). usedAt u x ≡ false) e unused-after)
+      go (no n) = (n, zones-used p r v u y (reset-same y hy n) ∙ q)
+
+  pub reset-tidy : (s : ℕ) → Tidy p v s → Tidy p u s
+  reset-tidy s t = record {
+    pointer-low = λ d z hd hz. low d z hd hz (ℕ-discrete g z);
+    together = λ d z hd hz. tog d z hd hz (ℕ-discrete g z);
+    copied-less = λ z hz q. let (n, w) = reset-was z hz q in subst (λ (x : List ℕ). headerCopied x < headerSerial x) (hdr z hz n) (t .copied-less z hz w);
+    serial-known = λ z hz q. let (n, w) = reset-was z hz q in subst (λ (x : List ℕ). headerSerial x ≤ s) (hdr z hz n) (t .serial-known z hz w);
+    serial-once = λ y z hy hz a b e.
+        let (n, w) = reset-was y hy a in
+        let (n′, w′) = reset-was z hz b in
+        t .serial-once y z hy hz w w′ (ap headerSerial (hdr y hy n) ∙ e ∙ ap headerSerial (sym (hdr z hz n′)));
+    no-copy = λ y z hy hz a b e.
+        let (n, w) = reset-was y hy a in
+        let (n′, w′) = reset-was z hz b in
+        t .no-copy y z hy hz w w′ (ap headerCopied (hdr y hy n) ∙ e ∙ ap headerSerial (sym (hdr z hz n′)));
+  }
+    where
+      h0 : 0 < p .N
+      h0 = omega (arith, r .drives-low)
+
+      hdr : (y : ℕ) → y < p .Z → (g ≡ y → ⊥) → headerAt v 0 y ≡ headerAt u 0 y
+      hdr y hy n = zones-header p r v u y (reset-same y hy n)
+
+      low : (d z : ℕ) → d < p .N → z < p .Z → Dec (g ≡ z) → pointerAt u d z ≤ capacity p
+      low d z hd hz (yes e) = subst (λ (x : ℕ). pointerAt u d x ≤ capacity p) e (let q = reset-pointers d hd in omega arith)
+      low d z hd hz (no n) = subst (λ (x : ℕ). x ≤ capacity p) (zones-pointer p r v u z (reset-same z hz n) d hd) (t .pointer-low d z hd hz)
+
+      tog : (d z : ℕ) → d < p .N → z < p .Z → Dec (g ≡ z) → eqb (pointerAt u d z) 0 ≡ eqb (pointerAt u 0 z) 0
+      tog d z hd hz (yes e) = subst (λ (x : ℕ). eqb (pointerAt u d x) 0 ≡ eqb (pointerAt u 0 x) 0) e (ap (λ (x : ℕ). eqb x 0) (reset-pointers d hd ∙ sym (reset-pointers 0 h0)))
+      tog d z hd hz (no n) =
+          ap (λ (x : ℕ). eqb x 0) (sym (zones-pointer p r v u z (reset-same z hz n) d hd)) ∙ t .together d z hd hz ∙ ap (λ (x : ℕ). eqb x 0) (zones-pointer p r v u z (reset-same z hz n) 0 h0)
+
+  -- none of its records holds: the address table stays
+  pub reset-addresses : (s : ℕ) → Tidy p v s → ((a : ℕ) (c : Cand) (k : CandAt p v 0 c) → a < p .L → best none (candsOf a (candidates p 0 (segments p v 0))) ≡ some c → k .of ≡ g → ⊥)
+      → addressTable p (candidates p 0 (segments p v 0)) ≡ addressTable p (candidates p 0 (segments p u 0))
+  reset-addresses s t dead = addresses-cong p xs ys (λ a ha. sym (fewer-best a xs ys (cands-apart p r v s t) sub (win a ha)))
+    where
+      xs : List Cand
+      xs = candidates p 0 (segments p v 0)
+
+      ys : List Cand
+      ys = candidates p 0 (segments p u 0)
+
+      tu : Tidy p u s
+      tu = reset-tidy s t
+
+      sub : (d : Cand) → In d ys → In d xs
+      sub d m =
+          let k = cand-at p u 0 d m in
+          let (hk, q) = remains-is-used p r u s tu (k .of) (k .remains) in
+          let (n, w) = reset-was (k .of) hk q in
+          at-cand p v 0 d (cand-goes p r u v s t d k (λ e he. sym (reset-same (k .of) hk n e he)) w)
+
+      win : (a : ℕ) → a < p .L → (c : Cand) → best none (candsOf a xs) ≡ some c → In c ys
+      win a ha c e =
+          let k = cand-at p v 0 c (best-in a xs c e .0) in
+          let (hk, q) = remains-is-used p r v s t (k .of) (k .remains) in
+          let n : g ≡ k .of → ⊥ = λ x. dead a c k ha e (sym x) in
+          at-cand p u 0 c (cand-goes p r v u s tu c k (reset-same (k .of) hk n) (sym (zones-used p r v u (k .of) (reset-same (k .of) hk n)) ∙ q))
+
+  pub reset-rows : (s : ℕ) → Tidy p v s → (d y : ℕ) → d < p .N → y < p .Z → rowAt p u 0 d y ≡ cond (eqb y g) [] (rowAt p v 0 d y)
+  reset-rows s t d y hd hy = go (ℕ-discrete g y)
+    where
+      empty : rowAt p u 0 d g ≡ []
+      empty = unfold rowAt in cond-false (remains p u 0 g) (recsOn (segmentOf p u 0 g) d) [] (remains-used p r u s (reset-tidy s t) g hg ∙ unused-after)
+
+      go : Dec (g ≡ y) → rowAt p u 0 d y ≡ cond (eqb y g) [] (rowAt p v 0 d y)
+      go (yes e) = ap (rowAt p u 0 d) (sym e) ∙ empty ∙ sym (cond-true (eqb y g) [] (rowAt p v 0 d y) (eq-eqb y g (sym e)))
+      go (no n) = sym (row-goes p r v u s s t (reset-tidy s t) d y hy (reset-same y hy n)) ∙ sym (cond-false (eqb y g) [] (rowAt p v 0 d y) (ne-eqb y g (λ e. n (sym e))))
+
+  -- the state needs no change
+  pub reset-healthy : (st : State) → Healthy p v st → StateOk p st → ((d : ℕ) → d < p .N → pointerAt v d g ≡ capacity p) → Healthy p u st
+  reset-healthy st h so full = record {
+    tidy = reset-tidy (st .serial .0) (h .tidy);
+    sealed-but = λ z hz q.
+        let (n, w) = reset-was z hz q in
+        ⊎-elim (λ x. inl x) (λ x. inr (λ d hd. sym (zones-pointer p r v u z (reset-same z hz n) d hd) ∙ x d hd)) (h .sealed-but z hz w);
+    opens-at = λ z q.
+        let o = h .opens-at z q in
+        let n : g ≡ z → ⊥ =
+        λ e. (let h0 : 0 < p .N = omega (arith, r .drives-low) in let x = open-short p r v st z so o 0 h0 in let y = full 0 h0
+        ∙ refl in let w : pointerAt v 0 z ≡ capacity p = subst (λ (a : ℕ). pointerAt v 0 a ≡ capacity p) e y in let bad : ⊥ = omega arith in
+        bad) in
+        open-view p v u st z (reset-same z (o .opened-zone) n) (flies st) o;
+    shut = h .shut;
+    serial-fits = h .serial-fits;
+    stamp-fits = h .stamp-fits;
+    lists = h .lists;
+  }
+
+-- ---- the compact table with a segment's rows cleared
+
+module _ (p : Params) (r : Ranged p) (g : ℕ) (hg : g < p .Z) where
+  row-end : (e : ℕ) → e < p .N → compactAt p e g 0 + p .S ≤ compactLen p
+  row-end e he =
+      let x = compact-within p e g (p .S - 1) he hg (let s = r .stripes-low in omega arith) in
+      let y : compactAt p e g (p .S - 1) ≡ compactAt p e g 0 + (p .S - 1) = (unfold compactAt in omega arith) in
+      let s = r .stripes-low in
+      omega arith
+
+  row-length : (e : ℕ) (cs : List ℕ) → e < p .N → length cs ≡ compactLen p → compactAt p e g 0 + length (replicate {A = ℕ} (p .S) 0) ≤ length cs
+  row-length e cs he l = let x = row-end e he in let y : length (replicate {A = ℕ} (p .S) 0) ≡ p .S = length-replicate (p .S) 0 in omega arith
+
+  cleared-long : (e : ℕ) (cs : List ℕ) → e < p .N → length cs ≡ compactLen p → length (clearedRow p cs e g) ≡ compactLen p
+  unfolding clearedRow
+  cleared-long e cs he l = length-splice cs (compactAt p e g 0) (replicate (p .S) 0) (row-length e cs he l) ∙ l
+
+  base-is : (d z o : ℕ) → compactAt p d z o ≡ (d * p .Z + z) * p .S + o
+  base-is d z o = unfold compactAt in refl
+
+  -- a cleared row: zeros there, the rest as it was
+  cleared-here : (e o : ℕ) (cs : List ℕ) → e < p .N → o < p .S → length cs ≡ compactLen p → getD (clearedRow p cs e g) (compactAt p e g o) 0 ≡ 0
+  unfolding clearedRow
+  cleared-here e o cs he ho l =
+      let q : compactAt p e g o ≡ compactAt p e g 0 + o = base-is e g o ∙ (let x = base-is e g 0 in omega arith) in
+      let n : length (replicate {A = ℕ} (p .S) 0) ≡ p .S = length-replicate (p .S) 0 in
+      ap (λ (x : ℕ). getD (splice cs (compactAt p e g 0) (replicate (p .S) 0)) x 0) q
+      ∙ getD-splice-in cs (compactAt p e g 0) (replicate (p .S) 0) (row-length e cs he l) o (omega arith) ∙ zero-at (p .S) o
+
+  cleared-else : (e d z o : ℕ) (cs : List ℕ) → e < p .N → d < p .N → z < p .Z → o < p .S → length cs ≡ compactLen p → ((d ≡ e) × (z ≡ g) → ⊥)
+      → getD (clearedRow p cs e g) (compactAt p d z o) 0 ≡ getD cs (compactAt p d z o) 0
+  unfolding clearedRow
+  cleared-else e d z o cs he hd hz ho l n = go (decLt (d * p .Z + z) (e * p .Z + g)) (decLt (e * p .Z + g) (d * p .Z + z))
+    where
+      ln : length (replicate {A = ℕ} (p .S) 0) ≡ p .S
+      ln = length-replicate (p .S) 0
+
+      go : Dec (d * p .Z + z < e * p .Z + g) → Dec (e * p .Z + g < d * p .Z + z) → getD (splice cs (compactAt p e g 0) (replicate (p .S) 0)) (compactAt p d z o) 0 ≡ getD cs (compactAt p d z o) 0
+      go (yes a) b =
+          let m : (d * p .Z + z) * p .S + p .S ≤ (e * p .Z + g) * p .S = item (d * p .Z + z) (e * p .Z + g) (p .S) a in
+          getD-splice-below cs (compactAt p e g 0) (replicate (p .S) 0) (row-length e cs he l) (compactAt p d z o) (let x = base-is d z o in let y = base-is e g 0 in omega arith)
+      go (no a) (yes b) =
+          let m : (e * p .Z + g) * p .S + p .S ≤ (d * p .Z + z) * p .S = item (e * p .Z + g) (d * p .Z + z) (p .S) b in
+          getD-splice-past cs (compactAt p e g 0) (replicate (p .S) 0) (row-length e cs he l) (compactAt p d z o) (let x = base-is d z o in let y = base-is e g 0 in omega (arith, ln))
+      go (no a) (no b) =
+          let q : d * p .Z + z ≡ e * p .Z + g = omega arith in
+          absurd (n (index-drive (p .Z) d z e g hz hg q, index-zone (p .Z) d z e g hz hg q))
+
+  -- over a list of drives
+  all-long : (ds cs : List ℕ) → ((e : ℕ) → In e ds → e < p .N) → length cs ≡ compactLen p → length (cleared p g ds cs) ≡ compactLen p
+  unfolding cleared zoneOn
+  all-long [] cs h l = l
+  all-long (e ∷ ds) cs h l = all-long ds (clearedRow p cs e g) (λ x m. h x (inr m)) (cleared-long e cs (h e (inl refl)) l)
+
+  all-else : (ds cs : List ℕ) (d z o : ℕ) → ((e : ℕ) → In e ds → e < p .N) → d < p .N → z < p .Z → o < p .S → length cs ≡ compactLen p → (z ≡ g → ⊥)
+      → getD (cleared p g ds cs) (compactAt p d z o) 0 ≡ getD cs (compactAt p d z o) 0
+  unfolding cleared zoneOn
+  all-else [] cs d z o h hd hz ho l n = refl
+  all-else (e ∷ ds) cs d z o h hd hz ho l n =
+      all-else ds (clearedRow p cs e g) d z o (λ x m. h x (inr m)) hd hz ho (cleared-long e cs (h e (inl refl)) l) n
+      ∙ cleared-else e d z o cs (h e (inl refl)) hd hz ho l (λ q. n (q .1))
+
+  -- a row that is zero stays so, and that of a drive of the list becomes so
+  stays-zero : (ds cs : List ℕ) (d o : ℕ) → ((e : ℕ) → In e ds → e < p .N) → d < p .N → o < p .S → length cs ≡ compactLen p → getD cs (compactAt p d g o) 0 ≡ 0
+      → getD (cleared p g ds cs) (compactAt p d g o) 0 ≡ 0
+  unfolding cleared zoneOn
+  stays-zero [] cs d o h hd ho l q = q
+  stays-zero (e ∷ ds) cs d o h hd ho l q = stays-zero ds (clearedRow p cs e g) d o (λ x m. h x (inr m)) hd ho (cleared-long e cs (h e (inl refl)) l) (go (ℕ-discrete d e))
+    where
+      go : Dec (d ≡ e) → getD (clearedRow p cs e g) (compactAt p d g o) 0 ≡ 0
+      go (yes x) = ap (λ (y : ℕ). getD (clearedRow p cs e g) (compactAt p y g o) 0) x ∙ cleared-here e o cs (h e (inl refl)) ho l
+      go (no x) = cleared-else e d g o cs (h e (inl refl)) hd hg ho l (λ y. x (y .0)) ∙ q
+
+  becomes-zero : (ds cs : List ℕ) (d o : ℕ) → ((e : ℕ) → In e ds → e < p .N) → In d ds → d < p .N → o < p .S → length cs ≡ compactLen p → getD (cleared p g ds cs) (compactAt p d g o) 0 ≡ 0
+  unfolding cleared zoneOn
+  becomes-zero [] cs d o h m hd ho l = absurd m
+  becomes-zero (e ∷ ds) cs d o h (inl x) hd ho l = stays-zero ds (clearedRow p cs e g) d o (λ y m. h y (inr m)) hd ho (cleared-long e cs (h e (inl refl)) l)
+      (ap (λ (y : ℕ). getD (clearedRow p cs e g) (compactAt p y g o) 0) x ∙ cleared-here e o cs (h e (inl refl)) ho l)
+  becomes-zero (e ∷ ds) cs d o h (inr m) hd ho l = becomes-zero ds (clearedRow p cs e g) d o (λ y n. h y (inr n)) m hd ho (cleared-long e cs (h e (inl refl)) l)
+
+  -- the whole: the compact table of a view whose rows are those of v but for the segment's, which are empty
+  pub cleared-is : (v u : View) → ((d y : ℕ) → d < p .N → y < p .Z → rowAt p u 0 d y ≡ cond (eqb y g) [] (rowAt p v 0 d y))
+      → cleared p g (drivesOf p) (compactTable p (segments p v 0)) ≡ compactTable p (segments p u 0)
+  cleared-is v u rows =
+      grid-ext p (λ d z. compactRow p (rowAt p u 0 d z)) (compact-row-long p u 0) (cleared p g (drivesOf p) cs)
+      (all-long (drivesOf p) cs low (length-compact p v 0)) (r .stripes-low) (let z = r .zones-low in omega arith) entry
+      ∙ sym (compact-is p u 0)
+    where
+      cs : List ℕ
+      cs = compactTable p (segments p v 0)
+
+      low : (e : ℕ) → In e (drivesOf p) → e < p .N
+      low e m = unfold drivesOf in below-in (p .N) e m
+
+      in! : (d : ℕ) → d < p .N → In d (drivesOf p)
+      in! d h = unfold drivesOf in in-below (p .N) d h
+
+      entry : (d z o : ℕ) → d < p .N → z < p .Z → o < p .S → getD (cleared p g (drivesOf p) cs) (compactAt p d z o) 0 ≡ getD (compactRow p (rowAt p u 0 d z)) o 0
+      entry d z o hd hz ho = go (ℕ-discrete z g)
+        where
+          go : Dec (z ≡ g) → getD (cleared p g (drivesOf p) cs) (compactAt p d z o) 0 ≡ getD (compactRow p (rowAt p u 0 d z)) o 0
+          go (yes e) =
+              ap (λ (x : ℕ). getD (cleared p g (drivesOf p) cs) (compactAt p d x o) 0) e ∙ becomes-zero (drivesOf p) cs d o low (in! d hd) hd ho (length-compact p v 0)
+              ∙ sym (ap (λ (l : List Rec). getD (compactRow p l) o 0) (rows d z hd hz ∙ cond-true (eqb z g) [] (rowAt p v 0 d z) (eq-eqb z g e)) ∙ row-past p [] o (omega arith))
+          go (no n) =
+              all-else (drivesOf p) cs d z o low hd hz ho (length-compact p v 0) n ∙ compact-at p v 0 d z o hd hz ho
+              ∙ ap (λ (l : List Rec). getD (compactRow p l) o 0) (sym (rows d z hd hz ∙ cond-false (eqb z g) [] (rowAt p v 0 d z) (ne-eqb z g n)))

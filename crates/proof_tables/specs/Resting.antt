@@ -1,0 +1,275 @@
+-- A view that a restart leaves: all segments sealed but at most one, whose stripes are 0 to c - 1. Assumes nothing.
+use mathlib.Core.Path.{_≡_, refl, sym, ap, ap₂, _∙_, subst}
+use mathlib.Core.List.{List, [], _∷_, map}
+use mathlib.Core.Bool.{Bool, true, false, cond, not, _&&_}
+use mathlib.Core.Logic.{_⊎_, inl, inr}
+use Prim.Native.Nat.{ℕ, suc, _+_, _^_, _≤_, _<_}
+use native.Mathlib.Decide.{ℕ-discrete}
+use borrow.Author.Tests.{eq-eqb, ne-eqb}
+use native.Mathlib.Omega.{arith}
+use lib.Dec.{eqb, lit<}
+use lib.ListN.{length, getD}
+use lib.Count.{ones, ones-ones}
+use lib.Pow.{pow-pos}
+use Rattle.spec.specs.declared.Params.{Params}
+use Rattle.spec.specs.declared.State.{State}
+use Rattle.spec.specs.Drives.{noChunk, View, zoneAt, pointerAt, chunkAt, zoneOn, sealedIn}
+use Rattle.spec.specs.Layout.{headerSerial}
+use Rattle.spec.specs.Lists.{below, all, keep, tally, greatest, isIn}
+use Rattle.spec.specs.Memory.{slots, idleState, filledIn, landedIn, stateOk}
+use Rattle.spec.specs.Params.{capacity, present}
+use Rattle.spec.specs.Rank.{Cand}
+use Rattle.spec.specs.Restart.{openOf, nextOf, restartMemory}
+use Rattle.spec.specs.Segments.{headerAt, remaining, Segment, segmentOf, segments, counted, candidates, greatestStamp, greatestSerial, unsealed}
+use Rattle.law_basic.specs.Geometry.{Ranged}
+use Rattle.law_basic.specs.Ranges.{Test, test, and-both}
+use Rattle.law_basic.specs.Ranges.Test.{yes!, no! }
+use Rattle.proof_tables.specs.Bounds.{record-low}
+use Rattle.proof_tables.specs.Counting.{in-greatest, greatest-low}
+use Rattle.proof_tables.specs.Idle.{idle-ok}
+use Rattle.proof_tables.specs.Laid.{serial-low}
+use Rattle.proof_tables.specs.Members.{In, in-map, map-in, in-all, keep-cong, keep-nothing, keep-keep, keep-map, below-in}
+use Rattle.proof_tables.specs.Puts.{keep-one-below}
+use Rattle.proof_tables.specs.Range.{capacity-over}
+use Rattle.proof_tables.specs.Reclaiming.{sealed-full, cand-record}
+use Rattle.proof_tables.specs.Run.{spareAt, usedAt, flies, awaits, Open, Lists, Tidy, Healthy}
+use Rattle.proof_tables.specs.Segs.{present-in, remaining-low, seg-is, full-is, cand-at}
+use Rattle.proof_tables.specs.Settled.{remains-used, used-remains, remains-is-used, serial-of, its-drive-low}
+use Rattle.proof_tables.specs.Slots.{none-flies}
+use Rattle.proof_tables.specs.Tables.{zero-at, remains, remaining-is}
+use Rattle.proof_tables.specs.Tallies.{tally-none}
+use Rattle.proof_tables.specs.Tests.{clash, and-false-left, and-false-right, not-so, cond-true, eqb-self}
+use Rattle.proof_tables.specs.Zones.{Bytes, Shaped}
+
+-- an open segment with its stripes 0 to c - 1 on every drive, and nothing else
+pub record Steady (p : Params) (v : View) (g c : ℕ) : Type 0 where
+  pub steady-low : g < p .Z
+  pub steady-used : usedAt v g ≡ true
+  pub steady-few : c < p .S
+  pub steady-pointer : (d : ℕ) → d < p .N → pointerAt v d g ≡ 1 + c
+  pub steady-stripes : (d o : ℕ) → d < p .N → o < c → spareAt p v d g o .stripe < c
+  pub steady-count : length (counted p 0 (segmentOf p v 0 g)) ≡ c
+
+abbrev pub SealedAll : Params → View → ℕ → Type 0
+SealedAll p v z = (d : ℕ) → d < p .N → pointerAt v d z ≡ capacity p
+
+pub data Rest (p : Params) (v : View) : Type 0 where
+  rest-sealed : ((z : ℕ) → z < p .Z → usedAt v z ≡ true → SealedAll p v z) → Rest p v
+  rest-open : (g c : ℕ) → Steady p v g c → ((z : ℕ) → z < p .Z → usedAt v z ≡ true → (z ≡ g → ⊥) → SealedAll p v z) → Rest p v
+
+module _ (p : Params) (r : Ranged p) (v : View) (sh : Shaped p v) (b : ℕ) (t : Tidy p v b) where
+  abbrev gs : List Segment
+  gs = segments p v 0
+
+  abbrev serial : ℕ
+  serial = greatestSerial gs
+
+  h0 : 0 < p .N
+  h0 = omega (arith, r .drives-low)
+
+  -- the greatest serial is one of those that are used
+  serial-in : (z : ℕ) → z < p .Z → usedAt v z ≡ true → headerSerial (headerAt v 0 z) ≤ serial
+  serial-in z hz q = as! (in-greatest (headerSerial (headerAt v 0 z)) (map (λ (g : Segment). g .serial) gs)
+      (subst (λ (n : ℕ). In n (map (λ (g : Segment). g .serial) gs)) (serial-of p r v b t z) (in-map (λ (g : Segment). g .serial) gs (segmentOf p v 0 z) seg-in)))
+    where
+      seg-in : In (segmentOf p v 0 z) gs
+      seg-in = cs! (in-map (segmentOf p v 0) (remaining p v 0) z (used-remains p r v b t z hz q))
+        where
+          cs! : In (segmentOf p v 0 z) (map (segmentOf p v 0) (remaining p v 0)) → In (segmentOf p v 0 z) gs
+          cs! m = unfold segments in m
+
+      as! : headerSerial (headerAt v 0 z) ≤ greatest (map (λ (g : Segment). g .serial) gs) → headerSerial (headerAt v 0 z) ≤ serial
+      as! x = unfold greatestSerial in x
+
+  seg-is-used : (x : Segment) → In x gs → (z : ℕ) × (z < p .Z) × (usedAt v z ≡ true) × (x ≡ segmentOf p v 0 z)
+  seg-is-used x m =
+      let (z, i, e) = map-in (segmentOf p v 0) (remaining p v 0) x (cs! m) in
+      let (hz, q) = remains-is-used p r v b t z i in
+      (z, hz, q, e)
+    where
+      cs! : In x gs → In x (map (segmentOf p v 0) (remaining p v 0))
+      cs! m = unfold segments in m
+
+  header-bytes : (z : ℕ) → z < p .Z → Bytes (headerAt v 0 z)
+  header-bytes z hz = as! (sh .zone-ok 0 z h0 hz .sound 0 (let c = capacity-over p r in omega arith) .block-bytes (inl refl))
+    where
+      as! : Bytes (getD (zoneAt v 0 z .blocks) 0 noChunk .block) → Bytes (headerAt v 0 z)
+      as! x = unfold headerAt chunkAt zoneOn in x
+
+  pub serial-bound : serial < 256 ^ 8
+  serial-bound = as! (greatest-low (256 ^ 8) (map (λ (g : Segment). g .serial) gs) (lit< tt)
+      (λ n m.
+      let (x, i, e) = map-in (λ (g : Segment). g .serial) gs n m in
+      let (z, hz, q, f) = seg-is-used x i in
+      subst (λ (k : ℕ). k < 256 ^ 8) (sym (e ∙ ap (λ (y : Segment). y .serial) f ∙ serial-of p r v b t z)) (serial-low (headerAt v 0 z) (header-bytes z hz))))
+    where
+      as! : greatest (map (λ (g : Segment). g .serial) gs) < 256 ^ 8 → serial < 256 ^ 8
+      as! x = unfold greatestSerial in x
+
+  stamp-bound : greatestStamp (candidates p 0 gs) < 256 ^ 8
+  stamp-bound = as! (greatest-low (256 ^ 8) (map (λ (c : Cand). c .stamp) (candidates p 0 gs)) (lit< tt)
+      (λ n m.
+      let (c, i, e) = map-in (λ (c : Cand). c .stamp) (candidates p 0 gs) n m in
+      let k = cand-at p v 0 c i in
+      let hd = its-drive-low p r v b t c k in
+      let hk = remaining-low p v 0 (k .of) (k .remains) in
+      subst (λ (x : ℕ). x < 256 ^ 8) (sym (e ∙ cand-record p r v b t c k .1))
+      (record-low p (zoneAt v (c .drive) (k .of)) (sh .zone-ok (c .drive) (k .of) hd hk) (sealedIn p v 0 (k .of)) (c .offset) .1)))
+    where
+      as! : greatest (map (λ (c : Cand). c .stamp) (candidates p 0 gs)) < 256 ^ 8 → greatestStamp (candidates p 0 gs) < 256 ^ 8
+      as! x = unfold greatestStamp in x
+
+  tidy-now : Tidy p v serial
+  tidy-now = record {
+    pointer-low = t .pointer-low;
+    together = t .together;
+    copied-less = t .copied-less;
+    serial-known = serial-in;
+    serial-once = t .serial-once;
+    no-copy = t .no-copy;
+  }
+
+  -- ---- the unsealed segment
+
+  sealed-is : (z : ℕ) → SealedAll p v z → sealedIn p v 0 z ≡ true
+  sealed-is z f = as! (in-all (λ d. eqb (pointerAt v d z) (capacity p)) (present p 0) (λ d m. eq-eqb (pointerAt v d z) (capacity p) (f d (present-in p 0 d m .0))))
+    where
+      as! : all (λ d. eqb (pointerAt v d z) (capacity p)) (present p 0) ≡ true → sealedIn p v 0 z ≡ true
+      as! q = unfold sealedIn zoneOn in q
+
+  unsealed-are : unsealed gs ≡ map (segmentOf p v 0) (keep (λ g. usedAt v g && not (sealedIn p v 0 g)) (below (p .Z)))
+  unsealed-are = as! (keep-map (λ (g : Segment). not (g .full)) (segmentOf p v 0) (remaining p v 0)
+      ∙ ap (map (segmentOf p v 0)) (keep-cong (λ g. not (segmentOf p v 0 g .full)) (λ g. not (sealedIn p v 0 g)) (remaining p v 0) (λ g m. ap not (full-is p v 0 g))
+      ∙ ap (keep (λ g. not (sealedIn p v 0 g))) (remaining-is p v 0)
+      ∙ keep-keep (λ g. not (sealedIn p v 0 g)) (remains p v 0) (below (p .Z))
+      ∙ keep-cong (λ g. remains p v 0 g && not (sealedIn p v 0 g)) (λ g. usedAt v g && not (sealedIn p v 0 g)) (below (p .Z))
+      (λ g m. ap (λ (x : Bool). x && not (sealedIn p v 0 g)) (remains-used p r v b t g (below-in (p .Z) g m)))))
+    where
+      as! : keep (λ (g : Segment). not (g .full)) (map (segmentOf p v 0) (remaining p v 0)) ≡ map (segmentOf p v 0) (keep (λ g. usedAt v g && not (sealedIn p v 0 g)) (below (p .Z)))
+          → unsealed gs ≡ map (segmentOf p v 0) (keep (λ g. usedAt v g && not (sealedIn p v 0 g)) (below (p .Z)))
+      as! e = unfold unsealed segments in e
+
+  no-unsealed : ((z : ℕ) → z < p .Z → usedAt v z ≡ true → SealedAll p v z) → unsealed gs ≡ []
+  no-unsealed f = unsealed-are ∙ ap (map (segmentOf p v 0)) (keep-nothing (λ g. usedAt v g && not (sealedIn p v 0 g)) (below (p .Z)) (λ g m. go g (below-in (p .Z) g m) (test (usedAt v g))))
+    where
+      go : (g : ℕ) → g < p .Z → Test (usedAt v g) → usedAt v g && not (sealedIn p v 0 g) ≡ false
+      go g hg (yes! q) = and-false-right (usedAt v g) (not (sealedIn p v 0 g)) (ap not (sealed-is g (f g hg q)))
+      go g hg (no! q) = and-false-left (usedAt v g) (not (sealedIn p v 0 g)) q
+
+  steady-unsealed : (g c : ℕ) → Steady p v g c → sealedIn p v 0 g ≡ false
+  steady-unsealed g c s =
+      not-so (sealedIn p v 0 g) (λ q. let x = sealed-full p v g q 0 h0 in let y = s .steady-pointer 0 h0 in let w = s .steady-few in let l = capacity-over p r in let bad : ⊥ = omega arith in bad)
+
+  one-unsealed : (g c : ℕ) → Steady p v g c → ((z : ℕ) → z < p .Z → usedAt v z ≡ true → (z ≡ g → ⊥) → SealedAll p v z) → unsealed gs ≡ segmentOf p v 0 g ∷ []
+  one-unsealed g c s f = unsealed-are ∙ ap (map (segmentOf p v 0))
+      (keep-cong (λ y. usedAt v y && not (sealedIn p v 0 y)) (λ y. eqb y g) (below (p .Z))
+      (λ y m. go y (below-in (p .Z) y m) (ℕ-discrete y g) (test (usedAt v y)))
+      ∙ keep-one-below (λ y. eqb y g) g (p .Z) (λ y. refl) (s .steady-low))
+    where
+      go : (y : ℕ) → y < p .Z → Dec (y ≡ g) → Test (usedAt v y) → usedAt v y && not (sealedIn p v 0 y) ≡ eqb y g
+      go y hy (yes e) q =
+          subst (λ (x : ℕ). usedAt v x && not (sealedIn p v 0 x) ≡ eqb x g) (sym e)
+          (and-both (usedAt v g) (not (sealedIn p v 0 g)) (s .steady-used) (ap not (steady-unsealed g c s)) ∙ sym (eqb-self g))
+      go y hy (no n) (yes! q) = and-false-right (usedAt v y) (not (sealedIn p v 0 y)) (ap not (sealed-is y (f y hy q n))) ∙ sym (ne-eqb y g n)
+      go y hy (no n) (no! q) = and-false-left (usedAt v y) (not (sealedIn p v 0 y)) q ∙ sym (ne-eqb y g n)
+
+  -- ---- a state with nothing in flight
+
+  module _ (opened next : ℕ) where
+    abbrev su : State
+    su = idleState 1 0 (greatestStamp (candidates p 0 gs)) serial opened next
+
+    idle-flies : (i : ℕ) → flies su i ≡ false
+    idle-flies i = none-flies su i as!
+      where
+        as! : filledIn su i ≡ 0
+        as! = unfold filledIn idleState in zero-at 8 i
+
+    idle-lists : Lists su
+    idle-lists = unfold idleState in record { numbers-long = refl; filled-long = refl; writes-long = refl; landed-long = refl; addresses-long = refl; stamps-long = refl; offsets-long = refl }
+
+    idle-serial : su .serial .0 ≡ serial
+    idle-serial = unfold idleState in refl
+
+    idle-stamp : su .stamp .0 ≡ greatestStamp (candidates p 0 gs)
+    idle-stamp = unfold idleState in refl
+
+    idle-opened : su .opened ≡ opened
+    idle-opened = unfold idleState in refl
+
+    idle-next : su .next ≡ next
+    idle-next = unfold idleState in refl
+
+    idle-awaits : (d : ℕ) → tally (awaits su (flies su) d) slots ≡ 0
+    idle-awaits d = tally-none (awaits su (flies su) d) slots (λ i m. and-false-left (flies su i) (not (isIn (landedIn su i) d)) (idle-flies i))
+
+  -- nothing is open
+  sealed-healthy : ((z : ℕ) → z < p .Z → usedAt v z ≡ true → SealedAll p v z) → Healthy p v (su 0 0)
+  sealed-healthy f = record {
+    tidy = subst (λ (x : ℕ). Tidy p v x) (sym (idle-serial 0 0)) tidy-now;
+    sealed-but = λ z hz q. inr (f z hz q);
+    opens-at = λ z q. absurd (let x = sym (idle-opened 0 0) ∙ q in let bad : ⊥ = omega arith in bad);
+    shut = λ q i hi. idle-flies 0 0 i;
+    serial-fits = subst (λ (x : ℕ). x < 256 ^ 8) (sym (idle-serial 0 0)) serial-bound;
+    stamp-fits = subst (λ (x : ℕ). x < 256 ^ 8) (sym (idle-stamp 0 0)) stamp-bound;
+    lists = idle-lists 0 0;
+  }
+
+  -- the one that is steady is open
+  steady-open : (g c : ℕ) → Steady p v g c → Open p v (su (suc g) c) (flies (su (suc g) c)) g
+  steady-open g c s = record {
+    opened-zone = s .steady-low;
+    has-header = λ d hd. let e = s .steady-pointer d hd in omega arith;
+    count = λ d hd. ap₂ (λ (x y : ℕ). x + y) (s .steady-pointer d hd) (idle-awaits (suc g) c d) ∙ (let e = idle-next (suc g) c in let x : 1 + c + 0 ≡ suc (su (suc g) c .next) = omega arith in x);
+    below-next = λ d o hd q. subst (λ (x : ℕ). spareAt p v d g o .stripe < x) (sym (idle-next (suc g) c)) (s .steady-stripes d o hd (let e = s .steady-pointer d hd in omega arith));
+    flight = λ i hi q. clash q (idle-flies (suc g) c i);
+    once = λ i j hi hj x y e. clash x (idle-flies (suc g) c i);
+    goes-on = λ q. absurd (let e = sym (idle-next (suc g) c) ∙ q in let l = s .steady-few in let bad : ⊥ = omega arith in bad);
+  }
+
+  open-healthy : (g c : ℕ) → Steady p v g c → ((z : ℕ) → z < p .Z → usedAt v z ≡ true → (z ≡ g → ⊥) → SealedAll p v z) → Healthy p v (su (suc g) c)
+  open-healthy g c s f = record {
+    tidy = subst (λ (x : ℕ). Tidy p v x) (sym (idle-serial (suc g) c)) tidy-now;
+    sealed-but = λ z hz q. go z hz q (ℕ-discrete z g);
+    opens-at =
+        λ z q. subst (λ (x : ℕ). Open p v (su (suc g) c) (flies (su (suc g) c)) x) (let e : suc g ≡ suc z = sym (idle-opened (suc g) c) ∙ q in let x : g ≡ z = omega arith in x) (steady-open g c s);
+    shut = λ q. absurd (let x = sym (idle-opened (suc g) c) ∙ q in let bad : ⊥ = omega arith in bad);
+    serial-fits = subst (λ (x : ℕ). x < 256 ^ 8) (sym (idle-serial (suc g) c)) serial-bound;
+    stamp-fits = subst (λ (x : ℕ). x < 256 ^ 8) (sym (idle-stamp (suc g) c)) stamp-bound;
+    lists = idle-lists (suc g) c;
+  }
+    where
+      go : (z : ℕ) → z < p .Z → usedAt v z ≡ true → Dec (z ≡ g) → (su (suc g) c .opened ≡ suc z) ⊎ SealedAll p v z
+      go z hz q (yes e) = inl (idle-opened (suc g) c ∙ ap suc (sym e))
+      go z hz q (no n) = inr (f z hz q n)
+
+  -- ---- the memory that a restart makes of such a view
+
+  memory-state : (us : List Segment) → unsealed gs ≡ us → (fl : List ℕ) → restartMemory p v 0 fl .state ≡ su (openOf us) (nextOf p us)
+  memory-state us e fl = as! ∙ ap (λ (x : List Segment). su (openOf x) (nextOf p x)) (cond-true (eqb 0 0) (unsealed gs) [] refl ∙ e)
+    where
+      as! : restartMemory p v 0 fl .state ≡ su (openOf (cond (eqb 0 0) (unsealed gs) [])) (nextOf p (cond (eqb 0 0) (unsealed gs) []))
+      as! = unfold restartMemory in refl
+
+  pub rest-healthy : Rest p v → (fl : List ℕ) → Healthy p v (restartMemory p v 0 fl .state) × (stateOk p (restartMemory p v 0 fl .state) ≡ true)
+  rest-healthy (rest-sealed f) fl =
+      let e : restartMemory p v 0 fl .state ≡ su 0 0 = memory-state [] (no-unsealed f) fl ∙ none! in (
+        subst (λ (x : State). Healthy p v x) (sym e) (sealed-healthy f),
+        ap (stateOk p) e ∙ idle-ok p r 0 (greatestStamp (candidates p 0 gs)) serial 0 0 (pow-pos (p .N)) (le-of-eq-ones) (omega arith) (omega arith),
+      )
+    where
+      none! : su (openOf []) (nextOf p []) ≡ su 0 0
+      none! = unfold openOf nextOf in refl
+
+      le-of-eq-ones : ones 0 ≤ 1
+      le-of-eq-ones = let e = ones-ones 0 in omega arith
+  rest-healthy (rest-open g c s f) fl =
+      let e : restartMemory p v 0 fl .state ≡ su (suc g) c = memory-state (segmentOf p v 0 g ∷ []) (one-unsealed g c s f) fl ∙ one! ∙ ap₂ su (ap suc (seg-is p v 0 g)) (s .steady-count) in (
+        subst (λ (x : State). Healthy p v x) (sym e) (open-healthy g c s f),
+        ap (stateOk p) e
+            ∙ idle-ok p r 0 (greatestStamp (candidates p 0 gs)) serial (suc g) c (pow-pos (p .N)) (let e = ones-ones 0 in omega arith) (s .steady-low)
+            (let l = s .steady-few in omega arith),
+      )
+    where
+      one! : su (openOf (segmentOf p v 0 g ∷ [])) (nextOf p (segmentOf p v 0 g ∷ [])) ≡ su (suc (segmentOf p v 0 g .seg)) (length (counted p 0 (segmentOf p v 0 g)))
+      one! = unfold openOf nextOf in refl

@@ -1,0 +1,115 @@
+-- What holds between the uncut calls that follow a finished restart. Assumes nothing.
+use mathlib.Core.Path.{_≡_}
+use mathlib.Core.Bool.{Bool, true, false, not, _&&_}
+use mathlib.Core.Logic.{_⊎_}
+use Prim.Native.Nat.{ℕ, suc, _+_, _*_, _^_, _≤_, _<_}
+use lib.Dec.{eqb}
+use lib.ListN.{length}
+use Rattle.spec.specs.declared.Params.{Params}
+use Rattle.spec.specs.declared.State.{State}
+use Rattle.spec.specs.Answers.{isRefusedAs, isCut}
+use Rattle.spec.specs.Calls.{After}
+use Rattle.spec.specs.Drives.{View, zoneAt, pointerAt, Disk, recordIn}
+use Rattle.spec.specs.Layout.{dataPosition, isData, group, headerSerial, headerCopied, Rec}
+use Rattle.spec.specs.Lists.{tally, isIn}
+use Rattle.spec.specs.Memory.{Memory, slots, stripeIn, filledIn, landedIn, entryIn, offsetIn, isFree}
+use Rattle.spec.specs.Params.{capacity, named}
+use Rattle.spec.specs.Segments.{headerAt}
+use Rattle.law_views.specs.Views.{seen}
+use Rattle.proof_tables.specs.Accept.{Accepted}
+use Rattle.proof_tables.specs.Base.{Base}
+
+-- ---- one drive is missing: nothing is wrong on the others
+
+pub record Lost (p : Params) (k : Disk) (m : Memory) : Type 0 where
+  pub which : ℕ
+  pub which-low : which < p .N
+  pub names-it : m .state .missing ≡ named which
+  pub accepts : Accepted p (seen p k) (m .state .missing)
+
+-- ---- none is missing
+
+-- the record of a data offset, by its spare
+abbrev pub spareAt : Params → View → ℕ → ℕ → ℕ → Rec
+spareAt p v d z o = recordIn p false (zoneAt v d z) o
+
+-- a segment with a header
+abbrev pub usedAt : View → ℕ → Bool
+usedAt v z = not (eqb (pointerAt v 0 z) 0)
+
+-- an eighth in use
+abbrev pub flies : State → ℕ → Bool
+flies st i = not (isFree st i)
+
+-- a stripe in flight that drive d doesn't have
+abbrev pub awaits : State → (ℕ → Bool) → ℕ → ℕ → Bool
+awaits st busy d i = busy i && not (isIn (landedIn st i) d)
+
+-- where drive d has the stripe of eighth i
+pub record LandedAt (p : Params) (v : View) (st : State) (z i d : ℕ) : Type 0 where
+  pub lies : 1 + offsetIn st i d < pointerAt v d z
+  pub of-stripe : spareAt p v d z (offsetIn st i d) .stripe ≡ stripeIn st i
+  pub not-before : (o : ℕ) → o < offsetIn st i d → spareAt p v d z o .stripe ≡ stripeIn st i → ⊥
+  pub is-entry : isData p (stripeIn st i) d ≡ true
+      → (dataPosition p (stripeIn st i) d < filledIn st i) × (spareAt p v d z (offsetIn st i d) ≡ entryIn st i (dataPosition p (stripeIn st i) d))
+
+pub record Flight (p : Params) (v : View) (st : State) (z i : ℕ) : Type 0 where
+  pub begun : stripeIn st i < st .next
+  pub group-low : (d : ℕ) → d < p .N → group p (stripeIn st i) * p .G < pointerAt v d z
+  pub group-high : st .next ≤ suc (group p (stripeIn st i)) * p .G
+  pub not-there : (d o : ℕ) → d < p .N → isIn (landedIn st i) d ≡ false → 1 + o < pointerAt v d z → spareAt p v d z o .stripe ≡ stripeIn st i → ⊥
+  pub lands : (d : ℕ) → d < p .N → isIn (landedIn st i) d ≡ true → LandedAt p v st z i d
+  pub entries-low : (e : ℕ) → e < filledIn st i → (entryIn st i e .address < 256 ^ 8) × (entryIn st i e .stamp < 256 ^ 8)
+
+-- the open segment
+pub record Open (p : Params) (v : View) (st : State) (busy : ℕ → Bool) (z : ℕ) : Type 0 where
+  pub opened-zone : z < p .Z
+  pub has-header : (d : ℕ) → d < p .N → 1 ≤ pointerAt v d z
+  pub count : (d : ℕ) → d < p .N → pointerAt v d z + tally (awaits st busy d) slots ≡ suc (st .next)
+  pub below-next : (d o : ℕ) → d < p .N → 1 + o < pointerAt v d z → spareAt p v d z o .stripe < st .next
+  pub flight : (i : ℕ) → i < 8 → busy i ≡ true → Flight p v st z i
+  pub once : (i j : ℕ) → i < 8 → j < 8 → busy i ≡ true → busy j ≡ true → stripeIn st i ≡ stripeIn st j → i ≡ j
+  pub goes-on : st .next ≡ p .S → 0 < tally busy slots
+
+-- the state's lists have their lengths
+pub record Lists (st : State) : Type 0 where
+  pub numbers-long : length (st .numbers) ≡ 8
+  pub filled-long : length (st .filled) ≡ 8
+  pub writes-long : length (st .writes) ≡ 8
+  pub landed-long : length (st .landed) ≡ 8
+  pub addresses-long : length (st .addresses) ≡ 64
+  pub stamps-long : length (st .stamps) ≡ 64
+  pub offsets-long : length (st .offsets) ≡ 64
+
+-- the segments by their zones and headers alone
+pub record Tidy (p : Params) (v : View) (serial : ℕ) : Type 0 where
+  pub pointer-low : (d z : ℕ) → d < p .N → z < p .Z → pointerAt v d z ≤ capacity p
+  pub together : (d z : ℕ) → d < p .N → z < p .Z → eqb (pointerAt v d z) 0 ≡ eqb (pointerAt v 0 z) 0
+  pub copied-less : (z : ℕ) → z < p .Z → usedAt v z ≡ true → headerCopied (headerAt v 0 z) < headerSerial (headerAt v 0 z)
+  pub serial-known : (z : ℕ) → z < p .Z → usedAt v z ≡ true → headerSerial (headerAt v 0 z) ≤ serial
+  pub serial-once : (y z : ℕ) → y < p .Z → z < p .Z → usedAt v y ≡ true → usedAt v z ≡ true → headerSerial (headerAt v 0 y) ≡ headerSerial (headerAt v 0 z) → y ≡ z
+  pub no-copy : (y z : ℕ) → y < p .Z → z < p .Z → usedAt v y ≡ true → usedAt v z ≡ true → headerCopied (headerAt v 0 y) ≡ headerSerial (headerAt v 0 z) → ⊥
+
+pub record Healthy (p : Params) (v : View) (st : State) : Type 0 where
+  pub tidy : Tidy p v (st .serial .0)
+  pub sealed-but : (z : ℕ) → z < p .Z → usedAt v z ≡ true → (st .opened ≡ suc z) ⊎ ((d : ℕ) → d < p .N → pointerAt v d z ≡ capacity p)
+  pub opens-at : (z : ℕ) → st .opened ≡ suc z → Open p v st (flies st) z
+  pub shut : st .opened ≡ 0 → (i : ℕ) → i < 8 → flies st i ≡ false
+  pub serial-fits : st .serial .0 < 256 ^ 8
+  pub stamp-fits : st .stamp .0 < 256 ^ 8
+  pub lists : Lists st
+
+pub record Well (p : Params) (k : Disk) (m : Memory) : Type 0 where
+  pub none-missing : m .state .missing ≡ 0
+  pub healthy : Healthy p (seen p k) (m .state)
+
+-- ---- together
+
+pub record Run (p : Params) (k : Disk) (m : Memory) : Type 0 where
+  pub base : Base p k m
+  pub mode : Lost p k m ⊎ Well p k m
+
+-- what a step must give
+pub record Kept (p : Params) (r : After Disk) : Type 0 where
+  pub never-ninth : isRefusedAs 9 (r .answer) ≡ false
+  pub runs-on : isCut (r .answer) ≡ false → Run p (r .drives) (r .memory)

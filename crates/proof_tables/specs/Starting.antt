@@ -1,0 +1,157 @@
+-- A finished restart that names a drive missing. Assumes nothing.
+use mathlib.Core.Path.{_≡_, refl, sym, ap, ap₂, _∙_, subst}
+use mathlib.Core.List.{List, [], _∷_, _++_}
+use mathlib.Core.Bool.{true, false, not, _&&_, _||_}
+use mathlib.Core.Logic.{inl}
+use Prim.Native.Nat.{ℕ, _<_}
+use borrow.Author.Tests.{not-false}
+use native.Mathlib.Omega.{arith}
+use lib.Dec.{eqb}
+use lib.ListN.{length}
+use Rattle.spec.specs.declared.Params.{Params}
+use Rattle.spec.specs.Calls.{Check, Plan}
+use Rattle.spec.specs.Calls.Check.{rule}
+use Rattle.spec.specs.Counts.{lastCount}
+use Rattle.spec.specs.Drives.{View, Store, storeView, Disk, storeDisk, storeAll}
+use Rattle.spec.specs.Engine.{lentOk}
+use Rattle.spec.specs.Lists.{isNil, flat}
+use Rattle.spec.specs.Memory.{Memory, idleState, stateOk}
+use Rattle.spec.specs.Params.{inRange, inflightLen, named}
+use Rattle.spec.specs.Restart.{freeZones, dropStores, mendStores, restartStores, openOf, nextOf, restartMemory, namesDrive, rewrites, restartChecks, restartPlan}
+use Rattle.spec.specs.Segments.{Segment, segments, candidates, addressTable, compactTable, greatestStamp, greatestSerial, unsealed}
+use Rattle.law_basic.specs.Geometry.{ranged}
+use Rattle.law_views.specs.Views.{Whole, seen}
+use Rattle.proof_tables.specs.Accept.{Accepted, accepted-of, in-groups}
+use Rattle.proof_tables.specs.Base.{Decodes, Base}
+use Rattle.proof_tables.specs.Checks.{Passes}
+use Rattle.proof_tables.specs.Idle.{idle-ok, lengths-of, of-lengths, whole-of}
+use Rattle.proof_tables.specs.Losing.{named-low, named-ones, named-some}
+use Rattle.proof_tables.specs.Run.{Run}
+use Rattle.proof_tables.specs.Tables.{length-addresses, length-compact}
+use Rattle.proof_tables.specs.Tests.{or-left, or-right, cond-false}
+use Rattle.proof_tables.specs.Zones.{Shaped}
+
+-- what a restart's memory says, by its definition
+module _ (p : Params) (v : View) (gone : ℕ) (fl : List ℕ) where
+  pub memory-missing : restartMemory p v gone fl .state .missing ≡ gone
+  unfolding restartMemory idleState
+  memory-missing = refl
+
+  pub memory-addresses : restartMemory p v gone fl .addresses ≡ addressTable p (candidates p gone (segments p v gone))
+  unfolding restartMemory
+  memory-addresses = refl
+
+  pub memory-compact : restartMemory p v gone fl .compact ≡ compactTable p (segments p v gone)
+  unfolding restartMemory
+  memory-compact = refl
+
+  pub memory-inflight : restartMemory p v gone fl .inflight ≡ fl
+  unfolding restartMemory
+  memory-inflight = refl
+
+-- the base of what holds after a restart: k is the disk with its stores made, v its view
+pub restarted-base : (p : Params) (k : Disk) (v : View) (gone : ℕ) (fl : List ℕ) → inRange p ≡ true → Whole p k → seen p k ≡ v → Shaped p v → length fl ≡ inflightLen p
+    → stateOk p (restartMemory p v gone fl .state) ≡ true → Decodes p v gone → Base p k (restartMemory p v gone fl)
+restarted-base p k v gone fl r w e sh l st de =
+    let m = restartMemory p v gone fl in
+    record {
+      ranged = r;
+      lent = of-lengths p k m (record {
+        image-ok = w .image-long;
+        pointers-ok = w .pointers-long;
+        addresses-ok = ap length (memory-addresses p v gone fl) ∙ length-addresses p (candidates p gone (segments p v gone));
+        compact-ok = ap length (memory-compact p v gone fl) ∙ length-compact p v gone;
+        inflight-ok = ap length (memory-inflight p v gone fl) ∙ l;
+      });
+      shaped = subst (λ (x : View). Shaped p x) (sym e) sh;
+      state-ok = st;
+      addresses-say = memory-addresses p v gone fl ∙ ap₂ (λ (x : View) (g : ℕ). addressTable p (candidates p g (segments p x g))) (sym e) (sym (memory-missing p v gone fl));
+      compact-says = memory-compact p v gone fl ∙ ap₂ (λ (x : View) (g : ℕ). compactTable p (segments p x g)) (sym e) (sym (memory-missing p v gone fl));
+      decodes = subst (λ (x : View). Decodes p x (m .state .missing)) (sym e) (subst (λ (g : ℕ). Decodes p v g) (sym (memory-missing p v gone fl)) de);
+    }
+
+lost-state : (p : Params) (v : View) (gone : ℕ) (fl : List ℕ) → eqb gone 0 ≡ false → (t s : ℕ) × (restartMemory p v gone fl .state ≡ idleState 1 gone t s 0 0)
+unfolding restartMemory openOf nextOf
+lost-state p v gone fl q =
+    let gs = segments p v gone in (
+      greatestStamp (candidates p gone gs),
+      greatestSerial gs,
+      ap (λ (us : List Segment). idleState 1 gone (greatestStamp (candidates p gone gs)) (greatestSerial gs) (openOf us) (nextOf p us))
+          (cond-false (eqb gone 0) (unsealed gs) [] q),
+    )
+
+-- the checks of a restart
+abbrev pub startChecks : Params → Disk → Memory → ℕ → List Check
+startChecks p k m d = restartChecks p (lentOk p k m) (seen p k) d (segments p (seen p k) (named d))
+
+abbrev pub startPlan : Params → Disk → Memory → ℕ → Plan
+startPlan p k m d = restartPlan p (seen p k) d (segments p (seen p k) (named d)) (m .inflight)
+
+pub record Begins (p : Params) (k : Disk) (m : Memory) (d : ℕ) : Type 0 where
+  pub in-range! : inRange p ≡ true
+  pub names! : namesDrive p d ≡ true
+  pub lent! : lentOk p k m ≡ true
+  pub accepted! : Accepted p (seen p k) (named d)
+  pub sixth! : rewrites p (named d) (segments p (seen p k) (named d)) && eqb (greatestSerial (segments p (seen p k) (named d))) lastCount ≡ false
+  pub eighth! : rewrites p (named d) (segments p (seen p k) (named d)) && isNil (freeZones p (segments p (seen p k) (named d))) ≡ false
+
+pub begins : (p : Params) (k : Disk) (m : Memory) (d : ℕ) → Passes (startChecks p k m d) → Begins p k m d
+unfolding restartChecks
+begins p k m d c =
+    let v = seen p k in
+    let gs = segments p v (named d) in
+    let b1 = not (inRange p) in
+    let b2 = not (namesDrive p d) in
+    let q : b1 || b2 ≡ false = c .0 in
+    let (a, rest) = accepted-of p v (named d) (rule 6 (rewrites p (named d) gs && eqb (greatestSerial gs) lastCount) ∷ rule 8 (rewrites p (named d) gs && isNil (freeZones p gs)) ∷ []) (c .1 .1) in
+    record {
+      in-range! = not-false (inRange p) (or-left b1 b2 q);
+      names! = not-false (namesDrive p d) (or-right b1 b2 q);
+      lent! = not-false (lentOk p k m) (c .1 .0);
+      accepted! = a;
+      sixth! = rest .0;
+      eighth! = rest .1 .0;
+    }
+
+-- the restart that names a drive stores nothing
+pub lost-start : (p : Params) (k : Disk) (m : Memory) (d : ℕ) → (Whole p k → Shaped p (seen p k)) → Begins p k m d → d < p .N
+    → Run p (storeAll (storeDisk p) (startPlan p k m d .stores) k) (startPlan p k m d .memory)
+lost-start p k m d sh b hd =
+    let v = seen p k in
+    let gone = named d in
+    let gs = segments p v gone in
+    let rg = ranged p (b .in-range!) in
+    let w = whole-of p k m (b .lent!) in
+    let ns : eqb gone 0 ≡ false = named-some p rg d hd in
+    let s0 : startPlan p k m d .stores ≡ [] = no-stores gs ns in
+    let em : startPlan p k m d .memory ≡ restartMemory p v gone (m .inflight) = the-memory gs s0 in
+    let ek : storeAll (storeDisk p) (startPlan p k m d .stores) k ≡ k = ap (λ (x : List Store). storeAll (storeDisk p) x k) s0 ∙ nothing in
+    let (t, s, est) = lost-state p v gone (m .inflight) ns in
+    let st : stateOk p (restartMemory p v gone (m .inflight) .state) ≡ true = ap (stateOk p) est ∙ idle-ok p rg gone t s 0 0 (named-low p rg d hd) (named-ones p rg d hd) (omega arith) (omega arith) in
+    let mm = memory-missing p v gone (m .inflight) in
+    subst (λ (x : Disk). Run p x (startPlan p k m d .memory)) (sym ek)
+    (subst (λ (x : Memory). Run p k x) (sym em) (record {
+      base = restarted-base p k v gone (m .inflight) (b .in-range!) w refl (sh w) (lengths-of p k m (b .lent!) .inflight-ok) st (λ e h. in-groups p v gone (b .accepted!));
+      mode = inl (record { which = d; which-low = hd; names-it = mm; accepts = subst (λ (g : ℕ). Accepted p v g) (sym mm) (b .accepted!) });
+    }))
+  where
+    no-stores : (gs : List Segment) → eqb (named d) 0 ≡ false → restartPlan p (seen p k) d gs (m .inflight) .stores ≡ []
+    no-stores gs q = unfold restartPlan restartStores in cond-false (eqb (named d) 0) (dropStores p gs ++ flat (mendStores p gs) (unsealed gs)) [] q
+
+    the-memory :
+        (gs : List Segment)
+        → restartPlan p (seen p k) d gs (m .inflight) .stores ≡ []
+        → restartPlan p (seen p k) d gs (m .inflight) .memory ≡ restartMemory p (seen p k) (named d) (m .inflight)
+    the-memory gs q = after gs ∙ ap (λ (x : List Store). restartMemory p (storeAll storeView x (seen p k)) (named d) (m .inflight)) q ∙ none-made
+      where
+        after :
+            (gs : List Segment)
+            → restartPlan p (seen p k) d gs (m .inflight) .memory ≡ restartMemory p
+            (storeAll storeView (restartPlan p (seen p k) d gs (m .inflight) .stores) (seen p k)) (named d) (m .inflight)
+        after gs = unfold restartPlan in refl
+
+        none-made : restartMemory p (storeAll storeView [] (seen p k)) (named d) (m .inflight) ≡ restartMemory p (seen p k) (named d) (m .inflight)
+        none-made = unfold storeAll in refl
+
+    nothing : storeAll (storeDisk p) [] k ≡ k
+    nothing = unfold storeAll in refl

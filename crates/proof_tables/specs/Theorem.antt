@@ -1,0 +1,129 @@
+-- What holds between calls holds after a finished restart and after every uncut call, and refusal 9 comes from restarts alone. Assumes nothing.
+use mathlib.Core.Path.{_≡_, refl, sym, ap, _∙_, subst}
+use mathlib.Core.List.{List, [], _∷_}
+use mathlib.Core.Bool.{true, false, not, _||_}
+use mathlib.Core.Logic.{⊎-elim}
+use Prim.Native.Nat.{ℕ, _<_}
+use borrow.Author.Tests.{eq-eqb, ltb-true, eqb-true, not-false}
+use lib.Dec.{ltb, eqb}
+use Rattle.spec.specs.declared.Params.{Params}
+use Rattle.spec.specs.declared.Answer.the-variants.{Rebuilt}
+use Rattle.spec.specs.Answers.{isRefusedAs, isCut, finished}
+use Rattle.spec.specs.Calls.{Check, firstRefusal, Plan, mkPlan, decided, After, outcome}
+use Rattle.spec.specs.Calls.Check.{rule}
+use Rattle.spec.specs.Demands.{NotNinth}
+use Rattle.spec.specs.Drives.{Disk, storeDisk, storeAll}
+use Rattle.spec.specs.Engine.{Call, storeCount, lentBlock, verdict, lentOk, callOn, callDisk}
+use Rattle.spec.specs.Engine.Call.{write, land, close, reclaim, read, fill, restart, rebuild}
+use Rattle.spec.specs.Faults.{imageChecks}
+use Rattle.spec.specs.History.{restartOf}
+use Rattle.spec.specs.Memory.{Memory}
+use Rattle.spec.specs.Params.{inRange, named}
+use Rattle.spec.specs.Rebuild.{namesMissing, rebuildChecks, rebuildStores, rebuildVerdict}
+use Rattle.spec.specs.Restart.{restartVerdict}
+use Rattle.spec.specs.Segments.{segments}
+use Rattle.law_basic.specs.Geometry.{ranged}
+use Rattle.law_basic.specs.Ranges.{and-left, and-right}
+use Rattle.law_views.specs.Views.{Whole, seen}
+use Rattle.proof_tables.specs.Checks.{clear}
+use Rattle.proof_tables.specs.Going.{well-write, well-close}
+use Rattle.proof_tables.specs.Landings.{well-land}
+use Rattle.proof_tables.specs.Losing.{named-some, idle-kept, refused-kept, lost-write, lost-land, lost-close, lost-reclaim, lost-rebuild}
+use Rattle.proof_tables.specs.Outcomes.{Ended, ended, refusal-kind, refused-unfinished, cut-unfinished, cut-cut}
+use Rattle.proof_tables.specs.Outcomes.Ended.{ended-refused, ended-done, ended-cut}
+use Rattle.proof_tables.specs.Reading.{read-idle, fill-idle}
+use Rattle.proof_tables.specs.Reclaiming.{well-reclaim}
+use Rattle.proof_tables.specs.Restarting.{started}
+use Rattle.proof_tables.specs.Run.{Well, Run, Kept}
+use Rattle.proof_tables.specs.Starting.{startChecks, startPlan, begins}
+use Rattle.proof_tables.specs.Tests.{clash, or-right}
+use Rattle.proof_tables.specs.Zones.{Shaped}
+
+-- Reading order: Run (what holds between calls); lists and numbers: Tests, Members, Range, Masks, Tallies, Counting; what the drives say: Segs,
+-- Ranks, Tables, Accept, Frame, Settled, Growing; reads: Reads, Base, Reading; stores: Zones, Image, Laid, Puts, Sealing, Joins; checks and how a call
+-- ends: Checks, Outcomes, Idle; a drive missing: Rebuilding, Losing, Starting; none missing: Slots, Opened, Filling, Carried, Heading, Sending, Live,
+-- Going (write, closing), Bounds, Resetting, Reclaiming, Chunks, Pointing, Landings; a healthy restart: Resting, Dropping, Unsealed, Mending, Rewriting,
+-- Restarting. A helper named as!, bs! .. is the same fact with a definition opened.
+
+-- ---- a restart, on any bytes
+
+pub restart-ends : (p : Params) (k : Disk) (m : Memory) (d n : ℕ) → Ended p k m (startChecks p k m d) (startPlan p k m d) (callDisk p k m (restart d n))
+unfolding callDisk callOn verdict storeCount lentBlock restartVerdict
+restart-ends p k m d n = ended p k m (startChecks p k m d) (startPlan p k m d) n []
+
+-- finished: what holds between calls holds
+pub restart-finished : (p : Params) (k : Disk) (m : Memory) (d n : ℕ) → (Whole p k → Shaped p (seen p k)) → finished (callDisk p k m (restart d n) .answer) ≡ true
+    → Run p (callDisk p k m (restart d n) .drives) (callDisk p k m (restart d n) .memory)
+restart-finished p k m d n sh q = go (restart-ends p k m d n)
+  where
+    r : After Disk
+    r = callDisk p k m (restart d n)
+
+    go : Ended p k m (startChecks p k m d) (startPlan p k m d) (callDisk p k m (restart d n)) → Run p (callDisk p k m (restart d n) .drives) (callDisk p k m (restart d n) .memory)
+    go (ended-refused a e f g h) = clash q (ap finished f ∙ refused-unfinished a (refusal-kind (startChecks p k m d) a e))
+    go (ended-done c f g h) =
+        subst (λ (x : Disk). Run p x (callDisk p k m (restart d n) .memory)) (sym g)
+        (subst (λ (x : Memory). Run p (storeAll (storeDisk p) (startPlan p k m d .stores) k) x) (sym h) (started p k m d sh (begins p k m d c)))
+    go (ended-cut c f) = clash q (ap finished f ∙ cut-unfinished)
+
+-- ---- one call
+
+-- what a call gives
+abbrev pub Stepped : Params → Call → After Disk → Type 0
+Stepped p c r = NotNinth (restartOf c) (r .answer) × (isCut (r .answer) ≡ false → Run p (r .drives) (r .memory))
+
+kept-step : (p : Params) (r : After Disk) → Kept p r → (isRefusedAs 9 (r .answer) ≡ false) × (isCut (r .answer) ≡ false → Run p (r .drives) (r .memory))
+kept-step p r k = (k .never-ninth, k .runs-on)
+
+-- with none missing no drive can be rebuilt
+well-rebuild : (p : Params) (k : Disk) (m : Memory) (u : Run p k m) → Well p k m → (d n : ℕ) → Kept p (callDisk p k m (rebuild d n))
+unfolding callDisk callOn verdict storeCount lentBlock rebuildVerdict rebuildChecks
+well-rebuild p k m u we d n = go (ended p k m checks plan n [])
+  where
+    plan : Plan
+    plan = mkPlan (rebuildStores p d (segments p (seen p k) (named d))) Rebuilt m []
+
+    checks : List Check
+    checks = rule 1 (not (inRange p) || not (namesMissing p (m .state) d)) ∷ rule 2 (not (lentOk p k m)) ∷ imageChecks p (seen p k) (named d) (segments p (seen p k) (named d))
+
+    never! : {X : Type 0} → not (inRange p) || not (namesMissing p (m .state) d) ≡ false → X
+    never! {X} q =
+        let t : namesMissing p (m .state) d ≡ true = not-false (namesMissing p (m .state) d) (or-right (not (inRange p)) (not (namesMissing p (m .state) d)) q) in
+        bad (parts t)
+      where
+        parts : namesMissing p (m .state) d ≡ true → (d < p .N) × (m .state .missing ≡ named d)
+        parts t =
+            unfold namesMissing in (
+              ltb-true d (p .N) (and-left (ltb d (p .N)) (eqb (m .state .missing) (named d)) t),
+              eqb-true (m .state .missing) (named d) (and-right (ltb d (p .N)) (eqb (m .state .missing) (named d)) t),
+            )
+
+        bad : (d < p .N) × (m .state .missing ≡ named d) → X
+        bad (hd, e) = clash (eq-eqb (named d) 0 (sym e ∙ we .none-missing)) (named-some p (ranged p (u .base .ranged)) d hd)
+
+    go : Ended p k m checks plan (outcome p (storeDisk p) n k m [] (decided (firstRefusal checks) plan)) → Kept p (outcome p (storeDisk p) n k m [] (decided (firstRefusal checks) plan))
+    go (ended-refused a e f g h) = refused-kept p k m _ a u (clear checks (refl, λ q. never! q) a e) f g h
+    go (ended-done c f g h) = never! (c .0)
+    go (ended-cut c f) = never! (c .0)
+
+restart-step : (p : Params) (k : Disk) (m : Memory) (u : Run p k m) (d n : ℕ) → isCut (callDisk p k m (restart d n) .answer) ≡ false
+    → Run p (callDisk p k m (restart d n) .drives) (callDisk p k m (restart d n) .memory)
+restart-step p k m u d n nc = go (restart-ends p k m d n)
+  where
+    go : Ended p k m (startChecks p k m d) (startPlan p k m d) (callDisk p k m (restart d n)) → Run p (callDisk p k m (restart d n) .drives) (callDisk p k m (restart d n) .memory)
+    go (ended-refused a e f g h) = subst (λ (x : Disk). Run p x (callDisk p k m (restart d n) .memory)) (sym g) (subst (λ (x : Memory). Run p k x) (sym h) u)
+    go (ended-done c f g h) =
+        subst (λ (x : Disk). Run p x (callDisk p k m (restart d n) .memory)) (sym g) (subst (λ (x : Memory). Run p (storeAll (storeDisk p) (startPlan p k m d .stores) k) x) (sym h)
+        (started p k m d (λ w. u .base .shaped) (begins p k m d c)))
+    go (ended-cut c f) = clash (ap isCut f ∙ cut-cut) nc
+
+pub stepped : (p : Params) (k : Disk) (m : Memory) → Run p k m → (c : Call) → Stepped p c (callDisk p k m c)
+unfolding restartOf
+stepped p k m u (write a b n) = kept-step p (callDisk p k m (write a b n)) (⊎-elim (λ x. lost-write p k m u x a b n) (λ x. well-write p k m u x a n b) (u .mode))
+stepped p k m u (land d s n) = kept-step p (callDisk p k m (land d s n)) (⊎-elim (λ x. lost-land p k m u x d s n) (λ x. well-land p k m u x d s n) (u .mode))
+stepped p k m u (close n) = kept-step p (callDisk p k m (close n)) (⊎-elim (λ x. lost-close p k m u x n) (λ x. well-close p k m u x n) (u .mode))
+stepped p k m u (reclaim n) = kept-step p (callDisk p k m (reclaim n)) (⊎-elim (λ x. lost-reclaim p k m u x n) (λ x. well-reclaim p k m u x n) (u .mode))
+stepped p k m u (read a) = kept-step p (callDisk p k m (read a)) (idle-kept p k m (u .base) (callDisk p k m (read a)) u (read-idle p k m (u .base) a))
+stepped p k m u (fill a b) = kept-step p (callDisk p k m (fill a b)) (idle-kept p k m (u .base) (callDisk p k m (fill a b)) u (fill-idle p k m (u .base) a b))
+stepped p k m u (restart d n) = (tt, restart-step p k m u d n)
+stepped p k m u (rebuild d n) = kept-step p (callDisk p k m (rebuild d n)) (⊎-elim (λ x. lost-rebuild p k m u x d n) (λ x. well-rebuild p k m u x d n) (u .mode))

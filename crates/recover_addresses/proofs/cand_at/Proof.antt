@@ -1,0 +1,103 @@
+use mathlib.Core.Path.{_≡_, ap, ap₂, _∙_, subst}
+use Prim.Native.Nat.{ℕ, _-_, _≤_}
+use native.Mathlib.Omega.{arith}
+use lib.ListN.{getD}
+use Rattle.spec.specs.Drives.{View, viewOf}
+use Rattle.spec.specs.Params.{placeBlock, placeZone, placeDrive}
+use Rattle.spec.specs.Segments.{segmentOf, recOf}
+use Rattle.law_basic.specs.Geometry.{Ranged, ranged}
+use Rattle.recover_segments.specs.Remains.{serialOf}
+use Rattle.recover_addresses.specs.Lies.{Lies, block-low, place-lies, it-is-found, lies-same}
+use Rattle.recover_addresses.proofs.cand_at.Statement.{statement}
+use Rattle.recover_addresses.proofs.cand_at.Tie as tie
+
+place-drive-requires : tie.Need-place-drive-requires
+place-drive-requires c κs =
+    let pre = c .before .before .before .before .pre in
+    pre .0 .in-range
+
+place-zone-requires : tie.Need-place-zone-requires
+place-zone-requires c κs =
+    let pre = c .before .before .before .before .before .pre in
+    pre .0 .in-range
+
+place-block-requires : tie.Need-place-block-requires
+place-block-requires c κs =
+    let pre = c .before .before .before .before .before .before .pre in
+    pre .0 .in-range
+
+sub-offset : tie.Need-sub-offset
+sub-offset c =
+    let a = c .before .before .before .before .before .before .before .args in
+    let q = c .before .before .before .before .before .before .before .pre in
+    let v : View = viewOf (a .p) (a .image .now) (a .pointers .now) in
+    let (h, k, e, x) = q .1 .1 in
+    let l : 1 ≤ placeBlock (a .p) (a .place .0) = subst (λ (y : ℕ). 1 ≤ placeBlock (a .p) y) e (block-low (a .p) (ranged (a .p) (q .0 .in-range)) v (a .gone) h k) in
+    omega (arith, c .place-block .ensures .0, l)
+
+stamp-at-requires : tie.Need-stamp-at-requires
+stamp-at-requires c κs =
+    let a = c .before .before .before .before .before .before .before .args in
+    let q = c .before .before .before .before .before .before .before .pre in
+    let place-drive = c .before .before .place-drive in
+    let v : View = viewOf (a .p) (a .image .now) (a .pointers .now) in
+    let (h, k, e, x) = q .1 .1 in (
+      q .0,
+      (
+        k .stripe,
+        lies-same (a .p) v (a .gone) (placeDrive (a .p) (a .place .0)) (placeZone (a .p) (a .place .0)) (placeBlock (a .p) (a .place .0) - 1)
+            (k .stripe) (place-drive .result) (c .before .place-zone .result) (c .place-block .result - 1)
+            (place-drive .ensures .0) (c .before .place-zone .ensures .0) (ap (λ (y : ℕ). y - 1) (c .place-block .ensures .0))
+            (place-lies (a .p) (ranged (a .p) (q .0 .in-range)) v (a .gone) h k (a .place .0) e),
+      ),
+    )
+
+mul-t13 : tie.Need-mul-t13
+mul-t13 c =
+    let entry = c .before .before .before .before .before .before .before .before in
+    let args = entry .args in
+    let pre = entry .pre in
+    omega (arith, c .before .before .place-zone .ensures .1, ranged (args .p) (pre .0 .in-range) .zones-high)
+
+shared-slice-read-t15 : tie.Need-shared-slice-read-t15
+shared-slice-read-t15 c =
+    let place-zone = c .before .before .before .place-zone in
+    let entry = c .before .before .before .before .before .before .before .before .before in
+    let args = entry .args in
+    let pre = entry .pre in
+    omega (arith, place-zone .ensures .1, pre .1 .0 .0, ranged (args .p) (pre .0 .in-range) .zones-high)
+
+returns : tie.Need-returns
+returns c =
+    let a = c .before .before .before .before .before .before .before .before .before .args in
+    let q = c .before .before .before .before .before .before .before .before .before .pre in
+    let place-block = c .before .before .place-block in
+    let place-zone = c .before .before .before .place-zone in
+    let place-drive = c .before .before .before .before .place-drive in
+    let p = a .p in
+    let v : View = viewOf (a .p) (a .image .now) (a .pointers .now) in
+    let r : Ranged (a .p) = ranged (a .p) (q .0 .in-range) in
+    let g = place-zone .result in
+    let eg = place-zone .ensures .0 in
+    let ed = place-drive .ensures .0 in
+    let eo : place-block .result - 1 ≡ placeBlock p (a .place .0) - 1 = ap (λ (y : ℕ). y - 1) (place-block .ensures .0) in
+    λ h k e x.
+    let l : Lies p v (a .gone) (place-drive .result) g (place-block .result - 1) (k .stripe) =
+    lies-same p v (a .gone) (placeDrive p (a .place .0)) (placeZone p (a .place .0)) (placeBlock p (a .place .0) - 1) (k .stripe) (place-drive .result) g (place-block .result - 1)
+    ed eg eo (place-lies p r v (a .gone) h k (a .place .0) e) in
+    it-is-found p r v (a .gone) h k (a .place .0) (a .address .0) (c .before .stamp-at .result .0) (getD (a .serials .now) g 0) (place-drive .result) (place-block .result - 1) e x ed eo
+    (c .before .stamp-at .ensures (k .stripe) l ∙ ap₂ (λ (y z : ℕ). recOf p (a .gone) (segmentOf p v (a .gone) y) (k .stripe) z .stamp) eg ed)
+    (q .1 .0 .1 g (place-zone .ensures .1) ∙ ap (serialOf p v (a .gone)) eg)
+
+pub cand-at-spec : {M : Type 1} → statement M
+cand-at-spec =
+    tie.close
+    (tie.spec
+    place-drive-requires
+    place-zone-requires
+    place-block-requires
+    sub-offset
+    stamp-at-requires
+    mul-t13
+    shared-slice-read-t15
+    returns)

@@ -1,0 +1,238 @@
+-- Where the record of a counted stripe lies, and that its stamp is read there (01, Restart, 3; Read). Assumes nothing.
+use mathlib.Core.Path.{_≡_, refl, sym, ap, ap₂, _∙_, subst}
+use mathlib.Core.List.{List, [], _∷_, _++_, map, append-nil}
+use mathlib.Core.Bool.{Bool, true, false, cond, not, _||_}
+use Prim.Native.Nat.{ℕ, zero, suc, _+_, _-_, _≤_, _<_}
+use native.Mathlib.Nat.{add-zero, zero-add}
+use borrow.Author.Tests.{not-false}
+use native.Mathlib.Omega.{arith}
+use lib.ListN.{length, getD}
+use lib.Bits.{bitXor}
+use Rattle.spec.specs.declared.Params.{Params}
+use Rattle.spec.specs.Bytes.{xorAll}
+use Rattle.spec.specs.Drives.{View, zoneAt, viewOf, mkDisk, zoneOn, sealedIn, dataStored, recordIn}
+use Rattle.spec.specs.Faults.{outside, twice, storedBad}
+use Rattle.spec.specs.Layout.{dataDrive, inGroupOf, headerSerial, Rec, mkRec}
+use Rattle.spec.specs.Lists.{below, any, consIf, keep, isNil, firstOr, isIn}
+use Rattle.spec.specs.Memory.{shownAt}
+use Rattle.spec.specs.Params.{inRange, compactLen, placeBlock, placeZone, placeDrive, drivesOf, present}
+use Rattle.spec.specs.Parity.{parityRec}
+use Rattle.spec.specs.Rank.{Cand}
+use Rattle.spec.specs.Segments.{lowDrive, headerAt, remaining, recordsIn, segmentOf, segments, recsOn, offsetOn, hasChunk, counts, storedRec, recOf, offsetOf, candOf, compactTable}
+use Rattle.law_basic.specs.Geometry.{Ranged}
+use Rattle.law_basic.specs.Ranges.{Test, test, below-none, map-append, map-map, keep-below-snoc}
+use Rattle.law_basic.specs.Ranges.Test.{yes!, no! }
+use Rattle.law_basic.specs.Xor.{xorAll-none, xorAll-snoc}
+use Rattle.law_views.specs.Views.{Whole}
+use Rattle.recover_groups.specs.Groups.{recsBad, recsFault}
+use Rattle.recover_segments.specs.Remains.{serialOf}
+use Rattle.proof_tables.specs.Base.{cand-zone}
+use Rattle.proof_tables.specs.Members.{In, in-map, none-in}
+use Rattle.proof_tables.specs.Reads.{Spot, counts-in, spot-of, spot-block, spot-drive, InGroups, shown-first}
+use Rattle.proof_tables.specs.Segs.{in-present, remaining-low, length-records, record-at, data-low, recs-here, serial-is, chunk-at, CandAt}
+use Rattle.proof_tables.specs.Tables.{length-compact}
+use Rattle.proof_tables.specs.Tests.{true-false, or-left, or-right, cond-true, cond-false}
+
+-- what the walk over the records rests on: buffers of their lengths, records in order, and the compact table that the drives say
+pub record Ground (p : Params) (im ps : List ℕ) (gone : ℕ) (cs : List ℕ) : Type 0 where
+  pub in-range : inRange p ≡ true
+  pub whole : Whole p (mkDisk im ps)
+  pub clean : any (recsFault p gone) (segments p (viewOf p im ps) gone) ≡ false
+  pub compact : cs ≡ compactTable p (segments p (viewOf p im ps) gone)
+
+-- a counted stripe of a remaining segment
+pub record Counted (p : Params) (v : View) (gone g s : ℕ) : Type 0 where
+  pub remains : In g (remaining p v gone)
+  pub stripe-low : s < p .S
+  pub it-counts : counts p gone (segmentOf p v gone g) s ≡ true
+
+-- its record on a drive stands at data offset o
+pub record Lies (p : Params) (v : View) (gone d g o s : ℕ) : Type 0 where
+  pub drive-low : d < p .N
+  pub counted : Counted p v gone g s
+  pub offset-is : o ≡ offsetOf gone (segmentOf p v gone g) s d
+
+-- the record of some counted stripe stands there
+abbrev pub Somewhere : Params → View → ℕ → ℕ → ℕ → ℕ → Type 0
+Somewhere p v gone d g o = (s : ℕ) × Lies p v gone d g o s
+
+pub counted-low : (p : Params) (v : View) (gone g s : ℕ) → Counted p v gone g s → g < p .Z
+counted-low p v gone g s k = remaining-low p v gone g (k .remains)
+
+-- ---- every chunk of what remains sits at an offset of its group
+
+outside-in : (p : Params) (i : ℕ) (rs : List Rec) → outside p i rs ≡ false → (o : ℕ) → o < length rs → inGroupOf p (i + o) (getD rs o (mkRec 0 0 0) .stripe) ≡ true
+unfolding outside
+outside-in p i [] q o h = absurd (let z : ⊥ = omega arith in z)
+outside-in p i (x ∷ rs) q zero h =
+    ap (λ (n : ℕ). inGroupOf p n (x .stripe)) (add-zero i) ∙ not-false (inGroupOf p i (x .stripe)) (or-left (not (inGroupOf p i (x .stripe))) (outside p (suc i) rs) q)
+outside-in p i (x ∷ rs) q (suc o) h =
+    ap (λ (n : ℕ). inGroupOf p n (getD rs o (mkRec 0 0 0) .stripe)) (let e : i + suc o ≡ suc i + o = omega arith in e)
+    ∙ outside-in p (suc i) rs (or-right (not (inGroupOf p i (x .stripe))) (outside p (suc i) rs) q) o (omega arith)
+
+-- a remaining segment has no such fault
+pub seg-clean : (p : Params) (v : View) (gone g : ℕ) → any (recsFault p gone) (segments p v gone) ≡ false → In g (remaining p v gone) → recsFault p gone (segmentOf p v gone g) ≡ false
+unfolding segments
+seg-clean p v gone g q m = none-in (recsFault p gone) (map (segmentOf p v gone) (remaining p v gone)) q (segmentOf p v gone g) (in-map (segmentOf p v gone) (remaining p v gone) g m)
+
+pub in-groups : (p : Params) (v : View) (gone : ℕ) → any (recsFault p gone) (segments p v gone) ≡ false → InGroups p v gone
+unfolding recsFault recsBad
+in-groups p v gone q g d o m hd pr h =
+    let x = segmentOf p v gone g in
+    let w = sealedIn p v gone g in
+    let z = zoneAt v d g in
+    let f : recsBad p d 0 (recsOn x d) ≡ false = none-in (λ d. recsBad p d 0 (recsOn x d)) (present p gone) (seg-clean p v gone g q m) d (in-present p gone d hd pr) in
+    let u : outside p 0 (recsOn x d) ≡ false =
+    or-left (outside p 0 (recsOn x d)) (twice (recsOn x d))
+    (or-left (outside p 0 (recsOn x d) || twice (recsOn x d)) (any (storedBad p d) (recsOn x d)) f) in
+    let e : recsOn x d ≡ recordsIn p w z = recs-here p v gone g d hd pr in
+    let l : length (recsOn x d) ≡ dataStored p z = ap length e ∙ length-records p w z in
+    let a : getD (recsOn x d) o (mkRec 0 0 0) ≡ recordIn p w z o = ap (λ (y : List Rec). getD y o (mkRec 0 0 0)) e ∙ record-at p w z o (mkRec 0 0 0) h in
+    ap₂ (λ (n : ℕ) (y : Rec). inGroupOf p n (y .stripe)) (sym (zero-add o)) (sym a) ∙ outside-in p 0 (recsOn x d) u o (subst (λ (n : ℕ). o < n) (sym l) h)
+
+-- ---- the stamp of a chunk that the table shows
+
+first-any : (n m : ℕ) (l : List ℕ) → isNil l ≡ false → firstOr n l ≡ firstOr m l
+unfolding isNil firstOr
+first-any n m [] q = true-false q
+first-any n m (a ∷ l) q = refl
+
+module _ (p : Params) (r : Ranged p) (v : View) (gone g s : ℕ) (clean : any (recsFault p gone) (segments p v gone) ≡ false) (k : Counted p v gone g s) (d : ℕ) (hd : d < p .N)
+    (pr : isIn gone d ≡ false) where
+  has-it : hasChunk (segmentOf p v gone g) s d ≡ true
+  has-it = counts-in p gone (segmentOf p v gone g) s d (k .it-counts) hd pr
+
+  -- the offset that the compact table shows
+  pub shown-there : (cs : List ℕ) (o : ℕ) → cs ≡ compactTable p (segments p v gone) → o ≡ firstOr (p .S) (shownAt p v cs d g s) → o ≡ offsetOn (segmentOf p v gone g) d s
+  shown-there cs o ec eo =
+      let q = shown-first p r v gone (in-groups p v gone clean) g d s (k .remains) hd pr has-it in
+      eo ∙ ap (λ (x : List ℕ). firstOr (p .S) (shownAt p v x d g s)) ec
+      ∙ first-any (p .S) 0 (shownAt p v (compactTable p (segments p v gone)) d g s) (q .1) ∙ q .0
+
+  pub offset-low : offsetOn (segmentOf p v gone g) d s < p .S
+  offset-low = data-low p (zoneAt v d g) (offsetOn (segmentOf p v gone g) d s) (chunk-at p v gone g d s hd pr has-it .stored-there) .0
+
+  -- the record there
+  pub record-there : (w : Bool) (o : ℕ) (q : Rec) → w ≡ sealedIn p v gone g → o ≡ offsetOn (segmentOf p v gone g) d s → q ≡ recordIn p w (zoneAt v d g) o
+      → q ≡ storedRec (segmentOf p v gone g) s d
+  record-there w o q ew eo eq =
+      eq ∙ ap₂ (λ (x : Bool) (y : ℕ). recordIn p x (zoneAt v d g) y) ew eo ∙ sym (chunk-at p v gone g d s hd pr has-it .its-record)
+
+-- ---- the exclusive or of the present drives' stamps, drive by drive
+
+pub stamps-none : (f : ℕ → ℕ) (q : ℕ → Bool) → 0 ≡ xorAll (map f (keep q (below 0)))
+unfolding keep
+stamps-none f q = sym (ap (λ (l : List ℕ). xorAll (map f (keep q l))) below-none ∙ xorAll-none)
+
+pub stamps-turn : (f : ℕ → ℕ) (gone n t u : ℕ) → t ≡ xorAll (map f (keep (λ d. not (isIn gone d)) (below n))) → u ≡ cond (isIn gone n) t (bitXor t (f n))
+    → u ≡ xorAll (map f (keep (λ d. not (isIn gone d)) (below (n + 1))))
+unfolding consIf
+stamps-turn f gone n t u et eu = eu ∙ go (test (isIn gone n)) ∙ ap (λ (l : List ℕ). xorAll (map f l)) (sym (keep-below-snoc (λ d. not (isIn gone d)) n))
+  where
+    go : Test (isIn gone n) → cond (isIn gone n) t (bitXor t (f n)) ≡ xorAll (map f (keep (λ d. not (isIn gone d)) (below n) ++ consIf (not (isIn gone n)) n []))
+    go (yes! e) = cond-true (isIn gone n) t (bitXor t (f n)) e ∙ et
+        ∙ ap (λ (l : List ℕ). xorAll (map f l)) (sym (append-nil (keep (λ d. not (isIn gone d)) (below n))) ∙ ap (λ (b : Bool). keep (λ d. not (isIn gone d)) (below n) ++ consIf (not b) n []) (sym e))
+    go (no! e) = cond-false (isIn gone n) t (bitXor t (f n)) e ∙ ap (λ (x : ℕ). bitXor x (f n)) et
+        ∙ sym (xorAll-snoc (map f (keep (λ d. not (isIn gone d)) (below n))) (f n))
+        ∙ ap xorAll (sym (map-append f (keep (λ d. not (isIn gone d)) (below n)) (n ∷ [])))
+        ∙ ap (λ (b : Bool). xorAll (map f (keep (λ d. not (isIn gone d)) (below n) ++ consIf (not b) n []))) (sym e)
+
+pub stamps-all : (f : ℕ → ℕ) (p : Params) (gone : ℕ) → xorAll (map f (keep (λ d. not (isIn gone d)) (below (p .N)))) ≡ xorAll (map f (present p gone))
+unfolding present drivesOf
+stamps-all f p gone = refl
+
+-- ---- the stamp at a place
+
+module _ (p : Params) (r : Ranged p) (v : View) (gone d g o s : ℕ) (k : Lies p v gone d g o s) where
+  pub lies-away : isIn gone d ≡ true → o ≡ s
+  unfolding offsetOf
+  lies-away e = k .offset-is ∙ cond-true (isIn gone d) s (offsetOn (segmentOf p v gone g) d s) e
+
+  pub lies-here : isIn gone d ≡ false → o ≡ offsetOn (segmentOf p v gone g) d s
+  unfolding offsetOf
+  lies-here e = k .offset-is ∙ cond-false (isIn gone d) s (offsetOn (segmentOf p v gone g) d s) e
+
+  pub stamp-away : isIn gone d ≡ true → (t : ℕ) → t ≡ xorAll (map (λ e. storedRec (segmentOf p v gone g) o e .stamp) (present p gone)) → t ≡ recOf p gone (segmentOf p v gone g) s d .stamp
+  unfolding recOf parityRec
+  stamp-away e t q =
+      q ∙ ap (λ (x : ℕ). xorAll (map (λ e. storedRec (segmentOf p v gone g) x e .stamp) (present p gone))) (lies-away e)
+      ∙ ap xorAll (sym (map-map (λ (x : Rec). x .stamp) (storedRec (segmentOf p v gone g) s) (present p gone)))
+      ∙ ap (λ (x : Rec). x .stamp) (sym (cond-true (isIn gone d) (parityRec s (map (storedRec (segmentOf p v gone g) s) (present p gone))) (storedRec (segmentOf p v gone g) s d) e))
+
+  pub stamp-here : isIn gone d ≡ false → (q : Rec) → q ≡ storedRec (segmentOf p v gone g) s d → q .stamp ≡ recOf p gone (segmentOf p v gone g) s d .stamp
+  unfolding recOf
+  stamp-here e q f =
+      ap (λ (x : Rec). x .stamp) (f ∙ sym (cond-false (isIn gone d) (parityRec s (map (storedRec (segmentOf p v gone g) s) (present p gone))) (storedRec (segmentOf p v gone g) s d) e))
+
+  pub away-counted : isIn gone d ≡ true → Counted p v gone g o
+  away-counted e = subst (λ (x : ℕ). Counted p v gone g x) (sym (lies-away e)) (k .counted)
+
+-- ---- a candidate by its place
+
+module _ (p : Params) (r : Ranged p) (v : View) (gone : ℕ) (h : Cand) (k : CandAt p v gone h) where
+  spot : Spot p v gone h
+  spot = spot-of p r v gone h k
+
+  is-drive : placeDrive p (h .place) ≡ h .drive
+  is-drive = spot-drive p r v gone h spot
+
+  is-zone : placeZone p (h .place) ≡ k .of
+  is-zone = cand-zone p r v gone h k spot
+
+  is-offset : placeBlock p (h .place) - 1 ≡ h .offset
+  is-offset = ap (λ (x : ℕ). x - 1) (spot-block p r v gone h spot) ∙ (let z : 1 + h .offset - 1 ≡ h .offset = omega arith in z)
+
+  pub block-low : 1 ≤ placeBlock p (h .place)
+  block-low = omega (arith, spot-block p r v gone h spot)
+
+  its-drive : h .drive ≡ dataDrive p (k .stripe) (k .position)
+  unfolding candOf
+  its-drive = ap (λ (x : Cand). x .drive) (k .it-is)
+
+  its-lie : Lies p v gone (h .drive) (k .of) (h .offset) (k .stripe)
+  unfolding candOf
+  its-lie = record {
+    drive-low = spot .drive-low;
+    counted = record { remains = k .remains; stripe-low = k .stripe-low; it-counts = k .it-counts };
+    offset-is = ap (λ (x : Cand). x .offset) (k .it-is) ∙ ap (offsetOf gone (segmentOf p v gone (k .of)) (k .stripe)) (sym its-drive);
+  }
+
+  -- the place says drive, segment and offset
+  pub place-lies : (q : ℕ) → h .place ≡ q → Lies p v gone (placeDrive p q) (placeZone p q) (placeBlock p q - 1) (k .stripe)
+  place-lies q e = subst (λ (x : ℕ). Lies p v gone (placeDrive p x) (placeZone p x) (placeBlock p x - 1) (k .stripe)) e
+      (subst (λ (x : ℕ). Lies p v gone x (placeZone p (h .place)) (placeBlock p (h .place) - 1) (k .stripe)) (sym is-drive)
+      (subst (λ (x : ℕ). Lies p v gone (h .drive) x (placeBlock p (h .place) - 1) (k .stripe)) (sym is-zone)
+      (subst (λ (x : ℕ). Lies p v gone (h .drive) (k .of) x (k .stripe)) (sym is-offset) its-lie)))
+
+  -- the record found there is the candidate
+  pub it-is-found : (q a t n d o : ℕ) → h .place ≡ q → h .address ≡ a → d ≡ placeDrive p q → o ≡ placeBlock p q - 1
+      → t ≡ recOf p gone (segmentOf p v gone (placeZone p q)) (k .stripe) (placeDrive p q) .stamp → n ≡ serialOf p v gone (placeZone p q)
+      → record { address = a; stamp = t; serial = n; drive = d; offset = o; place = q } ≡ h
+  unfolding serialOf candOf
+  it-is-found q a t n d o eq ea ed eo et en =
+      let ez : placeZone p q ≡ k .of = ap (placeZone p) (sym eq) ∙ is-zone in
+      let es : t ≡ h .stamp =
+      et ∙ ap₂ (λ (x y : ℕ). recOf p gone (segmentOf p v gone x) (k .stripe) y .stamp) ez (ap (placeDrive p) (sym eq) ∙ is-drive ∙ its-drive) ∙ sym (ap (λ (x : Cand). x .stamp) (k .it-is)) in
+      let er : n ≡ h .serial = en ∙ ap (λ (x : ℕ). headerSerial (headerAt v (lowDrive p gone) x)) ez ∙ sym (serial-is p v gone (k .of)) ∙ sym (ap (λ (x : Cand). x .serial) (k .it-is)) in
+      let ed′ : d ≡ h .drive = ed ∙ ap (placeDrive p) (sym eq) ∙ is-drive in
+      let eo′ : o ≡ h .offset = eo ∙ ap (λ (x : ℕ). placeBlock p x - 1) (sym eq) ∙ is-offset in
+      λ j. record { address = sym ea j; stamp = es j; serial = er j; drive = ed′ j; offset = eo′ j; place = sym eq j }
+
+-- ---- answers of the code
+
+pub zone-is : (g d : ℕ) → zoneOn g d ≡ g
+unfolding zoneOn
+zone-is g d = refl
+
+pub add-away : (b : Bool) (t x : ℕ) → b ≡ true → t ≡ cond b t (bitXor t x)
+add-away b t x e = sym (cond-true b t (bitXor t x) e)
+
+pub add-here : (b : Bool) (t x y : ℕ) → b ≡ false → y ≡ x → bitXor t y ≡ cond b t (bitXor t x)
+add-here b t x y e q = ap (bitXor t) q ∙ sym (cond-false b t (bitXor t x) e)
+
+pub ground-long : (p : Params) (im ps : List ℕ) (gone : ℕ) (cs : List ℕ) → Ground p im ps gone cs → length cs ≡ compactLen p
+ground-long p im ps gone cs k = ap length (k .compact) ∙ length-compact p (viewOf p im ps) gone
+
+pub lies-same : (p : Params) (v : View) (gone d g o s e h i : ℕ) → e ≡ d → h ≡ g → i ≡ o → Lies p v gone d g o s → Lies p v gone e h i s
+lies-same p v gone d g o s e h i ed eg eo k =
+    subst (λ (x : ℕ). Lies p v gone x h i s) (sym ed) (subst (λ (x : ℕ). Lies p v gone d x i s) (sym eg) (subst (λ (x : ℕ). Lies p v gone d g x s) (sym eo) k))

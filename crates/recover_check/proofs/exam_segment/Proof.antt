@@ -1,0 +1,183 @@
+use mathlib.Core.Path.{_≡_, sym, ap, _∙_, subst}
+use mathlib.Core.Bool.{Bool, true, false, _||_}
+use Prim.Native.Nat.{_+_}
+use native.Mathlib.Omega.{arith}
+use lib.ListN.{getD}
+use borrow.Author.Tests.{not-true, not-false}
+use Rattle.spec.specs.Drives.{viewOf}
+use Rattle.spec.specs.Faults.{stripeFault, addressFault}
+use Rattle.spec.specs.Segments.{segmentOf}
+use Rattle.law_basic.specs.Geometry.{ranged}
+use Rattle.law_basic.specs.Ranges.{not-both}
+use Rattle.recover_check.specs.declared.Exam.{Exam}
+use Rattle.recover_check.specs.Faults.{faulty, Seen, faulty-kept, faulty-gone, seen-gone, seen-fits, seen-added, sum-fits, counted-most, uncounted-most, top-most}
+use borrow.Author.Needs.{needs}
+use Rattle.recover_check.proofs.exam_segment.Statement.{statement}
+use Rattle.recover_check.proofs.exam_segment.Tie as tie
+
+shared-slice-read-if1 : tie.Need-shared-slice-read-if1
+shared-slice-read-if1 c =
+    let a = c .before .before .before .before .before .args in
+    let pre = c .before .before .before .before .before .pre in
+    let p = a .p in
+    let v = viewOf p (a .image .now) (a .pointers .now) in
+    let h = pre in
+    let m = h .1 .1 .1 .1 in
+    let y = faulty p v (a .gone) (a .g) in
+    let x = segmentOf p v (a .gone) (a .g) in
+    let q = h .1 .1 .0 .0 in omega (arith, q, m .0, ranged p (h .0) .zones-high)
+
+returns : tie.Need-returns
+returns c =
+    let a = c .before .before .before .before .before .before .args in
+    let pre = c .before .before .before .before .before .before .pre in
+    let p = a .p in
+    let v = viewOf p (a .image .now) (a .pointers .now) in
+    let h = pre in
+    let m = h .1 .1 .1 .1 in
+    let y = faulty p v (a .gone) (a .g) in
+    let x = segmentOf p v (a .gone) (a .g) in
+    let f : getD (a .kept .now) (a .g) false ≡ false = not-true (getD (a .kept .now) (a .g) false) (c .if1 .taken) in
+    let z : y ≡ false = faulty-gone p v (a .gone) (a .g) (sym (h .1 .1 .0 .1 (a .g) (m .0)) ∙ f) in
+    ((λ q. absurd (not-both y q z)), (λ _. seen-gone p v (a .gone) (a .kept .now) (a .g) (a .e) (m .2) f))
+
+is-sealed-requires : tie.Need-is-sealed-requires
+is-sealed-requires c κs = search needs
+
+segment-fault-requires : tie.Need-segment-fault-requires
+segment-fault-requires c κs =
+    let a = c .before .before .before .before .before .before .before .args in
+    let pre = c .before .before .before .before .before .before .before .pre in
+    let p = a .p in
+    let v = viewOf p (a .image .now) (a .pointers .now) in
+    let h = pre in
+    let m = h .1 .1 .1 .1 in
+    let y = faulty p v (a .gone) (a .g) in
+    let x = segmentOf p v (a .gone) (a .g) in
+    (h .0, (h .1 .0, (h .1 .1 .0, (h .1 .1 .1 .0, (m .0, (c .is-sealed .ensures (a .image .now) (h .1 .0 .image-long)), m .1)))))
+
+exam-bad-requires : tie.Need-exam-bad-requires
+exam-bad-requires c κs = search needs
+
+returns-2 : tie.Need-returns-2
+returns-2 c =
+    let a = c .before .before .before .before .before .before .before .before .before .before .args in
+    let segment-fault = c .before .before .segment-fault in
+    let if1 = c .before .before .before .before .if1 in
+    let pre = c .before .before .before .before .before .before .before .before .before .before .pre in
+    let p = a .p in
+    let v = viewOf p (a .image .now) (a .pointers .now) in
+    let h = pre in
+    let m = h .1 .1 .1 .1 in
+    let y = faulty p v (a .gone) (a .g) in
+    let x = segmentOf p v (a .gone) (a .g) in
+    let f : getD (a .kept .now) (a .g) false ≡ true = not-false (getD (a .kept .now) (a .g) false) (if1 .left) in
+    let k = faulty-kept p v (a .gone) (a .g) (sym (h .1 .1 .0 .1 (a .g) (m .0)) ∙ f) in
+    let z : y ≡ true = k ∙ ap (λ (o : Bool). o || (stripeFault p (a .gone) x || addressFault p (a .gone) x)) (sym (segment-fault .ensures) ∙ c .before .if2 .taken) in
+    ((λ _. c .exam-bad .ensures), (λ q. absurd (not-both y z q)))
+
+survey-requires : tie.Need-survey-requires
+survey-requires c κs =
+    let a = c .before .before .before .before .before .before .before .before .before .args in
+    let pre = c .before .before .before .before .before .before .before .before .before .pre in
+    let p = a .p in
+    let v = viewOf p (a .image .now) (a .pointers .now) in
+    let h = pre in
+    let m = h .1 .1 .1 .1 in
+    let y = faulty p v (a .gone) (a .g) in
+    let x = segmentOf p v (a .gone) (a .g) in
+    (h .0, (h .1 .0, (m .0, (c .before .before .is-sealed .ensures (a .image .now) (h .1 .0 .image-long)))))
+
+exam-bad-requires-2 : tie.Need-exam-bad-requires-2
+exam-bad-requires-2 c κs = search needs
+
+returns-3 : tie.Need-returns-3
+returns-3 c =
+    let a = c .before .before .before .before .before .before .before .before .before .before .before .before .args in
+    let survey = c .before .before .survey in
+    let if2 = c .before .before .before .if2 in
+    let segment-fault = c .before .before .before .before .segment-fault in
+    let if1 = c .before .before .before .before .before .before .if1 in
+    let pre = c .before .before .before .before .before .before .before .before .before .before .before .before .pre in
+    let p = a .p in
+    let v = viewOf p (a .image .now) (a .pointers .now) in
+    let h = pre in
+    let m = h .1 .1 .1 .1 in
+    let y = faulty p v (a .gone) (a .g) in
+    let x = segmentOf p v (a .gone) (a .g) in
+    let f : getD (a .kept .now) (a .g) false ≡ true = not-false (getD (a .kept .now) (a .g) false) (if1 .left) in
+    let k = faulty-kept p v (a .gone) (a .g) (sym (h .1 .1 .0 .1 (a .g) (m .0)) ∙ f) in
+    let z : y ≡ true =
+    k
+    ∙ ap (λ (o : Bool). o || (stripeFault p (a .gone) x || addressFault p (a .gone) x)) (sym (segment-fault .ensures) ∙ if2 .left)
+    ∙ sym (survey .ensures .bad-is)
+    ∙ c .before .if3 .taken in
+    ((λ _. c .exam-bad2 .ensures), (λ q. absurd (not-both y z q)))
+
+exam-good-requires : tie.Need-exam-good-requires
+exam-good-requires c κs =
+    let a = c .before .before .before .before .before .before .before .before .before .before .before .args in
+    let pre = c .before .before .before .before .before .before .before .before .before .before .before .pre in
+    let p = a .p in
+    let v = viewOf p (a .image .now) (a .pointers .now) in
+    let h = pre in
+    let m = h .1 .1 .1 .1 in
+    let y = faulty p v (a .gone) (a .g) in
+    let x = segmentOf p v (a .gone) (a .g) in
+    let u = c .before .survey in
+    let d = c .if3 .left in
+    let w = seen-fits p v (a .gone) (a .kept .now) (a .g) (a .e) (m .2) in
+    let r = ranged p (h .0) .stripes-high in (
+      (
+        sum-fits p (a .g) (a .e .loose) (h .0) (m .0) (w .0),
+        sum-fits p (a .g) (a .e .counted) (h .0) (m .0) (w .1),
+        sum-fits p (a .g) (a .e .top) (h .0) (m .0) (w .2),
+        sum-fits p (a .g) (a .e .part) (h .0) (m .0) (w .3),
+      ),
+      (
+        omega (arith, u .ensures .loose-is d, uncounted-most p (a .gone) x, r),
+        omega (arith, u .ensures .counted-is d, counted-most p (a .gone) x, r),
+        omega (arith, u .ensures .top-is d, top-most p (a .gone) x, r),
+      ),
+    )
+
+returns-4 : tie.Need-returns-4
+returns-4 c =
+    let a = c .before .before .before .before .before .before .before .before .before .before .before .before .args in
+    let survey = c .before .before .survey in
+    let if2 = c .before .before .before .if2 in
+    let segment-fault = c .before .before .before .before .segment-fault in
+    let is-sealed = c .before .before .before .before .before .is-sealed in
+    let if1 = c .before .before .before .before .before .before .if1 in
+    let pre = c .before .before .before .before .before .before .before .before .before .before .before .before .pre in
+    let p = a .p in
+    let v = viewOf p (a .image .now) (a .pointers .now) in
+    let h = pre in
+    let m = h .1 .1 .1 .1 in
+    let y = faulty p v (a .gone) (a .g) in
+    let x = segmentOf p v (a .gone) (a .g) in
+    let f : getD (a .kept .now) (a .g) false ≡ true = not-false (getD (a .kept .now) (a .g) false) (if1 .left) in
+    let k = faulty-kept p v (a .gone) (a .g) (sym (h .1 .1 .0 .1 (a .g) (m .0)) ∙ f) in
+    let u = survey in
+    let d = c .before .if3 .left in
+    let z : y ≡ false = k ∙ ap (λ (o : Bool). o || (stripeFault p (a .gone) x || addressFault p (a .gone) x)) (sym (segment-fault .ensures) ∙ if2 .left) ∙ sym (survey .ensures .bad-is) ∙ d in (
+      (λ q. absurd (not-both y q z)),
+      (λ _. subst (λ (r : Exam). Seen p v (a .gone) (a .kept .now) (a .g + 1) r) (sym (c .exam-good .ensures))
+          (seen-added p v (a .gone) (a .kept .now) (a .g) (a .e) (m .2) (is-sealed .result) (u .result) (u .ensures) d f (is-sealed .ensures (a .image .now) (h .1 .0 .image-long)))),
+    )
+
+pub exam-segment-spec : {M : Type 1} → statement M
+exam-segment-spec =
+    tie.close
+    (tie.spec
+    shared-slice-read-if1
+    returns
+    is-sealed-requires
+    segment-fault-requires
+    exam-bad-requires
+    returns-2
+    survey-requires
+    exam-bad-requires-2
+    returns-3
+    exam-good-requires
+    returns-4)

@@ -1,0 +1,90 @@
+use mathlib.Core.Path.{sym, _∙_}
+use native.Mathlib.Omega.{arith}
+use Rattle.spec.specs.Drives.{viewOf}
+use Rattle.spec.specs.Segments.{segmentOf, segments}
+use Rattle.law_basic.specs.Geometry.{ranged}
+use Rattle.recover_check.specs.Faults.{front-bad, front-full, front-many, front-footer, seg-full}
+use borrow.Author.Needs.{needs}
+use Rattle.recover_check.proofs.segment_fault.Statement.{statement}
+use Rattle.recover_check.proofs.segment_fault.Tie as tie
+
+front-fault-requires : tie.Need-front-fault-requires
+front-fault-requires c κs =
+    let a = c .before .before .before .before .args in
+    let pre = c .before .before .before .before .pre in
+    let p = a .p in
+    let v = viewOf p (a .image .now) (a .pointers .now) in
+    let h = pre in
+    let gs = segments p v (a .gone) in
+    let g = segmentOf p v (a .gone) (a .g) in (
+      h .0,
+      (
+        h .1 .0 .image-long,
+        (let q = h .1 .1 .0 .0 in omega (arith, q, ranged p (h .0) .zones-high)),
+        (let q = h .1 .1 .1 .0 .0 in omega (arith, q, ranged p (h .0) .zones-high)),
+        h .1 .1 .1 .1 .0,
+      ),
+    )
+
+returns : tie.Need-returns
+returns c =
+    let a = c .before .before .before .before .before .before .args in
+    let pre = c .before .before .before .before .before .before .pre in
+    let p = a .p in
+    let v = viewOf p (a .image .now) (a .pointers .now) in
+    let h = pre in
+    let gs = segments p v (a .gone) in
+    let g = segmentOf p v (a .gone) (a .g) in
+    front-bad p (a .gone) gs g (sym (c .before .front-fault .ensures (a .pointers .now) (h .1 .0 .pointers-long) (h .1 .1 .0) (h .1 .1 .1 .0)) ∙ c .if1 .taken)
+
+returns-2 : tie.Need-returns-2
+returns-2 c =
+    let a = c .before .before .before .before .before .before .before .args in
+    let pre = c .before .before .before .before .before .before .before .pre in
+    let p = a .p in
+    let v = viewOf p (a .image .now) (a .pointers .now) in
+    let h = pre in
+    let gs = segments p v (a .gone) in
+    let g = segmentOf p v (a .gone) (a .g) in
+    front-full p (a .gone) gs g
+    (sym (c .before .before .front-fault .ensures (a .pointers .now) (h .1 .0 .pointers-long) (h .1 .1 .0) (h .1 .1 .1 .0)) ∙ c .before .if1 .left)
+    (seg-full p v (a .gone) (a .g) ∙ sym (h .1 .1 .1 .1 .1) ∙ c .if2 .taken)
+
+returns-3 : tie.Need-returns-3
+returns-3 c =
+    let a = c .before .before .before .before .before .before .before .before .args in
+    let if1 = c .before .before .if1 in
+    let front-fault = c .before .before .before .front-fault in
+    let pre = c .before .before .before .before .before .before .before .before .pre in
+    let p = a .p in
+    let v = viewOf p (a .image .now) (a .pointers .now) in
+    let h = pre in
+    let gs = segments p v (a .gone) in
+    let g = segmentOf p v (a .gone) (a .g) in
+    front-many p (a .gone) gs g (sym (front-fault .ensures (a .pointers .now) (h .1 .0 .pointers-long) (h .1 .1 .0) (h .1 .1 .1 .0)) ∙ if1 .left)
+    (seg-full p v (a .gone) (a .g) ∙ sym (h .1 .1 .1 .1 .1) ∙ c .before .if2 .left) (sym (h .1 .1 .1 .1 .2) ∙ c .if3 .taken)
+
+footer-fault-requires : tie.Need-footer-fault-requires
+footer-fault-requires c κs = search needs
+
+returns-4 : tie.Need-returns-4
+returns-4 c =
+    let a = c .before .before .before .before .before .before .before .before .before .args in
+    let if2 = c .before .before .if2 in
+    let if1 = c .before .before .before .if1 in
+    let front-fault = c .before .before .before .before .front-fault in
+    let pre = c .before .before .before .before .before .before .before .before .before .pre in
+    let p = a .p in
+    let v = viewOf p (a .image .now) (a .pointers .now) in
+    let h = pre in
+    let gs = segments p v (a .gone) in
+    let g = segmentOf p v (a .gone) (a .g) in
+    c .footer-fault .ensures
+    ∙ front-footer p (a .gone) gs g
+    (sym (front-fault .ensures (a .pointers .now) (h .1 .0 .pointers-long) (h .1 .1 .0) (h .1 .1 .1 .0)) ∙ if1 .left)
+    (seg-full p v (a .gone) (a .g) ∙ sym (h .1 .1 .1 .1 .1) ∙ if2 .left) (sym (h .1 .1 .1 .1 .2) ∙ c .before .if3 .left)
+
+pub segment-fault-spec : {M : Type 1} → statement M
+segment-fault-spec =
+    tie.close
+    (tie.spec front-fault-requires returns returns-2 returns-3 footer-fault-requires returns-4)

@@ -1,0 +1,150 @@
+// The compact table that the drives say (01, What a zone holds; Restart, 3).
+ghost use mathlib.Core.Path.{_≡_};
+ghost use mathlib.Core.Bool.{Bool, true};
+ghost use mathlib.Core.List.{List, map};
+ghost use Prim.Native.Nat.{ℕ, _+_, _%_, _≤_, _<_};
+ghost use lib.ListN.{length};
+ghost use Rattle.spec.specs.Bytes.{splice};
+ghost use Rattle.spec.specs.Drives.{viewOf, mkDisk, zoneAt, recordIn};
+ghost use Rattle.spec.specs.Layout.{compactEntry};
+ghost use Rattle.spec.specs.Lists.{below, flat};
+ghost use Rattle.spec.specs.Memory.{compactAt};
+ghost use Rattle.spec.specs.Params.{inRange, imageLen, pointersLen, compactLen};
+ghost use Rattle.spec.specs.Segments.{segments, compactTable};
+ghost use Rattle.recover_segments.specs.Remains.{Keeps};
+ghost use Rattle.law_views.specs.Views.{Whole};
+ghost use Rattle.recover_compact.specs.Compacts.{entryOf, rowBytes, driveSaid};
+use spec::Params;
+
+// The first stripe of a group at or behind base, still at or below offset o.
+fn base_at(p: Params, base: usize, o: usize) -> usize
+    requires { ⌜ inRange p ≡ true ⌝ }
+    requires { ⌜ (base ≤ o) × (o < p .S) × (base % p .G ≡ 0) ⌝ }
+    ensures { λ r. ⌜ (r ≤ o) × (r % p .G ≡ 0) ⌝ }
+{
+    if o - base < p.G {
+        return base;
+    }
+    base + p.G
+}
+
+// What the table holds of a stripe, which mostly is of the group from base on: then nothing is divided.
+fn entry_near(p: Params, base: usize, s: usize) -> u8
+    requires { ⌜ inRange p ≡ true ⌝ }
+    requires { ⌜ base % p .G ≡ 0 ⌝ }
+    ensures { λ r. ⌜ r ≡ compactEntry p s ⌝ }
+{
+    if s < base {
+        return disk_shape::compact_entry(p, s);
+    }
+    let k = s - base;
+    if k < p.G {
+        return k as u8;
+    }
+    disk_shape::compact_entry(p, s)
+}
+
+// The entries of the first n data blocks of a zone, from index row of the table on.
+fn entries(
+    p: Params,
+    image: &[u8],
+    compact: &mut [u8],
+    full: bool,
+    drive: usize,
+    zone: usize,
+    row: usize,
+    n: usize,
+)
+    requires { ⌜ inRange p ≡ true ⌝ }
+    requires { ⌜ (length (now image) ≡ imageLen p) × (drive < p .N) × (zone < p .Z) × (n ≤ p .S) × (row + p .S ≤ length (now compact)) ⌝ }
+    ensures { λ _. ⌜
+        ((ps : List ℕ)
+        → length ps ≡ pointersLen p
+        → now (compact .exit) ≡ splice (now (compact .entry)) row
+        (map (entryOf p full (zoneAt (viewOf p (now (image .entry)) ps) drive zone)) (below n))) ⌝ }
+{
+    let mut base = 0;
+    let mut o = 0;
+    while o < n {
+        let r = disk_stored::record_in(p, image, full, drive, zone, o);
+        base = base_at(p, base, o);
+        compact[row + o] = entry_near(p, base, r.stripe as usize);
+        o += 1;
+    }
+}
+
+// 01, What a zone holds: the row of a zone; zeros where the drive is missing or the segment dropped.
+fn row(
+    p: Params,
+    image: &[u8],
+    pointers: &[u8],
+    compact: &mut [u8],
+    gone: u8,
+    kept: bool,
+    drive: usize,
+    zone: usize,
+)
+    requires { ⌜ inRange p ≡ true ⌝ }
+    requires { ⌜ Whole p (mkDisk (now image) (now pointers)) ⌝ }
+    requires { ⌜ (length (now compact) ≡ compactLen p) × (drive < p .N) × (zone < p .Z) ⌝ }
+    ensures { λ _. ⌜ now (compact .exit) ≡ splice (now (compact .entry)) (compactAt p drive zone 0) (rowBytes p (viewOf p (now (image .entry)) (now (pointers .entry))) gone kept drive zone) ⌝ }
+{
+    let at = disk_shape::compact_at(p, drive, zone, 0);
+    if !kept {
+        disk_blocks::clear_part(compact, at, p.S);
+        return;
+    }
+    if bits_masks::has_drive(gone, drive) {
+        disk_blocks::clear_part(compact, at, p.S);
+        return;
+    }
+    let full = disk_zones::is_sealed(p, pointers, gone, zone);
+    let n = disk_stored::data_stored(p, pointers, drive, zone);
+    entries(p, image, compact, full, drive, zone, at, n);
+    disk_blocks::clear_part(compact, at + n, p.S - n);
+}
+
+// The rows of a drive.
+fn rows(
+    p: Params,
+    image: &[u8],
+    pointers: &[u8],
+    compact: &mut [u8],
+    gone: u8,
+    kept: &[bool],
+    drive: usize,
+)
+    requires { ⌜ inRange p ≡ true ⌝ }
+    requires { ⌜ Whole p (mkDisk (now image) (now pointers)) ⌝ }
+    requires { ⌜ (length (now compact) ≡ compactLen p) × (drive < p .N) ⌝ }
+    requires { ⌜ Keeps p (viewOf p (now image) (now pointers)) gone (now kept) ⌝ }
+    ensures { λ _. ⌜ now (compact .exit) ≡ splice (now (compact .entry)) (compactAt p drive 0 0) (driveSaid p (viewOf p (now (image .entry)) (now (pointers .entry))) gone drive) ⌝ }
+{
+    let mut z = 0;
+    while z < p.Z {
+        row(p, image, pointers, compact, gone, kept[z], drive, z);
+        z += 1;
+    }
+}
+
+// The compact table, whatever it held.
+pub fn compacts(
+    p: Params,
+    image: &[u8],
+    pointers: &[u8],
+    compact: &mut [u8],
+    gone: u8,
+    kept: &[bool],
+)
+    requires { ⌜ inRange p ≡ true ⌝ }
+    requires { ⌜ Whole p (mkDisk (now image) (now pointers)) ⌝ }
+    requires { ⌜ length (now compact) ≡ compactLen p ⌝ }
+    requires { ⌜ Keeps p (viewOf p (now image) (now pointers)) gone (now kept) ⌝ }
+    ensures { λ _. ⌜ now (compact .exit) ≡ compactTable p (segments p (viewOf p (now (image .entry)) (now (pointers .entry))) gone) ⌝ }
+{
+    let mut d = 0;
+    while d < p.N {
+        rows(p, image, pointers, compact, gone, kept, d);
+        d += 1;
+    }
+}

@@ -1,0 +1,82 @@
+use mathlib.Core.Path.{_≡_, sym, ap, _∙_}
+use Prim.Native.Nat.{_-_, _≤_}
+use native.Mathlib.Omega.{arith}
+use Rattle.spec.specs.Engine.Call.{close}
+use Rattle.spec.specs.Lists.{upFrom, below, keep, firstOr}
+use Rattle.recover_headers.specs.Fronts.{aboveBy, pointer-list}
+use Rattle.recover_segments.specs.Kept.{lowest-turn, lowest-pass, lowest-end, lowest-start}
+use Rattle.recover_headers.proofs.pointer_fault.Statement.{statement}
+use Rattle.recover_headers.proofs.pointer_fault.Tie as tie
+
+abbrev Inv-loop : tie.InvT-loop
+Inv-loop p pointers gone z₀ z = (z ≤ p .Z) × (firstOr (p .Z) (keep (aboveBy p pointers gone) (upFrom z (p .Z - z))) ≡ firstOr (p .Z) (keep (aboveBy p pointers gone) (below (p .Z))))
+
+abbrev μ-loop : tie.MeasureT-loop
+μ-loop p pointers gone z₀ z = p .Z - z
+
+loop-holds : tie.Need-loop-holds Inv-loop μ-loop
+loop-holds c =
+    let a = c .before .args in
+    (omega arith, lowest-start (aboveBy (a .p) (a .pointers .now) (a .gone)) (a .p .Z) (a .p .Z))
+
+any-above-requires : tie.Need-any-above-requires Inv-loop μ-loop
+any-above-requires c κs =
+    let pre = c .before .before .before .before .pre in
+    (pre .0, (pre .1, c .if1 .taken))
+
+returns : tie.Need-returns Inv-loop μ-loop
+returns c =
+    let a = c .before .before .before .before .before .before .args in
+    let if1 = c .before .before .if1 in
+    let loop = c .before .before .before .before .loop in
+    let pre = c .before .before .before .before .before .before .pre in
+    let p = a .p in
+    let ps = a .pointers .now in
+    let l = loop in
+    let f = aboveBy p ps (a .gone) in (
+      omega (arith, if1 .taken),
+      λ im h.
+          (sym (lowest-turn f (p .Z) (l .z) (p .Z) (if1 .taken) (sym (c .before .any-above .ensures) ∙ c .if2 .taken)) ∙ l .inv .1)
+          ∙ ap (firstOr (p .Z)) (sym (pointer-list p im ps h (pre .1) (a .gone))),
+    )
+
+add-z : tie.Need-add-z Inv-loop μ-loop
+add-z c = omega arith
+
+loop-less : tie.Need-loop-less Inv-loop μ-loop
+loop-less c = omega arith
+
+loop-again : tie.Need-loop-again Inv-loop μ-loop
+loop-again c =
+    let a = c .before .before .before .before .before .before .args in
+    let if1 = c .before .before .if1 in
+    let loop = c .before .before .before .before .loop in
+    let p = a .p in
+    let ps = a .pointers .now in
+    let l = loop in
+    let f = aboveBy p ps (a .gone) in
+    (omega (arith, if1 .taken), sym (lowest-pass f (p .Z) (l .z) (p .Z) (if1 .taken) (sym (c .before .any-above .ensures) ∙ c .if2 .left)) ∙ l .inv .1)
+
+returns-2 : tie.Need-returns-2 Inv-loop μ-loop
+returns-2 c =
+    let a = c .before .before .before .before .args in
+    let pre = c .before .before .before .before .pre in
+    let p = a .p in
+    let ps = a .pointers .now in
+    let l = c .before .before .loop in
+    let f = aboveBy p ps (a .gone) in
+    (omega arith, λ im h. (sym (lowest-end f (p .Z) (l .z) (p .Z) (omega (arith, c .if1 .left))) ∙ l .inv .1) ∙ ap (firstOr (p .Z)) (sym (pointer-list p im ps h (pre .1) (a .gone))))
+
+pub pointer-fault-spec : {M : Type 1} → statement M
+pointer-fault-spec =
+    tie.close
+    (tie.spec
+    Inv-loop
+    μ-loop
+    loop-holds
+    any-above-requires
+    returns
+    add-z
+    loop-less
+    loop-again
+    returns-2)

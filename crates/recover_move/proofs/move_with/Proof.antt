@@ -1,0 +1,89 @@
+use Prim.Native.Nat.{_+_}
+use Rattle.spec.specs.Drives.{mkDisk, zoneOn}
+use Rattle.recover_groups.specs.Groups.{segmentIn}
+use Rattle.law_basic.specs.Geometry.{zone-on-lt}
+use Rattle.recover_move.specs.Moves.{put-moved}
+use Rattle.disk_records.specs.Record.{record-long, recOf as recVal}
+use borrow.Author.Needs.{needs}
+use lib.ListN.{length}
+use mathlib.Core.Path.{_≡_, ap, _∙_}
+use Rattle.recover_move.proofs.move_with.Statement.{statement}
+use Rattle.recover_move.proofs.move_with.Tie as tie
+
+moved-chunk-requires : tie.Need-moved-chunk-requires
+moved-chunk-requires c κs =
+    let pre = c .before .before .before .before .before .before .pre in
+    (pre .0, (pre .1 .1 .0, (pre .1 .1 .1 .0, (pre .1 .0 .image-long, pre .1 .1 .1 .1 .1 .3, pre .1 .1 .1 .1 .1 .0, pre .1 .1 .1 .1 .1 .2))))
+
+slice-aggregate-write-record : tie.Need-slice-aggregate-write-record
+slice-aggregate-write-record c = search needs
+
+write-record-requires : tie.Need-write-record-requires
+write-record-requires c κs = search needs
+
+zone-on-requires : tie.Need-zone-on-requires
+zone-on-requires c κs = search needs
+
+slice-aggregate-put-limited : tie.Need-slice-aggregate-put-limited
+slice-aggregate-put-limited c = search needs
+
+put-limited-requires : tie.Need-put-limited-requires
+put-limited-requires c κs =
+    let zone-on = c .before .before .before .before .zone-on in
+    let write-record = c .before .before .before .before .before .before .write-record in
+    let moved-chunk = c .before .before .before .before .before .before .before .before .before .before .moved-chunk in
+    let entry = c .before .before .before .before .before .before .before .before .before .before .before .before .before .before .before .before .before in
+    let args = entry .args in
+    let pre = entry .pre in
+    let z : zone-on .result ≡ zoneOn (args .to) (args .drive) = zone-on .ensures in (
+      pre .0,
+      (
+        pre .1 .0,
+        (
+          (pre .1 .1 .1 .1 .1 .0, rw z (zone-on-lt (args .p) (args .to) (args .drive) (pre .1 .1 .1 .1 .1 .1)), rw z (pre .1 .1 .1 .1 .1 .4)),
+          (
+            moved-chunk .kept .1 .1 .1 .1 .1 .1 .1 .0
+                ∙ pre .1 .1 .1 .1 .1 .3,
+            ap length (write-record .ensures)
+                ∙ record-long (recVal (moved-chunk .result)),
+          ),
+        ),
+      ),
+    )
+
+same-length : tie.Need-same-length
+same-length c = search needs
+
+same-length-2 : tie.Need-same-length-2
+same-length-2 c = search needs
+
+same-length-3 : tie.Need-same-length-3
+same-length-3 c = search needs
+
+returns : tie.Need-returns
+returns c =
+    let a = c .before .before .before .before .before .before .before .before .before .before .before .before .before .before .before .before .before .before .before .before .before .before .args in
+    let put-limited = c .before .before .before .before .put-limited in
+    let zone-on = c .before .before .before .before .before .before .before .before .before .zone-on in
+    let write-record = c .before .before .before .before .before .before .before .before .before .before .before .write-record in
+    let moved-chunk = c .before .before .before .before .before .before .before .before .before .before .before .before .before .before .before .moved-chunk in
+    let pre = c .before .before .before .before .before .before .before .before .before .before .before .before .before .before .before .before .before .before .before .before .before .before .pre in
+    put-moved (a .p) (a .count) (segmentIn (a .p) (a .image .now) (a .pointers .now) (a .w)) (a .to) (a .w .base + a .k) (a .s) (a .drive)
+    (zone-on .result) (moved-chunk .last .1 .1 .1 .1 .1 .1 .1 .0) (write-record .last .0) (recVal (moved-chunk .result))
+    (mkDisk (a .image .now) (a .pointers .now)) (put-limited .result) (mkDisk (put-limited .last .1 .0) (put-limited .last .1 .1 .0))
+    (zone-on .ensures) (moved-chunk .ensures (a .pointers .now) (pre .1 .1 .1 .1 .0)) (write-record .ensures) (put-limited .ensures)
+
+pub move-with-spec : {M : Type 1} → statement M
+move-with-spec =
+    tie.close
+    (tie.spec
+    moved-chunk-requires
+    slice-aggregate-write-record
+    write-record-requires
+    zone-on-requires
+    slice-aggregate-put-limited
+    put-limited-requires
+    same-length
+    same-length-2
+    same-length-3
+    returns)

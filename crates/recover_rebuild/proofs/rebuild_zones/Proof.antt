@@ -1,0 +1,116 @@
+use mathlib.Core.Path.{refl, sym, _∙_}
+use mathlib.Core.Bool.{false}
+use Prim.Native.Nat.{_-_}
+use native.Mathlib.Omega.{arith}
+use lib.ListN.{getD}
+use Rattle.spec.specs.Drives.{mkDisk}
+use Rattle.spec.specs.Engine.Call.{close}
+use Rattle.spec.specs.History.{before}
+use Rattle.law_basic.specs.Geometry.{ranged}
+use Rattle.proof_tables.specs.Reclaiming.{taken}
+use Rattle.recover_rebuild.specs.Drive.{Zones, zones-start, zones-done, zones-fit, zones-good, zones-cut, zones-turn}
+use Rattle.recover_rebuild.proofs.rebuild_zones.Statement.{statement}
+use Rattle.recover_rebuild.proofs.rebuild_zones.Tie as tie
+
+abbrev Inv-loop : tie.InvT-loop
+Inv-loop p image₀ pointers₀ gone kept drive count left₀ g₀ image pointers left g = Zones p drive count kept (mkDisk image₀ pointers₀) g left (mkDisk image pointers)
+
+abbrev μ-loop : tie.MeasureT-loop
+μ-loop p image₀ pointers₀ gone kept drive count left₀ g₀ image pointers left g = p .Z - g
+
+loop-holds : tie.Need-loop-holds Inv-loop μ-loop
+loop-holds c =
+    let a = c .before .before .before .args in
+    let q = c .before .before .before .pre in
+    zones-start (a .p) (a .drive) (a .count) (a .kept .now) (mkDisk (a .image .now) (a .pointers .now)) (q .1 .0) (q .1 .1 .1 .1 .1) (q .1 .1 .1 .0)
+
+shared-slice-read-rebuild-if : tie.Need-shared-slice-read-rebuild-if Inv-loop μ-loop
+shared-slice-read-rebuild-if c =
+    let pre = c .before .before .before .before .before .before .before .before .before .pre in
+    omega (arith, c .before .before .before .if1 .taken, pre .1 .1 .0 .2)
+
+rebuild-if-requires : tie.Need-rebuild-if-requires Inv-loop μ-loop
+rebuild-if-requires c κs =
+    let a = c .before .before .before .before .before .before .before .before .before .args in
+    let q = c .before .before .before .before .before .before .before .before .before .pre in
+    let l = c .before .before .before .before .before .loop in
+    let if1 = c .before .before .before .if1 in
+    let h = if1 .taken in (
+      q .0,
+      (
+        l .inv .moving .going .whole,
+        (
+          (q .1 .1 .0 .0, q .1 .1 .0 .1, h, l .inv .empty (l .g) (omega arith) h),
+          (
+            zones-good (a .p) (ranged (a .p) (q .0)) (a .drive) (a .count) (q .1 .1 .0 .1) (a .kept .now)
+                (mkDisk (a .image .now) (a .pointers .now)) (l .g) (l .left) (mkDisk (l .image) (l .pointers)) (l .inv) h
+                (getD (a .kept .now) (l .g) false) refl (q .1 .1 .1 .1 .0),
+            zones-fit (a .p) (ranged (a .p) (q .0)) (a .drive) (a .count) (q .1 .1 .0 .1) (a .kept .now)
+                (mkDisk (a .image .now) (a .pointers .now)) (l .g) (l .left) (mkDisk (l .image) (l .pointers)) (l .inv) h
+                (getD (a .kept .now) (l .g) false) refl,
+          ),
+        ),
+      ),
+    )
+
+same-length : tie.Need-same-length Inv-loop μ-loop
+same-length c =
+    let rebuild-if = c .before .before .before .before .before .rebuild-if in
+    let loop = c .before .before .before .before .before .before .before .before .before .before .before .loop in
+    let pre = c .before .before .before .before .before .before .before .before .before .before .before .before .before .before .before .pre in
+    rebuild-if .kept .1 .0 ∙ loop .inv .moving .going .whole .image-long ∙ sym (pre .1 .0 .image-long)
+
+same-length-2 : tie.Need-same-length-2 Inv-loop μ-loop
+same-length-2 c =
+    let rebuild-if = c .before .before .before .before .before .rebuild-if in
+    let loop = c .before .before .before .before .before .before .before .before .before .before .before .loop in
+    let pre = c .before .before .before .before .before .before .before .before .before .before .before .before .before .before .before .pre in
+    rebuild-if .kept .1 .1 .0 ∙ loop .inv .moving .going .whole .pointers-long ∙ sym (pre .1 .0 .pointers-long)
+
+returns : tie.Need-returns Inv-loop μ-loop
+returns c =
+    let a = c .before .before .before .before .before .before .before .before .before .before .before .before .before .before .before .args in
+    let q = c .before .before .before .before .before .before .before .before .before .before .before .before .before .before .before .pre in
+    let l = c .before .before .before .before .before .before .before .before .before .before .before .loop in
+    let rebuild-if = c .before .before .before .before .before .rebuild-if in
+    let if1 = c .before .before .before .before .before .before .before .before .before .if1 in
+    zones-cut (a .p) (ranged (a .p) (q .0)) (a .drive) (a .count) (q .1 .1 .0 .1) (a .kept .now) (mkDisk (a .image .now) (a .pointers .now)) (l .g)
+    (l .left) (mkDisk (l .image) (l .pointers)) (l .inv) (if1 .taken) (getD (a .kept .now) (l .g) false) refl (rebuild-if .result)
+    (mkDisk (rebuild-if .last .1 .0) (rebuild-if .last .1 .1 .0)) (rebuild-if .ensures) (c .if2 .taken)
+
+add-g : tie.Need-add-g Inv-loop μ-loop
+add-g c = omega arith
+
+loop-less : tie.Need-loop-less Inv-loop μ-loop
+loop-less c = omega arith
+
+loop-again : tie.Need-loop-again Inv-loop μ-loop
+loop-again c =
+    let a = c .before .before .before .before .before .before .before .before .before .before .before .before .before .before .before .args in
+    let q = c .before .before .before .before .before .before .before .before .before .before .before .before .before .before .before .pre in
+    let l = c .before .before .before .before .before .before .before .before .before .before .before .loop in
+    let rebuild-if = c .before .before .before .before .before .rebuild-if in
+    let if1 = c .before .before .before .before .before .before .before .before .before .if1 in
+    zones-turn (a .p) (ranged (a .p) (q .0)) (a .drive) (a .count) (q .1 .1 .0 .1) (a .kept .now) (mkDisk (a .image .now) (a .pointers .now)) (l .g)
+    (l .left) (mkDisk (l .image) (l .pointers)) (l .inv) (if1 .taken) (getD (a .kept .now) (l .g) false) refl (rebuild-if .result)
+    (mkDisk (rebuild-if .last .1 .0) (rebuild-if .last .1 .1 .0)) (rebuild-if .ensures) (c .if2 .left)
+
+same-length-3 : tie.Need-same-length-3 Inv-loop μ-loop
+same-length-3 c =
+    let pre = c .before .before .before .before .before .before .pre in
+    c .before .before .loop .inv .moving .going .whole .image-long ∙ sym (pre .1 .0 .image-long)
+
+same-length-4 : tie.Need-same-length-4 Inv-loop μ-loop
+same-length-4 c =
+    let pre = c .before .before .before .before .before .before .pre in
+    c .before .before .loop .inv .moving .going .whole .pointers-long ∙ sym (pre .1 .0 .pointers-long)
+
+returns-2 : tie.Need-returns-2 Inv-loop μ-loop
+returns-2 c =
+    let a = c .before .before .before .before .before .before .args in
+    let l = c .before .before .loop in
+    zones-done (a .p) (a .drive) (a .count) (a .kept .now) (mkDisk (a .image .now) (a .pointers .now)) (l .g) (l .left) (mkDisk (l .image) (l .pointers)) (l .inv) (omega (arith, c .if1 .left))
+
+pub rebuild-zones-spec : {M : Type 1} → statement M
+rebuild-zones-spec =
+    tie.close (tie.spec Inv-loop μ-loop loop-holds shared-slice-read-rebuild-if rebuild-if-requires same-length same-length-2 returns add-g loop-less loop-again same-length-3 same-length-4 returns-2)

@@ -1,0 +1,76 @@
+-- Segments on views that agree but on the missing drives: the same stripes count, and the same chunks are decoded (01, Restart, 3; Rebuild). Assumes nothing.
+use mathlib.Core.Path.{_≡_, sym, ap, _∙_}
+use mathlib.Core.List.{List, [], map}
+use mathlib.Core.Bool.{true}
+use Prim.Native.Nat.{ℕ, _+_, _<_}
+use lib.Dec.{eqb}
+use lib.ListN.{getD}
+use Rattle.spec.specs.declared.Params.{Params}
+use Rattle.spec.specs.Drives.{noChunk, noZone, View}
+use Rattle.spec.specs.Layout.{Rec, mkRec}
+use Rattle.spec.specs.Lists.{any, indexOf, isIn}
+use Rattle.spec.specs.Params.{present}
+use Rattle.spec.specs.Parity.{mkPiece, parityPiece}
+use Rattle.spec.specs.Segments.{lowDrive, Segment, segmentOf, recsOn, offsetOn, hasChunk, counts, storedPiece, pieceOf}
+use Rattle.law_basic.specs.Ranges.{all-same}
+use Rattle.proof_tables.specs.Frame.{Agree, core, same-core}
+use Rattle.proof_tables.specs.Members.{In, map-cong}
+use Rattle.proof_tables.specs.Segs.{present-in, zone-by, seg-is}
+use Rattle.proof_tables.specs.Tests.{cond-true}
+
+module _ (p : Params) (gone : ℕ) (v u : View) (low : In (lowDrive p gone) (present p gone)) (ag : Agree p gone v u) (g : ℕ) (hg : g < p .Z) where
+  abbrev x : Segment
+  x = segmentOf p v gone g
+
+  abbrev y : Segment
+  y = segmentOf p u gone g
+
+  pub same-seg : x .seg ≡ y .seg
+  same-seg = seg-is p v gone g ∙ sym (seg-is p u gone g)
+
+  pub same-serial : x .serial ≡ y .serial
+  unfolding core
+  same-serial = ap (λ (s : Segment). s .serial) (same-core p gone v u low ag g hg)
+
+  pub same-copied : x .copied ≡ y .copied
+  unfolding core
+  same-copied = ap (λ (s : Segment). s .copied) (same-core p gone v u low ag g hg)
+
+  pub same-full : x .full ≡ y .full
+  unfolding core
+  same-full = ap (λ (s : Segment). s .full) (same-core p gone v u low ag g hg)
+
+  pub same-records : x .recs ≡ y .recs
+  unfolding core
+  same-records = ap (λ (s : Segment). s .recs) (same-core p gone v u low ag g hg)
+
+  pub same-recs-on : (d : ℕ) → recsOn x d ≡ recsOn y d
+  unfolding recsOn
+  same-recs-on d = ap (λ (rs : List (List Rec)). getD rs d []) same-records
+
+  pub same-has : (s d : ℕ) → hasChunk x s d ≡ hasChunk y s d
+  unfolding hasChunk
+  same-has s d = ap (any (λ (r : Rec). eqb (r .stripe) s)) (same-recs-on d)
+
+  pub same-offset : (d s : ℕ) → offsetOn x d s ≡ offsetOn y d s
+  unfolding offsetOn
+  same-offset d s = ap (indexOf (λ (r : Rec). eqb (r .stripe) s)) (same-recs-on d)
+
+  pub same-counts : (s : ℕ) → counts p gone x s ≡ counts p gone y s
+  unfolding counts
+  same-counts s = all-same (hasChunk x s) (hasChunk y s) (present p gone) (same-has s)
+
+  same-stored : (s e : ℕ) → In e (present p gone) → storedPiece x s e ≡ storedPiece y s e
+  unfolding storedPiece
+  same-stored s e m =
+      let (he, q) = present-in p gone e m in
+      let z : getD (x .zonesBy) e noZone ≡ getD (y .zonesBy) e noZone = zone-by p v gone g e he ∙ ag e g he hg q ∙ sym (zone-by p u gone g e he) in
+      λ j. mkPiece (getD (z j .blocks) (1 + same-offset e s j) noChunk .block) (getD (same-recs-on e j) (same-offset e s j) (mkRec 0 0 0))
+
+  -- the chunk of a missing drive
+  pub same-piece : (s d : ℕ) → isIn gone d ≡ true → pieceOf p gone x s d ≡ pieceOf p gone y s d
+  unfolding pieceOf
+  same-piece s d q =
+      cond-true (isIn gone d) (parityPiece p s (map (storedPiece x s) (present p gone))) (storedPiece x s d) q
+      ∙ ap (parityPiece p s) (map-cong (storedPiece x s) (storedPiece y s) (present p gone) (same-stored s))
+      ∙ sym (cond-true (isIn gone d) (parityPiece p s (map (storedPiece y s) (present p gone))) (storedPiece y s d) q)

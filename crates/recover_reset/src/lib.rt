@@ -1,0 +1,95 @@
+// The stores of a rebuild that decode nothing: the resets of the drive, and headers (01, Rebuild).
+ghost use mathlib.Core.Path.{_≡_};
+ghost use mathlib.Core.Bool.{true};
+ghost use mathlib.Core.List.{List, [], _∷_, map};
+ghost use Prim.Native.Nat.{ℕ, _<_};
+ghost use lib.ListN.{length};
+ghost use Rattle.spec.specs.Drives.{mkDisk, pointerOf, zeroSpare};
+ghost use Rattle.spec.specs.Drives.Store.{put, reset};
+ghost use Rattle.spec.specs.Layout.{headerBlock};
+ghost use Rattle.spec.specs.Lists.{below};
+ghost use Rattle.spec.specs.Params.{inRange, capacity, unitLen, pointersLen};
+ghost use Rattle.law_views.specs.Views.{Whole};
+ghost use Rattle.disk_zones.specs.Made.{Storing};
+use disk_zones::Made;
+use spec::Params;
+use spec::Serial;
+
+// 01, Rebuild: resets the named drive, under a store count; the image is left as it is.
+pub fn reset_drive(p: Params, pointers: &mut [u8], drive: usize, count: u64) -> Made
+    requires { ⌜ inRange p ≡ true ⌝ }
+    requires { ⌜ (length (now pointers) ≡ pointersLen p) × (drive < p .N) ⌝ }
+    ensures { λ r. ⌜ ((im : List ℕ) → Storing p count (map (λ z. reset drive z) (below (p .Z))) (mkDisk im (now (pointers .entry))) r (mkDisk im (now (pointers .exit)))) ⌝ }
+{
+    let mut left = count;
+    let mut z = 0;
+    while z < p.Z {
+        if left == 0 {
+            return Made { left: 0, cut: true };
+        }
+        disk_zones::reset(p, pointers, drive, z);
+        left -= 1;
+        z += 1;
+    }
+    Made { left, cut: false }
+}
+
+// 01, Rebuild: the header of the drive's zone, under a store count; unit is room for a header with its spare, spare is all zero.
+fn put_header_with(
+    p: Params,
+    image: &mut [u8],
+    pointers: &mut [u8],
+    unit: &mut [u8],
+    spare: &[u8],
+    drive: usize,
+    zone: usize,
+    serial: Serial,
+    copied: Serial,
+    count: u64,
+) -> Made
+    requires { ⌜ inRange p ≡ true ⌝ }
+    requires { ⌜ Whole p (mkDisk (now image) (now pointers)) ⌝ }
+    requires { ⌜ (drive < p .N) × (zone < p .Z) × (pointerOf p (now pointers) drive zone < capacity p) × (length (now unit) ≡ unitLen p) × (now spare ≡ zeroSpare) ⌝ }
+    ensures { λ r. ⌜
+        Storing p count (put drive zone (headerBlock p drive zone (serial .0) (copied .0)) zeroSpare ∷ [])
+        (mkDisk (now (image .entry)) (now (pointers .entry))) r (mkDisk (now (image .exit)) (now (pointers .exit))) ⌝ }
+{
+    disk_records::write_header(unit, p, drive, zone, serial, copied);
+    let b = p.B;
+    disk_zones::put_limited(p, image, pointers, drive, zone, &unit[..b], spare, count)
+}
+
+// The same.
+pub fn put_header(
+    p: Params,
+    image: &mut [u8],
+    pointers: &mut [u8],
+    drive: usize,
+    zone: usize,
+    serial: Serial,
+    copied: Serial,
+    count: u64,
+) -> Made
+    requires { ⌜ inRange p ≡ true ⌝ }
+    requires { ⌜ Whole p (mkDisk (now image) (now pointers)) ⌝ }
+    requires { ⌜ (drive < p .N) × (zone < p .Z) × (pointerOf p (now pointers) drive zone < capacity p) ⌝ }
+    ensures { λ r. ⌜
+        Storing p count (put drive zone (headerBlock p drive zone (serial .0) (copied .0)) zeroSpare ∷ [])
+        (mkDisk (now (image .entry)) (now (pointers .entry))) r (mkDisk (now (image .exit)) (now (pointers .exit))) ⌝ }
+{
+    let mut unit = [0u8; 4116];
+    let spare = [0u8; 20];
+    let n = disk_shape::unit_len(p);
+    put_header_with(
+        p,
+        image,
+        pointers,
+        &mut unit[..n],
+        &spare,
+        drive,
+        zone,
+        serial,
+        copied,
+        count,
+    )
+}

@@ -1,0 +1,231 @@
+-- The walk over the counted stripes of the remaining segments: the candidates that it tells, in order (01, Restart, 3; The calls, last paragraph). Assumes nothing.
+use mathlib.Core.Path.{_≡_, refl, sym, ap, _∙_, subst}
+use mathlib.Core.List.{List, [], _∷_, _++_, map, append-nil, append-assoc}
+use mathlib.Core.Bool.{true, false}
+use Prim.Native.Nat.{ℕ, _+_, max, _≤_}
+use native.Mathlib.Nat.{add-assoc, add-zero, zero-add, zero-max, max-zero}
+use native.Mathlib.Omega.{arith}
+use native.Mathlib.Numerals.{add-one}
+use lib.ListN.{length, replicate, length-append}
+use Rattle.spec.specs.declared.Params.{Params}
+use Rattle.spec.specs.Drives.{View}
+use Rattle.spec.specs.Layout.{dataDrive, dataDrives}
+use Rattle.spec.specs.Lists.{upFrom, below, keep, flat, greatest}
+use Rattle.spec.specs.Params.{dataCount, addressesLen}
+use Rattle.spec.specs.Rank.{Cand}
+use Rattle.spec.specs.Segments.{remaining, Segment, segmentOf, segments, counts, counted, candOf, segmentCands, candidates, addressTable, greatestStamp}
+use Rattle.law_basic.specs.Ranges.{upFrom-snoc, below-snoc, map-append, map-below-snoc, keep-append, keep-hit, keep-miss, keep-none, length-keep, flat-append, greatest-append}
+use Rattle.proof_tables.specs.Tables.{remains, remaining-is}
+use Rattle.recover_addresses.specs.Told.{Told, Known, Tells, nothing-told}
+use Rattle.proof_tables.specs.Members.{flat-map}
+
+-- 01, The calls: the candidates of a stripe
+unfoldable pub stripeCands : Params → ℕ → Segment → ℕ → List Cand
+stripeCands p gone g s = map (candOf p gone g s) (dataDrives p s)
+
+-- those of its first n data positions
+unfoldable pub firstCands : Params → ℕ → Segment → ℕ → ℕ → List Cand
+firstCands p gone g s n = map (candOf p gone g s) (map (dataDrive p s) (below n))
+
+-- those of the stripes ss that count
+unfoldable pub walkCands : Params → ℕ → Segment → List ℕ → List Cand
+walkCands p gone g ss = flat (stripeCands p gone g) (keep (counts p gone g) ss)
+
+-- those of the segments gs that remain
+unfoldable pub tourCands : Params → View → ℕ → List ℕ → List Cand
+tourCands p v gone gs = flat (λ g. segmentCands p gone (segmentOf p v gone g)) (keep (remains p v gone) gs)
+
+-- ---- the greatest stamp
+
+pub most-append : (m : ℕ) (xs ys : List Cand) → max m (greatestStamp (xs ++ ys)) ≡ max (max m (greatestStamp xs)) (greatestStamp ys)
+unfolding greatestStamp
+most-append m xs ys =
+    ap (max m) (ap greatest (map-append (λ (c : Cand). c .stamp) xs ys) ∙ greatest-append (map (λ (c : Cand). c .stamp) xs) (map (λ (c : Cand). c .stamp) ys)) ∙ omega arith
+
+pub most-none : (m : ℕ) → m ≡ max m (greatestStamp [])
+unfolding greatestStamp greatest
+most-none m = sym (max-zero m)
+
+pub most-one : (m : ℕ) (c : Cand) → max m (c .stamp) ≡ max m (greatestStamp (c ∷ []))
+unfolding greatestStamp greatest
+most-one m c = ap (max m) (sym (max-zero (c .stamp)))
+
+-- ---- told, then told more
+
+module _ (p : Params) (v : View) (gone : ℕ) where
+  pub tells-none : (tb : List ℕ) (l : List Cand) → l ≡ [] → Tells p v gone tb tb l
+  tells-none tb l e cs t = subst (λ (x : List Cand). Told p v gone tb (cs ++ x)) (sym e) (subst (λ (x : List Cand). Told p v gone tb x) (sym (append-nil cs)) t)
+
+  pub tells-join : (tb tb′ tb″ : List ℕ) (xs ys : List Cand) → Tells p v gone tb tb′ xs → Tells p v gone tb′ tb″ ys → Tells p v gone tb tb″ (xs ++ ys)
+  tells-join tb tb′ tb″ xs ys f g cs t = subst (λ (x : List Cand). Told p v gone tb″ x) (append-assoc cs xs ys) (g (cs ++ xs) (f cs t))
+
+  pub tells-known : (tb tb′ : List ℕ) (xs : List Cand) → Tells p v gone tb tb′ xs → Known p v gone tb → Known p v gone tb′
+  tells-known tb tb′ xs f (cs, t) = (cs ++ xs, f cs t)
+
+-- ---- a stripe, data position by data position
+
+pub first-none : (p : Params) (gone : ℕ) (g : Segment) (s : ℕ) → firstCands p gone g s 0 ≡ []
+unfolding firstCands below upFrom
+first-none p gone g s = refl
+
+pub first-more : (p : Params) (gone : ℕ) (g : Segment) (s n : ℕ) → firstCands p gone g s (n + 1) ≡ firstCands p gone g s n ++ (candOf p gone g s (dataDrive p s n) ∷ [])
+unfolding firstCands
+first-more p gone g s n =
+    ap (map (candOf p gone g s)) (map-below-snoc (dataDrive p s) n) ∙ map-append (candOf p gone g s) (map (dataDrive p s) (below n)) (dataDrive p s n ∷ [])
+
+pub first-all : (p : Params) (gone : ℕ) (g : Segment) (s : ℕ) → firstCands p gone g s (dataCount p) ≡ stripeCands p gone g s
+unfolding firstCands stripeCands dataDrives
+first-all p gone g s = refl
+
+-- ---- the stripes of a segment
+
+pub record Walked (p : Params) (v : View) (gone g : ℕ) (ss : List ℕ) (tb tb′ : List ℕ) (m m′ n n′ : ℕ) : Type 0 where
+  pub tells : Tells p v gone tb tb′ (walkCands p gone (segmentOf p v gone g) ss)
+  pub most : m′ ≡ max m (greatestStamp (walkCands p gone (segmentOf p v gone g) ss))
+  pub count : n′ ≡ n + length (keep (counts p gone (segmentOf p v gone g)) ss)
+
+walk-append : (p : Params) (gone : ℕ) (g : Segment) (ss ts : List ℕ) → walkCands p gone g (ss ++ ts) ≡ walkCands p gone g ss ++ walkCands p gone g ts
+unfolding walkCands
+walk-append p gone g ss ts =
+    ap (flat (stripeCands p gone g)) (keep-append (counts p gone g) ss ts) ∙ flat-append (stripeCands p gone g) (keep (counts p gone g) ss) (keep (counts p gone g) ts)
+
+walk-hit : (p : Params) (gone : ℕ) (g : Segment) (s : ℕ) → counts p gone g s ≡ true → walkCands p gone g (s ∷ []) ≡ stripeCands p gone g s
+unfolding walkCands flat
+walk-hit p gone g s e =
+    ap (flat (stripeCands p gone g)) (keep-hit (counts p gone g) s [] e ∙ ap (λ (l : List ℕ). s ∷ l) (keep-none (counts p gone g))) ∙ append-nil (stripeCands p gone g s)
+
+walk-miss : (p : Params) (gone : ℕ) (g : Segment) (s : ℕ) → counts p gone g s ≡ false → walkCands p gone g (s ∷ []) ≡ []
+unfolding walkCands flat
+walk-miss p gone g s e = ap (flat (stripeCands p gone g)) (keep-miss (counts p gone g) s [] e ∙ keep-none (counts p gone g))
+
+walk-none : (p : Params) (gone : ℕ) (g : Segment) → walkCands p gone g [] ≡ []
+unfolding walkCands flat keep
+walk-none p gone g = refl
+
+module _ (p : Params) (v : View) (gone g : ℕ) where
+  abbrev sg : Segment
+  sg = segmentOf p v gone g
+
+  pub walked-none : (tb : List ℕ) (m n : ℕ) → Walked p v gone g [] tb tb m m n n
+  walked-none tb m n = record {
+    tells = tells-none p v gone tb (walkCands p gone sg []) (walk-none p gone sg);
+    most = most-none m ∙ ap (λ (x : List Cand). max m (greatestStamp x)) (sym (walk-none p gone sg));
+    count = sym (ap (λ (x : List ℕ). n + length x) (keep-none (counts p gone sg)) ∙ add-zero n);
+  }
+
+  pub walked-start : (b : ℕ) (tb : List ℕ) (m n : ℕ) → Walked p v gone g (upFrom b 0) tb tb m m n n
+  unfolding upFrom
+  walked-start b tb m n = walked-none tb m n
+
+  pub walked-join : (ss ts tb tb′ tb″ : List ℕ) (m m′ m″ n n′ n″ : ℕ) → Walked p v gone g ss tb tb′ m m′ n n′ → Walked p v gone g ts tb′ tb″ m′ m″ n′ n″
+      → Walked p v gone g (ss ++ ts) tb tb″ m m″ n n″
+  walked-join ss ts tb tb′ tb″ m m′ m″ n n′ n″ a b = record {
+    tells = subst (λ (x : List Cand). Tells p v gone tb tb″ x) (sym (walk-append p gone sg ss ts))
+        (tells-join p v gone tb tb′ tb″ (walkCands p gone sg ss) (walkCands p gone sg ts) (a .tells) (b .tells));
+    most = b .most ∙ ap (λ (x : ℕ). max x (greatestStamp (walkCands p gone sg ts))) (a .most)
+        ∙ sym (most-append m (walkCands p gone sg ss) (walkCands p gone sg ts)) ∙ ap (λ (x : List Cand). max m (greatestStamp x)) (sym (walk-append p gone sg ss ts));
+    count = b .count ∙ ap (λ (x : ℕ). x + length (keep (counts p gone sg) ts)) (a .count)
+        ∙ add-assoc n (length (keep (counts p gone sg) ss)) (length (keep (counts p gone sg) ts))
+        ∙ ap (λ (x : ℕ). n + x) (sym (ap length (keep-append (counts p gone sg) ss ts) ∙ length-append (keep (counts p gone sg) ss) (keep (counts p gone sg) ts)));
+  }
+
+  pub walked-hit : (s : ℕ) (tb tb′ : List ℕ) (m m′ n : ℕ) → counts p gone sg s ≡ true → Tells p v gone tb tb′ (stripeCands p gone sg s)
+      → m′ ≡ max m (greatestStamp (stripeCands p gone sg s)) → Walked p v gone g (s ∷ []) tb tb′ m m′ n (n + 1)
+  walked-hit s tb tb′ m m′ n e f h = record {
+    tells = subst (λ (x : List Cand). Tells p v gone tb tb′ x) (sym (walk-hit p gone sg s e)) f;
+    most = h ∙ ap (λ (x : List Cand). max m (greatestStamp x)) (sym (walk-hit p gone sg s e));
+    count = sym (ap (λ (x : List ℕ). n + length x) (keep-hit (counts p gone sg) s [] e ∙ ap (λ (l : List ℕ). s ∷ l) (keep-none (counts p gone sg))));
+  }
+
+  pub walked-miss : (s : ℕ) (tb : List ℕ) (m n : ℕ) → counts p gone sg s ≡ false → Walked p v gone g (s ∷ []) tb tb m m n n
+  walked-miss s tb m n e = record {
+    tells = tells-none p v gone tb (walkCands p gone sg (s ∷ [])) (walk-miss p gone sg s e);
+    most = most-none m ∙ ap (λ (x : List Cand). max m (greatestStamp x)) (sym (walk-miss p gone sg s e));
+    count = sym (ap (λ (x : List ℕ). n + length x) (keep-miss (counts p gone sg) s [] e ∙ keep-none (counts p gone sg)) ∙ add-zero n);
+  }
+
+  pub walked-low : (ss tb tb′ : List ℕ) (m m′ n n′ : ℕ) → Walked p v gone g ss tb tb′ m m′ n n′ → n′ ≤ n + length ss
+  walked-low ss tb tb′ m m′ n n′ a = omega (arith, a .count, length-keep (counts p gone sg) ss)
+
+  -- one stripe more of a group
+  pub walked-turn : (b k : ℕ) (tb tb′ tb″ : List ℕ) (m m′ m″ n n′ n″ : ℕ) → Walked p v gone g (upFrom b k) tb tb′ m m′ n n′ → Walked p v gone g ((b + k) ∷ []) tb′ tb″ m′ m″ n′ n″
+      → Walked p v gone g (upFrom b (k + 1)) tb tb″ m m″ n n″
+  walked-turn b k tb tb′ tb″ m m′ m″ n n′ n″ a c =
+      subst (λ (x : List ℕ). Walked p v gone g x tb tb″ m m″ n n″) (sym (ap (upFrom b) (add-one k) ∙ upFrom-snoc b k))
+      (walked-join (upFrom b k) ((b + k) ∷ []) tb tb′ tb″ m m′ m″ n n′ n″ a c)
+
+  -- all of them
+  pub walked-all : (tb tb′ : List ℕ) (m m′ n′ : ℕ) → Walked p v gone g (below (p .S)) tb tb′ m m′ 0 n′
+      → Tells p v gone tb tb′ (segmentCands p gone sg) × (m′ ≡ max m (greatestStamp (segmentCands p gone sg))) × (n′ ≡ length (counted p gone sg))
+  unfolding segmentCands counted walkCands stripeCands
+  walked-all tb tb′ m m′ n′ a = (a .tells, a .most, a .count ∙ zero-add (length (keep (counts p gone sg) (below (p .S)))))
+
+-- ---- the segments
+
+pub record Toured (p : Params) (v : View) (gone : ℕ) (gs : List ℕ) (tb tb′ : List ℕ) (m m′ : ℕ) : Type 0 where
+  pub tells : Tells p v gone tb tb′ (tourCands p v gone gs)
+  pub most : m′ ≡ max m (greatestStamp (tourCands p v gone gs))
+
+tour-append : (p : Params) (v : View) (gone : ℕ) (gs hs : List ℕ) → tourCands p v gone (gs ++ hs) ≡ tourCands p v gone gs ++ tourCands p v gone hs
+unfolding tourCands
+tour-append p v gone gs hs =
+    ap (flat (λ g. segmentCands p gone (segmentOf p v gone g))) (keep-append (remains p v gone) gs hs)
+    ∙ flat-append (λ g. segmentCands p gone (segmentOf p v gone g)) (keep (remains p v gone) gs) (keep (remains p v gone) hs)
+
+tour-hit : (p : Params) (v : View) (gone g : ℕ) → remains p v gone g ≡ true → tourCands p v gone (g ∷ []) ≡ segmentCands p gone (segmentOf p v gone g)
+unfolding tourCands flat
+tour-hit p v gone g e =
+    ap (flat (λ g. segmentCands p gone (segmentOf p v gone g))) (keep-hit (remains p v gone) g [] e ∙ ap (λ (l : List ℕ). g ∷ l) (keep-none (remains p v gone)))
+    ∙ append-nil (segmentCands p gone (segmentOf p v gone g))
+
+tour-miss : (p : Params) (v : View) (gone g : ℕ) → remains p v gone g ≡ false → tourCands p v gone (g ∷ []) ≡ []
+unfolding tourCands flat
+tour-miss p v gone g e = ap (flat (λ g. segmentCands p gone (segmentOf p v gone g))) (keep-miss (remains p v gone) g [] e ∙ keep-none (remains p v gone))
+
+tour-none : (p : Params) (v : View) (gone : ℕ) → tourCands p v gone (below 0) ≡ []
+unfolding tourCands flat keep below upFrom
+tour-none p v gone = refl
+
+module _ (p : Params) (v : View) (gone : ℕ) where
+  pub toured-none : (tb : List ℕ) (m : ℕ) → Toured p v gone (below 0) tb tb m m
+  toured-none tb m = record {
+    tells = tells-none p v gone tb (tourCands p v gone (below 0)) (tour-none p v gone);
+    most = most-none m ∙ ap (λ (x : List Cand). max m (greatestStamp x)) (sym (tour-none p v gone));
+  }
+
+  pub toured-hit : (g : ℕ) (tb tb′ : List ℕ) (m m′ n′ : ℕ) → remains p v gone g ≡ true → Walked p v gone g (below (p .S)) tb tb′ m m′ 0 n′ → Toured p v gone (g ∷ []) tb tb′ m m′
+  toured-hit g tb tb′ m m′ n′ e a =
+      let w = walked-all p v gone g tb tb′ m m′ n′ a in
+      record {
+        tells = subst (λ (x : List Cand). Tells p v gone tb tb′ x) (sym (tour-hit p v gone g e)) (w .0);
+        most = w .1 ∙ ap (λ (x : List Cand). max m (greatestStamp x)) (sym (tour-hit p v gone g e));
+      }
+
+  pub toured-miss : (g : ℕ) (tb : List ℕ) (m : ℕ) → remains p v gone g ≡ false → Toured p v gone (g ∷ []) tb tb m m
+  toured-miss g tb m e = record {
+    tells = tells-none p v gone tb (tourCands p v gone (g ∷ [])) (tour-miss p v gone g e);
+    most = most-none m ∙ ap (λ (x : List Cand). max m (greatestStamp x)) (sym (tour-miss p v gone g e));
+  }
+
+  pub toured-turn : (g : ℕ) (tb tb′ tb″ : List ℕ) (m m′ m″ : ℕ) → Toured p v gone (below g) tb tb′ m m′ → Toured p v gone (g ∷ []) tb′ tb″ m′ m″
+      → Toured p v gone (below (g + 1)) tb tb″ m m″
+  toured-turn g tb tb′ tb″ m m′ m″ a b =
+      let xs = tourCands p v gone (below g) in
+      let ys = tourCands p v gone (g ∷ []) in
+      let e : tourCands p v gone (below (g + 1)) ≡ xs ++ ys = ap (tourCands p v gone) (below-snoc g) ∙ tour-append p v gone (below g) (g ∷ []) in
+      record {
+        tells = subst (λ (x : List Cand). Tells p v gone tb tb″ x) (sym e) (tells-join p v gone tb tb′ tb″ xs ys (a .tells) (b .tells));
+        most = b .most ∙ ap (λ (x : ℕ). max x (greatestStamp ys)) (a .most) ∙ sym (most-append m xs ys) ∙ ap (λ (x : List Cand). max m (greatestStamp x)) (sym e);
+      }
+
+  all-cands : tourCands p v gone (below (p .Z)) ≡ candidates p gone (segments p v gone)
+  unfolding tourCands candidates segments
+  all-cands = ap (flat (λ g. segmentCands p gone (segmentOf p v gone g))) (sym (remaining-is p v gone)) ∙ sym (flat-map (segmentCands p gone) (segmentOf p v gone) (remaining p v gone))
+
+  -- from a table of never-written addresses
+  pub toured-all : (tb tb′ : List ℕ) (m′ : ℕ) → tb ≡ replicate (addressesLen p) 255 → Toured p v gone (below (p .Z)) tb tb′ 0 m′
+      → (tb′ ≡ addressTable p (candidates p gone (segments p v gone))) × (m′ ≡ greatestStamp (candidates p gone (segments p v gone)))
+  toured-all tb tb′ m′ e a = (
+    a .tells [] (nothing-told p v gone tb e) .table ∙ ap (addressTable p) all-cands,
+    a .most ∙ zero-max (greatestStamp (tourCands p v gone (below (p .Z)))) ∙ ap greatestStamp all-cands,
+  )

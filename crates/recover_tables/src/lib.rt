@@ -1,0 +1,462 @@
+// The memory that the drives say: restart's tables and state (01, Restart).
+ghost use mathlib.Core.Path.{_≡_};
+ghost use mathlib.Core.Bool.{Bool, true, false, cond, _&&_};
+ghost use mathlib.Core.List.{List, [], _∷_};
+ghost use Prim.Native.Nat.{ℕ, _+_, _%_, max, _≤_, _<_};
+ghost use lib.Dec.{ltb, eqb};
+ghost use lib.ListN.{length, replicate};
+ghost use Rattle.spec.specs.Drives.{viewOf, mkDisk, sealedIn};
+ghost use Rattle.spec.specs.Lists.{upFrom, below, any};
+ghost use Rattle.spec.specs.Memory.{mkMemory, idleState};
+ghost use Rattle.spec.specs.Params.{inRange, imageLen, addressesLen, compactLen};
+ghost use Rattle.spec.specs.Restart.{restartMemory};
+ghost use Rattle.spec.specs.Segments.{remaining, segmentOf, segments, counted, candOf, greatestStamp};
+ghost use Rattle.recover_groups.specs.Groups.{groupLen, recsFault, segmentIn, Reads};
+ghost use Rattle.recover_addresses.specs.Lies.{Ground};
+ghost use Rattle.recover_addresses.specs.Told.{Known, Tells};
+ghost use Rattle.disk_rank.specs.Ranked.{ranked};
+ghost use Rattle.recover_segments.specs.Remains.{Keeps, Serials};
+ghost use Rattle.proof_tables.specs.Members.{In};
+ghost use Rattle.proof_tables.specs.Tables.{remains};
+ghost use Rattle.law_views.specs.Views.{Whole};
+ghost use Rattle.recover_tables.specs.Head.{SaidTables};
+ghost use Rattle.recover_tables.specs.Ready.{Reading, Indexing, Standing};
+ghost use Rattle.recover_tables.specs.Walk.{stripeCands, Walked, Toured};
+use disk_rank::Cand;
+use recover_groups::Group;
+use spec::Params;
+use spec::Serial;
+use spec::Stamp;
+use spec::State;
+
+// The greatest counted stamp so far, and how many stripes of the segment count so far.
+pub struct Loaded {
+    pub stamp: Stamp,
+    pub counted: usize,
+}
+
+// The greatest counted stamp so far, and how many stripes of the open segment count.
+pub struct Head {
+    pub stamp: Stamp,
+    pub next: usize,
+}
+
+// The greater of two.
+fn greater(a: Stamp, b: Stamp) -> Stamp
+    ensures { λ r. ⌜ r .0 ≡ max (a .0) (b .0) ⌝ }
+{
+    if a.0 < b.0 {
+        return b;
+    }
+    a
+}
+
+// The record of stripe k of the group on a drive, as it competes.
+fn cand_of(
+    p: Params,
+    image: &[u8],
+    w: Group,
+    at: &[u16],
+    serial: Serial,
+    drive: usize,
+    k: usize,
+) -> Cand
+    requires { ⌜ inRange p ≡ true ⌝ }
+    requires { ⌜ (length (now image) ≡ imageLen p) × (length (now at) ≡ 2048) × (w .seg < p .Z) × (w .base < p .S) × (drive < p .N) × (k < groupLen p (w .base)) ⌝ }
+    requires { ⌜ Reading p (now image) w (now at) k ⌝ }
+    ensures { λ r. ⌜
+        ((ps : List ℕ)
+        → Reads p (now (image .entry)) ps w (now (at .entry))
+        → serial .0 ≡ segmentIn p (now (image .entry)) ps w .serial
+        → ranked r ≡ candOf p (w .gone) (segmentIn p (now (image .entry)) ps w) (w .base + k) drive) ⌝ }
+{
+    let r = recover_groups::rec_of(p, image, w, at, drive, k);
+    let offset = recover_groups::offset_of(w, at, drive, k);
+    let zone = disk_shape::zone_on(w.seg, drive);
+    let place = disk_shape::place_of(p, drive, zone, 1 + offset);
+    let address = r.address;
+    let stamp = r.stamp;
+    Cand {
+        address,
+        stamp,
+        serial,
+        drive,
+        offset,
+        place,
+    }
+}
+
+// The data records of a counted stripe: offered to the table; the greatest stamp so far comes back.
+fn load_stripe(
+    p: Params,
+    image: &[u8],
+    pointers: &[u8],
+    addresses: &mut [u8],
+    compact: &[u8],
+    w: Group,
+    serials: &[u64],
+    at: &[u16],
+    k: usize,
+    stamp: Stamp,
+) -> Stamp
+    requires { ⌜ Ground p (now image) (now pointers) (w .gone) (now compact) ⌝ }
+    requires { ⌜ Serials p (viewOf p (now image) (now pointers)) (w .gone) (now serials) ⌝ }
+    requires { ⌜ Standing p (now image) (now pointers) w (now at) k ⌝ }
+    requires { ⌜ Known p (viewOf p (now image) (now pointers)) (w .gone) (now addresses) ⌝ }
+    ensures { λ _. ⌜
+        Tells p (viewOf p (now (image .entry)) (now (pointers .entry))) (w .gone) (now (addresses .entry)) (now (addresses .exit))
+        (stripeCands p (w .gone) (segmentIn p (now (image .entry)) (now (pointers .entry)) w) (w .base + k)) ⌝ }
+    ensures { λ r. ⌜ r .0 ≡ max (stamp .0) (greatestStamp (stripeCands p (w .gone) (segmentIn p (now (image .entry)) (now (pointers .entry)) w) (w .base + k))) ⌝ }
+{
+    let seg = w.seg;
+    let serial = Serial(serials[seg]);
+    let s = w.base + k;
+    let n = disk_shape::data_count(p);
+    let mut most = stamp;
+    let mut i = 0;
+    while i < n {
+        let drive = disk_shape::data_drive(p, s, i);
+        let c = cand_of(p, image, w, at, serial, drive, k);
+        let t = c.stamp;
+        recover_addresses::offer(p, image, pointers, addresses, compact, w.gone, serials, c);
+        most = greater(most, t);
+        i += 1;
+    }
+    most
+}
+
+// Stripe k of the group, if it counts.
+fn load_if(
+    p: Params,
+    image: &[u8],
+    pointers: &[u8],
+    addresses: &mut [u8],
+    compact: &[u8],
+    w: Group,
+    serials: &[u64],
+    at: &[u16],
+    k: usize,
+    t: Loaded,
+) -> Loaded
+    requires { ⌜ Ground p (now image) (now pointers) (w .gone) (now compact) ⌝ }
+    requires { ⌜ Serials p (viewOf p (now image) (now pointers)) (w .gone) (now serials) ⌝ }
+    requires { ⌜ Indexing p (now image) (now pointers) w (now at) k × (t .counted ≤ w .base + k) ⌝ }
+    requires { ⌜ Known p (viewOf p (now image) (now pointers)) (w .gone) (now addresses) ⌝ }
+    ensures { λ r. ⌜
+        Walked p (viewOf p (now (image .entry)) (now (pointers .entry))) (w .gone) (w .seg) ((w .base + k) ∷ []) (now (addresses .entry))
+        (now (addresses .exit)) (t .stamp .0) (r .stamp .0) (t .counted) (r .counted) ⌝ }
+{
+    if !recover_groups::counts(p, w.gone, at, k) {
+        return t;
+    }
+    let most = t.stamp;
+    let stamp = load_stripe(
+        p,
+        image,
+        pointers,
+        addresses,
+        compact,
+        w,
+        serials,
+        at,
+        k,
+        most,
+    );
+    Loaded {
+        stamp,
+        counted: t.counted + 1,
+    }
+}
+
+// One group.
+fn load_group(
+    p: Params,
+    image: &[u8],
+    pointers: &[u8],
+    addresses: &mut [u8],
+    compact: &[u8],
+    w: Group,
+    serials: &[u64],
+    at: &mut [u16],
+    t: Loaded,
+) -> Loaded
+    requires { ⌜ Ground p (now image) (now pointers) (w .gone) (now compact) ⌝ }
+    requires { ⌜ Serials p (viewOf p (now image) (now pointers)) (w .gone) (now serials) ⌝ }
+    requires { ⌜
+        (length (now at) ≡ 2048)
+        × (w .base < p .S)
+        × (w .base % p .G ≡ 0)
+        × (w .full ≡ sealedIn p (viewOf p (now image) (now pointers)) (w .gone) (w .seg))
+        × In (w .seg) (remaining p (viewOf p (now image) (now pointers)) (w .gone))
+        × (t .counted ≤ w .base) ⌝ }
+    requires { ⌜ Known p (viewOf p (now image) (now pointers)) (w .gone) (now addresses) ⌝ }
+    ensures { λ r. ⌜
+        Walked p (viewOf p (now (image .entry)) (now (pointers .entry))) (w .gone) (w .seg) (upFrom (w .base) (groupLen p (w .base)))
+        (now (addresses .entry)) (now (addresses .exit)) (t .stamp .0) (r .stamp .0) (t .counted) (r .counted) ⌝ }
+{
+    recover_groups::index_group(p, image, pointers, w, at);
+    let len = recover_groups::group_len(p, w.base);
+    let mut next = t;
+    let mut k = 0;
+    while k < len {
+        next = load_if(
+            p,
+            image,
+            pointers,
+            addresses,
+            compact,
+            w,
+            serials,
+            at,
+            k,
+            next,
+        );
+        k += 1;
+    }
+    next
+}
+
+// All groups of a remaining segment.
+fn load_groups(
+    p: Params,
+    image: &[u8],
+    pointers: &[u8],
+    addresses: &mut [u8],
+    compact: &[u8],
+    gone: u8,
+    serials: &[u64],
+    seg: usize,
+    stamp: Stamp,
+) -> Loaded
+    requires { ⌜ Ground p (now image) (now pointers) gone (now compact) ⌝ }
+    requires { ⌜ Serials p (viewOf p (now image) (now pointers)) gone (now serials) ⌝ }
+    requires { ⌜ In seg (remaining p (viewOf p (now image) (now pointers)) gone) ⌝ }
+    requires { ⌜ Known p (viewOf p (now image) (now pointers)) gone (now addresses) ⌝ }
+    ensures { λ r. ⌜
+        Walked p (viewOf p (now (image .entry)) (now (pointers .entry))) gone seg (below (p .S)) (now (addresses .entry)) (now (addresses .exit))
+        (stamp .0) (r .stamp .0) 0 (r .counted) ⌝ }
+{
+    let full = disk_zones::is_sealed(p, pointers, gone, seg);
+    let mut at = [0u16; 2048];
+    let mut t = Loaded { stamp, counted: 0 };
+    let mut base = 0;
+    while base < p.S {
+        let w = Group {
+            gone,
+            seg,
+            full,
+            base,
+        };
+        t = load_group(
+            p,
+            image,
+            pointers,
+            addresses,
+            compact,
+            w,
+            serials,
+            &mut at,
+            t,
+        );
+        base += p.G;
+    }
+    t
+}
+
+// One segment, if it remains; opened is the number of the open one.
+fn load_segment(
+    p: Params,
+    image: &[u8],
+    pointers: &[u8],
+    addresses: &mut [u8],
+    compact: &[u8],
+    gone: u8,
+    serials: &[u64],
+    kept: bool,
+    opened: usize,
+    g: usize,
+    h: Head,
+) -> Head
+    requires { ⌜ Ground p (now image) (now pointers) gone (now compact) ⌝ }
+    requires { ⌜ Serials p (viewOf p (now image) (now pointers)) gone (now serials) ⌝ }
+    requires { ⌜ (g < p .Z) × (kept ≡ remains p (viewOf p (now image) (now pointers)) gone g) ⌝ }
+    requires { ⌜ Known p (viewOf p (now image) (now pointers)) gone (now addresses) ⌝ }
+    ensures { λ r. ⌜ Toured p (viewOf p (now (image .entry)) (now (pointers .entry))) gone (g ∷ []) (now (addresses .entry)) (now (addresses .exit)) (h .stamp .0) (r .stamp .0) ⌝ }
+    ensures { λ r. ⌜ r .next ≡ cond (kept && eqb g opened) (length (counted p gone (segmentOf p (viewOf p (now (image .entry)) (now (pointers .entry))) gone g))) (h .next) ⌝ }
+{
+    if !kept {
+        return h;
+    }
+    let most = h.stamp;
+    let t = load_groups(
+        p,
+        image,
+        pointers,
+        addresses,
+        compact,
+        gone,
+        serials,
+        g,
+        most,
+    );
+    let stamp = t.stamp;
+    if g == opened {
+        return Head {
+            stamp,
+            next: t.counted,
+        };
+    }
+    Head {
+        stamp,
+        next: h.next,
+    }
+}
+
+// All remaining segments.
+fn load_segments(
+    p: Params,
+    image: &[u8],
+    pointers: &[u8],
+    addresses: &mut [u8],
+    compact: &[u8],
+    gone: u8,
+    serials: &[u64],
+    kept: &[bool],
+    opened: usize,
+) -> Head
+    requires { ⌜ Ground p (now image) (now pointers) gone (now compact) ⌝ }
+    requires { ⌜ Serials p (viewOf p (now image) (now pointers)) gone (now serials) ⌝ }
+    requires { ⌜ Keeps p (viewOf p (now image) (now pointers)) gone (now kept) ⌝ }
+    requires { ⌜ Known p (viewOf p (now image) (now pointers)) gone (now addresses) ⌝ }
+    ensures { λ r. ⌜ Toured p (viewOf p (now (image .entry)) (now (pointers .entry))) gone (below (p .Z)) (now (addresses .entry)) (now (addresses .exit)) 0 (r .stamp .0) ⌝ }
+    ensures { λ r. ⌜
+        (r .next ≤ p .S)
+        × (opened < p .Z
+        → remains p (viewOf p (now (image .entry)) (now (pointers .entry))) gone opened ≡ true
+        → r .next ≡ length (counted p gone (segmentOf p (viewOf p (now (image .entry)) (now (pointers .entry))) gone opened))) ⌝ }
+{
+    let mut h = Head {
+        stamp: Stamp(0),
+        next: 0,
+    };
+    let mut g = 0;
+    while g < p.Z {
+        h = load_segment(
+            p,
+            image,
+            pointers,
+            addresses,
+            compact,
+            gone,
+            serials,
+            kept[g],
+            opened,
+            g,
+            h,
+        );
+        g += 1;
+    }
+    h
+}
+
+// Every address never written.
+fn clear_table(addresses: &mut [u8])
+    ensures { λ _. ⌜ now (addresses .exit) ≡ replicate (length (now (addresses .entry))) 255 ⌝ }
+{
+    let n = addresses.len();
+    let mut i = 0;
+    while i < n {
+        addresses[i] = 255;
+        i += 1;
+    }
+}
+
+// Both tables; opened is the number of the open segment.
+fn load_tables(
+    p: Params,
+    image: &[u8],
+    pointers: &[u8],
+    addresses: &mut [u8],
+    compact: &mut [u8],
+    gone: u8,
+    serials: &[u64],
+    kept: &[bool],
+    opened: usize,
+) -> Head
+    requires { ⌜ inRange p ≡ true ⌝ }
+    requires { ⌜ Whole p (mkDisk (now image) (now pointers)) ⌝ }
+    requires { ⌜ (length (now addresses) ≡ addressesLen p) × (length (now compact) ≡ compactLen p) ⌝ }
+    requires { ⌜ any (recsFault p gone) (segments p (viewOf p (now image) (now pointers)) gone) ≡ false ⌝ }
+    requires { ⌜ Serials p (viewOf p (now image) (now pointers)) gone (now serials) × Keeps p (viewOf p (now image) (now pointers)) gone (now kept) ⌝ }
+    ensures { λ r. ⌜ SaidTables p (viewOf p (now (image .entry)) (now (pointers .entry))) gone (now (addresses .exit)) (now (compact .exit)) (r .stamp .0) ⌝ }
+    ensures { λ r. ⌜
+        (r .next ≤ p .S)
+        × (opened < p .Z
+        → remains p (viewOf p (now (image .entry)) (now (pointers .entry))) gone opened ≡ true
+        → r .next ≡ length (counted p gone (segmentOf p (viewOf p (now (image .entry)) (now (pointers .entry))) gone opened))) ⌝ }
+{
+    recover_compact::compacts(p, image, pointers, compact, gone, kept);
+    clear_table(addresses);
+    load_segments(
+        p,
+        image,
+        pointers,
+        addresses,
+        compact,
+        gone,
+        serials,
+        kept,
+        opened,
+    )
+}
+
+// The state: nothing in flight; a segment is open if no drive is missing and one is unsealed.
+fn state_of(p: Params, gone: u8, h: Head, serial: Serial, opened: usize) -> State
+    requires { ⌜ (p .Z ≤ 1024) × (p .S ≤ 65535) × (h .next ≤ p .S) ⌝ }
+    ensures { λ r. ⌜ r ≡ idleState 1 gone (h .stamp .0) (serial .0) (cond (eqb gone 0 && ltb opened (p .Z)) (opened + 1) 0) (cond (eqb gone 0 && ltb opened (p .Z)) (h .next) 0) ⌝ }
+{
+    let stamp = h.stamp;
+    if gone != 0 {
+        return mem_state::idle_state(1, gone, stamp, serial, 0, 0);
+    }
+    if p.Z <= opened {
+        return mem_state::idle_state(1, gone, stamp, serial, 0, 0);
+    }
+    let number = (opened + 1) as u32;
+    let next = h.next as u32;
+    mem_state::idle_state(1, gone, stamp, serial, number, next)
+}
+
+// The address table, the compact table and the state that the drives say. The only fact needed of the view is that no remaining segment
+// has a stripe number outside its group or twice in a zone, or a bad data address stored; the in-flight buffer stays (fl).
+pub fn load(
+    p: Params,
+    image: &[u8],
+    pointers: &[u8],
+    addresses: &mut [u8],
+    compact: &mut [u8],
+    gone: u8,
+) -> State
+    requires { ⌜ inRange p ≡ true ⌝ }
+    requires { ⌜ Whole p (mkDisk (now image) (now pointers)) ⌝ }
+    requires { ⌜ (length (now addresses) ≡ addressesLen p) × (length (now compact) ≡ compactLen p) ⌝ }
+    requires { ⌜ any (recsFault p gone) (segments p (viewOf p (now image) (now pointers)) gone) ≡ false ⌝ }
+    ensures { λ r. ⌜ ((fl : List ℕ) → mkMemory r (now (addresses .exit)) (now (compact .exit)) fl ≡ restartMemory p (viewOf p (now (image .entry)) (now (pointers .entry))) gone fl) ⌝ }
+{
+    let serials = recover_segments::serials(p, image, gone);
+    let kept = recover_segments::kept(p, image, pointers, gone, &serials);
+    let opened = recover_segments::first_unsealed(p, pointers, gone, &kept);
+    let serial = recover_segments::greatest_serial(p, &kept, &serials);
+    let h = load_tables(
+        p,
+        image,
+        pointers,
+        addresses,
+        compact,
+        gone,
+        &serials,
+        &kept,
+        opened,
+    );
+    state_of(p, gone, h, serial, opened)
+}

@@ -1,0 +1,60 @@
+-- Answers: this paper's number and values of each (01, The calls; Which form to use where). Assumes nothing.
+use mathlib.Core.List.{List, [], _∷_}
+use mathlib.Core.Bool.{Bool, _&&_}
+use Prim.Native.Nat.{ℕ}
+use lib.Dec.{leb, eqb}
+use lib.ListN.{getD}
+use Rattle.spec.specs.declared.Answer.{Answer}
+use Rattle.spec.specs.declared.Answer.the-variants.{Refused, BadZone, Cut, Sent, Landed, Closed, Copied, Reset, Part, Never, Lost, Filled, Restarted, Rebuilt}
+use Rattle.spec.specs.Segments.{uncounted}
+
+-- the kinds of answer; refusals are told apart by their values
+unfoldable pub kind : Answer → ℕ
+kind (Refused n) = 0
+kind (BadZone z) = 1
+kind Cut = 2
+kind (Sent t s d) = 3
+kind (Landed n) = 4
+kind (Closed s) = 5
+kind (Copied t s d) = 6
+kind (Reset z) = 7
+kind (Part n) = 8
+kind Never = 9
+kind Lost = 10
+kind Filled = 11
+kind (Restarted n) = 12
+kind Rebuilt = 13
+
+-- 01: the refusal's number (9 with its zone); stamp, stripe and drive of a write or copy; the number acknowledged; the stripe closed; the
+-- zone reset; the block's offset in the image; the uncounted stripes
+unfoldable pub values : Answer → List ℕ
+values (Refused n) = n ∷ []
+values (BadZone z) = 9 ∷ z ∷ []
+values Cut = []
+values (Sent t s d) = t .0 ∷ s ∷ d ∷ []
+values (Landed n) = n ∷ []
+values (Closed s) = s ∷ []
+values (Copied t s d) = t .0 ∷ s ∷ d ∷ []
+values (Reset z) = z ∷ []
+values (Part n) = n ∷ []
+values Never = []
+values Lost = []
+values Filled = []
+values (Restarted r) = r .uncounted ∷ []
+values Rebuilt = []
+
+-- refused, with which number
+unfoldable pub isRefused : Answer → Bool
+isRefused r = leb (kind r) 1
+
+-- refused with number n
+unfoldable pub isRefusedAs : ℕ → Answer → Bool
+isRefusedAs n r = isRefused r && eqb (getD (values r) 0 0) n
+
+-- 01, Store count: cut
+unfoldable pub isCut : Answer → Bool
+isCut r = eqb (kind r) 2
+
+-- 01, Store count: a restart or rebuild neither refused nor cut is finished; this is a restart's answer then
+unfoldable pub finished : Answer → Bool
+finished r = eqb (kind r) 12

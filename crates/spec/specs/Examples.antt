@@ -1,0 +1,164 @@
+-- M1 to M8 as one statement of the definitions (01, The small box). Assumes nothing.
+use mathlib.Core.Path.{_≡_, refl}
+use mathlib.Core.List.{List, [], _∷_, _++_, map}
+use mathlib.Core.Bool.{true, false, cond}
+use Prim.Native.Nat.{ℕ, _-_}
+use lib.Dec.{eqb}
+use lib.ListN.{replicate}
+use lib.Count.{ones, onesIn}
+use Rattle.spec.specs.declared.Params.{Params}
+use Rattle.spec.specs.declared.Answer.the-variants.{Refused, Cut}
+use Rattle.spec.specs.Answers.{kind, values, isRefused, isRefusedAs, isCut, finished}
+use Rattle.spec.specs.Bytes.{beFrom, beOf, toBe, leOf, toLe, part, splice, xors, parity, xorAll, bytesOf, readField}
+use Rattle.spec.specs.Calls.{ninth, ruled, firstRefusal, decided, cutMemory, limited, outcome}
+use Rattle.spec.specs.Closing.{padded, closeChecks, closePlan, closeVerdict}
+use Rattle.spec.specs.Counts.{neverPlace}
+use Rattle.spec.specs.Drives.{noChunk, noZone, stored, View, zoneAt, pointerAt, chunkAt, chunkOf, zoneOf, driveOf, viewOf, putZone, resetZone, setZone}
+use Rattle.spec.specs.Drives.{storeView, pointerByte, pointerOf, setPointer, storeDisk, storeAll, segmentNumbers, zoneOn, placeSegment, emptyOnAll}
+use Rattle.spec.specs.Drives.{emptyZones, sealedIn, dataStored, blocksOf, sparesOf, recordIn, recordAt, footersOf, zeroSpare, headerStores, footerStores}
+use Rattle.spec.specs.Drives.{resetStores}
+use Rattle.spec.specs.Engine.{Call, storeCount, lentBlock, verdict, lentOk, callOn, callDisk, Lent, Left, lentDisk, lentMemory, lentAll, leftBy, callBytes}
+use Rattle.spec.specs.Engine.Call.{write, land, fill, restart}
+use Rattle.spec.specs.Faults.{pointerFaults, sameChunk, headerFault, serialFault, outside, twice, stripeFault, badRec, storedBad, decodedBad}
+use Rattle.spec.specs.Faults.{addressFault, footersStored, sameBlocks, footerFaultIn, footerFault, clashes, segmentFault, segmentFaults, imageChecks}
+use Rattle.spec.specs.Landing.{slotOf, ready, waiting, completes, seals, flightRec, misplaced, overfull, entryFaults, landFaults, serialAt, heldCand}
+use Rattle.spec.specs.Landing.{held, landedCand, landedCands, pointed, landChecks, sealStores, writesIn, landStore, landPlan, landVerdict}
+use Rattle.spec.specs.Layout.{parityDrive, dataDrive, dataPosition, isData, dataDrives, group, inGroupOf, groupOffsets, compactEntry, headerWidths}
+use Rattle.spec.specs.Layout.{headerVersion, headerValues, headerFields, headerBlock, headerSerial, headerCopied, mkRec, recordFields, recordBytes}
+use Rattle.spec.specs.Layout.{recordOf, footerBlock, footerRecord}
+use Rattle.spec.specs.Lists.{upFrom, below, all, any, isMember, consIf, keep, tally, isNil, sucUnless, indexOf, flat, total, greatest, least, firstOr}
+use Rattle.spec.specs.Lists.{sameList, padTo, pieces, zipped, powers, only, isIn}
+use Rattle.spec.specs.Memory.{slotCount, slots, cell, idleState, zeroState, stateSections, sectionLen, sectionAt, stateLen, numbersAt, sectionOf}
+use Rattle.spec.specs.Memory.{numberOf, stateNumbers, sectionBytes, stateBytes, stateOf, stripeIn, filledIn, landedIn, isWrite, entryIn, entriesIn}
+use Rattle.spec.specs.Memory.{offsetIn, openSegment, isFree, isFull, isFilling, inFlight, freeSlot, fillingSlot, hasFilling, holdsAt, holds, slotOk}
+use Rattle.spec.specs.Memory.{stateOk, stateFaults, setStamp, setOpen, setClosed, beginStripe, addEntry, landedMask, markLanded, freeStripe, placeAt}
+use Rattle.spec.specs.Memory.{setPlace, compactAt, shownAt, slotByte, slotBlock, setSlotBlock, setSlotParity}
+use Rattle.spec.specs.Params.{mkParams, between, blockSizes, dataCount, mostAddresses, inRange, recordWidths, spareLen, perFooter, footers, capacity}
+use Rattle.spec.specs.Params.{unitLen, zoneLen, driveLen, imageLen, pointersLen, addressesLen, compactLen, inflightLen, placeOf, placeBlock, placeZone}
+use Rattle.spec.specs.Params.{placeDrive, placeByte, noDrive, named, drivesOf, present, absent}
+use Rattle.spec.specs.Parity.{parityRec, parityPiece}
+use Rattle.spec.specs.Rank.{beats, better, best, placeOr, candsOf}
+use Rattle.spec.specs.Read.{placeFaults, lookup, foundFaults, shown, decodeFaults, storedAt, decodedAt, readPiece, readAnswer, readChecks, readVerdict, fillVerdict}
+use Rattle.spec.specs.Rebuild.{namesMissing, rebuildChecks, rebuiltZone, rebuildStores, rebuildVerdict}
+use Rattle.spec.specs.Reclaim.{placesIn, tableFaults, segmentPlaces, liveIn, flying, victimOf, fewer, fewest, victim, isNone, victimSegment, victimLive}
+use Rattle.spec.specs.Reclaim.{idle, reclaimChecks, clearedRow, cleared, resetPlan, copyPlan, reclaimVerdict}
+use Rattle.spec.specs.Restart.{freeZones, isWhole, isRagged, missingFooters, renumbered, movedPieces, movedOn, movedStripe, movedStripes, rewriteStores}
+use Rattle.spec.specs.Restart.{dropStores, mendStores, restartStores, openOf, nextOf, restartMemory, uncountedIn, reportOf, namesDrive, rewrites}
+use Rattle.spec.specs.Restart.{restartChecks, restartPlan, restartVerdict}
+use Rattle.spec.specs.Segments.{lowDrive, headerAt, leftBy1, isCopy, remaining, recordsIn, segmentOf, segments, recsOn, offsetOn, hasChunk, counts}
+use Rattle.spec.specs.Segments.{counted, uncounted, storedPiece, pieceOf, putPiece, storedRec, recOf, offsetOf, candOf, segmentCands, candidates}
+use Rattle.spec.specs.Segments.{addressTable, compactRow, rowOf, compactTable, greatestStamp, greatestSerial, unsealed}
+use Rattle.spec.specs.Write.{mustOpen, opens, noStamp, noSerial, otherGroup, mustWait, scarce, placed, openedBy, slotFor, begunBy, sending, writeChecks, writePlan, writeVerdict}
+
+-- 01: the small box, and variants of it
+abbrev pub small : Params
+small = mkParams 3 64 4 4 2 8
+
+-- empty drives and all else, all bytes 0
+unfoldable pub emptyLent : Params → Lent
+emptyLent p = record {
+  image = replicate (imageLen p) 0;
+  pointers = replicate (pointersLen p) 0;
+  addresses = replicate (addressesLen p) 0;
+  compact = replicate (compactLen p) 0;
+  inflight = replicate (inflightLen p) 0;
+  state = replicate stateLen 0;
+}
+
+-- calls one after the other, on the lent bytes; what the last leaves
+unfoldable pub runs : Params → Left → List Call → Left
+runs p r [] = r
+runs p r (c ∷ cs) = runs p (callBytes p (r .lent) c) cs
+
+unfoldable pub fresh : Params → Left
+fresh p = record { answer = Cut; lent = emptyLent p; block = [] }
+
+-- what the drives hold
+unfoldable pub viewAfter : Params → Left → View
+viewAfter p r = viewOf p (r .lent .image) (r .lent .pointers)
+
+-- the stamp of the record that a read of address a finds; 0 if never written
+unfoldable pub stampAt : Params → Left → ℕ → ℕ
+stampAt p r a =
+    let q = placeAt (r .lent .addresses) a in
+    let t = recordAt p (viewAfter p r) (stateOf (r .lent .state) .missing) (placeDrive p q) (placeZone p q) (placeBlock p q - 1) .stamp in
+    cond (eqb q neverPlace) 0 t
+
+-- a block of one byte over and over
+unfoldable pub blockOf : ℕ → List ℕ
+blockOf b = replicate 64 b
+
+-- M7: the stamp that a read of address a finds, and the block that the second read fills
+unfoldable pub stampAndBlock : Params → Left → ℕ → List ℕ
+stampAndBlock p r a = stampAt p r a ∷ callBytes p (r .lent) (fill a (blockOf 0)) .block
+
+-- M7: address 0 in stripe 0 with stamp 1 and in stripe 1 with stamp 3; stripe 1 completes first
+unfoldable pub m7First : List Call
+m7First =
+    restart 255 100 ∷ write 0 (blockOf 1) 100 ∷ write 1 (blockOf 2) 100 ∷ write 0 (blockOf 3) 100 ∷ write 2 (blockOf 4) 100
+    ∷ land 0 1 9 ∷ land 1 1 9 ∷ land 2 1 9 ∷ []
+
+unfoldable pub m7Then : List Call
+m7Then = land 0 0 9 ∷ land 1 0 9 ∷ land 2 0 9 ∷ []
+
+-- M7: the stamp read where stripe 1 is complete; stamp and block once stripe 0 is too
+unfoldable pub m7Reads : Left → List ℕ
+m7Reads r = stampAt small r 0 ∷ stampAndBlock small (runs small r m7Then) 0
+
+-- M8: a chunk on drives 0 and 1 of 3
+unfoldable pub m8Calls : List Call
+m8Calls = restart 255 100 ∷ write 0 (blockOf 1) 100 ∷ write 1 (blockOf 2) 100 ∷ land 0 0 9 ∷ land 1 0 9 ∷ []
+
+-- M8: the stripes of segment g that count with none missing, and with drive d missing
+unfoldable pub countedBoth : Params → Left → ℕ → ℕ → List (List ℕ)
+countedBoth p r d g = map (λ gone. counted p gone (segmentOf p (viewAfter p r) gone g)) (0 ∷ named d ∷ [])
+
+pub record Examples : Type 0 where
+  pub box : (footers small ≡ 2) × (capacity small ≡ 7) × (imageLen small ≡ 7056)
+  pub m1 : (inRange small ≡ true) × (inRange (mkParams 3 64 4 4 2 9) ≡ false)
+      × (callBytes (mkParams 3 64 4 4 2 9) (emptyLent (mkParams 3 64 4 4 2 9)) (restart 255 100) .answer ≡ Refused 1)
+  pub m2 : map (parityDrive small) (below 4) ≡ 2 ∷ 1 ∷ 0 ∷ 2 ∷ []
+  pub m3 : parity 1 ((0x0f ∷ []) ∷ (0x33 ∷ []) ∷ []) ≡ 0x3c ∷ []
+  pub m4 : parityRec 0 (mkRec 0 5 0 ∷ mkRec 0 9 0 ∷ []) .stamp ≡ 12
+  pub m5 : (map (group (mkParams 3 64 4 5 2 8)) (below 5) ≡ 0 ∷ 0 ∷ 1 ∷ 1 ∷ 2 ∷ []) × (compactEntry (mkParams 3 64 4 5 2 8) 4 ≡ 0)
+  pub m6 : (perFooter small ≡ 3) × (footers (mkParams 3 64 4 3 2 6) ≡ 1) × (footers small ≡ 2)
+  pub m7 : m7Reads (runs small (fresh small) m7First) ≡ 3 ∷ 3 ∷ blockOf 3
+  pub m8 : countedBoth small (runs small (fresh small) m8Calls) 2 0 ≡ [] ∷ (0 ∷ []) ∷ []
+
+pub examples-hold : Examples
+unfolding ones onesIn kind values isRefused isRefusedAs isCut finished beFrom beOf toBe leOf toLe part splice xors parity xorAll bytesOf readField
+    ninth ruled firstRefusal decided cutMemory limited outcome padded closeChecks closePlan closeVerdict noChunk noZone stored zoneAt pointerAt chunkAt
+    chunkOf zoneOf driveOf viewOf putZone resetZone setZone storeView pointerByte pointerOf setPointer storeDisk storeAll segmentNumbers zoneOn
+    placeSegment emptyOnAll emptyZones sealedIn dataStored blocksOf sparesOf recordIn recordAt footersOf zeroSpare headerStores footerStores resetStores
+    storeCount lentBlock verdict lentOk callOn callDisk lentDisk lentMemory lentAll leftBy callBytes pointerFaults sameChunk headerFault serialFault
+    outside twice stripeFault badRec storedBad decodedBad addressFault footersStored sameBlocks footerFaultIn footerFault clashes segmentFault
+    segmentFaults imageChecks slotOf ready waiting completes seals flightRec misplaced overfull entryFaults landFaults serialAt heldCand held landedCand
+    landedCands pointed landChecks sealStores writesIn landStore landPlan landVerdict parityDrive dataDrive dataPosition isData dataDrives group
+    inGroupOf groupOffsets compactEntry headerWidths headerVersion headerValues headerFields headerBlock headerSerial headerCopied recordFields
+    recordBytes recordOf footerBlock footerRecord upFrom below all any isMember consIf keep tally isNil sucUnless indexOf flat total greatest least
+    firstOr sameList padTo pieces zipped powers only isIn slotCount slots cell idleState zeroState stateSections sectionLen sectionAt stateLen numbersAt
+    sectionOf numberOf stateNumbers sectionBytes stateBytes stateOf stripeIn filledIn landedIn isWrite entryIn entriesIn offsetIn openSegment isFree
+    isFull isFilling inFlight freeSlot fillingSlot hasFilling holdsAt holds slotOk stateOk stateFaults setStamp setOpen setClosed beginStripe addEntry
+    landedMask markLanded freeStripe placeAt setPlace compactAt shownAt slotByte slotBlock setSlotBlock setSlotParity between blockSizes dataCount
+    mostAddresses inRange recordWidths spareLen perFooter footers capacity unitLen zoneLen driveLen imageLen pointersLen addressesLen compactLen
+    inflightLen placeOf placeBlock placeZone placeDrive placeByte noDrive named drivesOf present absent parityRec parityPiece beats better best placeOr
+    candsOf placeFaults lookup foundFaults shown decodeFaults storedAt decodedAt readPiece readAnswer readChecks readVerdict fillVerdict namesMissing
+    rebuildChecks rebuiltZone rebuildStores rebuildVerdict placesIn tableFaults segmentPlaces liveIn flying victimOf fewer fewest victim isNone
+    victimSegment victimLive idle reclaimChecks clearedRow cleared resetPlan copyPlan reclaimVerdict freeZones isWhole isRagged missingFooters
+    renumbered movedPieces movedOn movedStripe movedStripes rewriteStores dropStores mendStores restartStores openOf nextOf restartMemory uncountedIn
+    reportOf namesDrive rewrites restartChecks restartPlan restartVerdict lowDrive headerAt leftBy1 isCopy remaining recordsIn segmentOf segments recsOn
+    offsetOn hasChunk counts counted uncounted storedPiece pieceOf putPiece storedRec recOf offsetOf candOf segmentCands candidates addressTable
+    compactRow rowOf compactTable greatestStamp greatestSerial unsealed mustOpen opens noStamp noSerial otherGroup mustWait scarce placed openedBy
+    slotFor begunBy sending writeChecks writePlan writeVerdict emptyLent runs fresh viewAfter stampAt blockOf m7First m7Then m7Reads m8Calls
+    stampAndBlock countedBoth
+examples-hold = record {
+  box = (refl, refl, refl);
+  m1 = (refl, refl, refl);
+  m2 = refl;
+  m3 = refl;
+  m4 = refl;
+  m5 = (refl, refl);
+  m6 = (refl, refl, refl);
+  m7 = refl;
+  m8 = refl;
+}

@@ -1,0 +1,103 @@
+-- Where things lie: stripes and groups, header, record and footer bytes (01, What a zone holds). Assumes nothing.
+use mathlib.Core.List.{List, [], _∷_, map}
+use mathlib.Core.Bool.{Bool, cond, not, _&&_}
+use Prim.Native.Nat.{ℕ, suc, _-_, _*_, _/_, _%_}
+use lib.Dec.{ltb, eqb}
+use lib.ListN.{getD, take, drop}
+use Rattle.spec.specs.declared.Params.{Params}
+use Rattle.spec.specs.Bytes.{part, Field, field, bytesOf, readField}
+use Rattle.spec.specs.Lists.{upFrom, below, keep, flat, total, padTo, zipped}
+use Rattle.spec.specs.Params.{dataCount, recordWidths, spareLen, perFooter}
+
+-- 01, What a zone holds: the drive of stripe s's parity
+unfoldable pub parityDrive : Params → ℕ → ℕ
+parityDrive p s = p .N - 1 - s % p .N
+
+-- 01, What a zone holds: data go to the other drives, lowest first: the drive of position i, and back
+unfoldable pub dataDrive : Params → ℕ → ℕ → ℕ
+dataDrive p s i = cond (ltb i (parityDrive p s)) i (suc i)
+
+-- 01, What a zone holds: the data position of a drive
+unfoldable pub dataPosition : Params → ℕ → ℕ → ℕ
+dataPosition p s d = cond (ltb d (parityDrive p s)) d (d - 1)
+
+-- 01, What a zone holds: the drive holds data of the stripe, not its parity
+unfoldable pub isData : Params → ℕ → ℕ → Bool
+isData p s d = not (eqb d (parityDrive p s))
+
+-- the drives of the data positions in order
+unfoldable pub dataDrives : Params → ℕ → List ℕ
+dataDrives p s = map (dataDrive p s) (below (dataCount p))
+
+-- 01, What a zone holds: group of a stripe; it is also the group of a data offset
+unfoldable pub group : Params → ℕ → ℕ
+group p s = s / p .G
+
+-- 01, What a zone holds: stripe s, at an offset of its group (the last group may be short)
+unfoldable pub inGroupOf : Params → ℕ → ℕ → Bool
+inGroupOf p o s = ltb s (p .S) && eqb (group p s) (group p o)
+
+-- 01, What a zone holds: offsets of a stripe's group, rising
+unfoldable pub groupOffsets : Params → ℕ → List ℕ
+groupOffsets p s = keep (λ o. ltb o (p .S)) (upFrom (group p s * p .G) (p .G))
+
+-- 01, What a zone holds: what the compact table holds of stripe s
+unfoldable pub compactEntry : Params → ℕ → ℕ
+compactEntry p s = s % p .G
+
+-- 01, What a zone holds: the header's fields: length, version, N, drive, B, G, S, zone, L, serial, copied serial
+unfoldable pub headerWidths : List ℕ
+headerWidths = 2 ∷ 1 ∷ 1 ∷ 1 ∷ 2 ∷ 2 ∷ 4 ∷ 4 ∷ 8 ∷ 8 ∷ 8 ∷ []
+
+-- 01, What a zone holds: version 1
+unfoldable pub headerVersion : ℕ
+headerVersion = 1
+
+-- 01, What a zone holds: the header's numbers
+unfoldable pub headerValues : Params → ℕ → ℕ → ℕ → ℕ → List ℕ
+headerValues p d z serial copied = total headerWidths ∷ headerVersion ∷ p .N ∷ d ∷ p .B ∷ p .G ∷ p .S ∷ z ∷ p .L ∷ serial ∷ copied ∷ []
+
+-- 01, What a zone holds: with their widths
+unfoldable pub headerFields : Params → ℕ → ℕ → ℕ → ℕ → List Field
+headerFields p d z serial copied = zipped field headerWidths (headerValues p d z serial copied)
+
+-- 01, What a zone holds: the header block
+unfoldable pub headerBlock : Params → ℕ → ℕ → ℕ → ℕ → List ℕ
+headerBlock p d z serial copied = padTo (p .B) (bytesOf (headerFields p d z serial copied))
+
+-- a header's serial and copied serial
+unfoldable pub headerSerial : List ℕ → ℕ
+headerSerial b = readField headerWidths 9 b
+
+-- 01, What a zone holds: the copied serial in a header
+unfoldable pub headerCopied : List ℕ → ℕ
+headerCopied b = readField headerWidths 10 b
+
+-- 01, What a zone holds: the record of a data block
+pub record Rec : Type 0 where
+  pub address : ℕ
+  pub stamp : ℕ
+  pub stripe : ℕ
+
+abbrev pub mkRec : ℕ → ℕ → ℕ → Rec
+mkRec a t s = record { address = a; stamp = t; stripe = s }
+
+-- 01, What a zone holds: a record's fields
+unfoldable pub recordFields : Rec → List Field
+recordFields r = zipped field recordWidths (r .address ∷ r .stamp ∷ r .stripe ∷ [])
+
+-- 01, What a zone holds: a record in a spare
+unfoldable pub recordBytes : Rec → List ℕ
+recordBytes r = bytesOf (recordFields r)
+
+-- 01, What a zone holds: and back
+unfoldable pub recordOf : List ℕ → Rec
+recordOf bs = mkRec (readField recordWidths 0 bs) (readField recordWidths 1 bs) (readField recordWidths 2 bs)
+
+-- 01, What a zone holds: footer block i of a zone whose S spares are these
+unfoldable pub footerBlock : Params → List (List ℕ) → ℕ → List ℕ
+footerBlock p spares i = padTo (p .B) (flat (λ (b : List ℕ). b) (take (perFooter p) (drop (i * perFooter p) spares)))
+
+-- 01, What a zone holds: record of data offset o, in the zone's footer blocks
+unfoldable pub footerRecord : Params → List (List ℕ) → ℕ → Rec
+footerRecord p blocks o = recordOf (part (spareLen * (o % perFooter p)) spareLen (getD blocks (o / perFooter p) []))

@@ -1,0 +1,100 @@
+-- The two read calls (01, Read). Assumes nothing.
+use mathlib.Core.List.{List, [], _∷_, _++_, map}
+use mathlib.Core.Bool.{Bool, cond, not, _&&_, _||_}
+use Prim.Native.Nat.{ℕ, _+_, _-_}
+use lib.Dec.{leb, eqb}
+use lib.ListN.{length, replicate}
+use Rattle.spec.specs.declared.Params.{Params}
+use Rattle.spec.specs.declared.Answer.{Answer}
+use Rattle.spec.specs.declared.Answer.the-variants.{Part, Never, Lost, Filled}
+use Rattle.spec.specs.Calls.{Check, firstRefusal, mkPlan, Verdict, decided}
+use Rattle.spec.specs.Calls.Check.{rule, zones}
+use Rattle.spec.specs.Counts.{neverPlace}
+use Rattle.spec.specs.Drives.{View, pointerAt, chunkAt, recordAt}
+use Rattle.spec.specs.Layout.{mkRec}
+use Rattle.spec.specs.Lists.{any, consIf, isNil, firstOr, isIn}
+use Rattle.spec.specs.Memory.{Memory, stateFaults, placeAt, shownAt}
+use Rattle.spec.specs.Params.{between, inRange, placeBlock, placeZone, placeDrive, placeByte, present}
+use Rattle.spec.specs.Parity.{Piece, mkPiece, parityPiece}
+
+-- 01, Refusals, 9: a place to be read: not a data block, or on a present drive not below its zone's pointer; outside the image names zone 0
+unfoldable pub placeFaults : Params → View → ℕ → ℕ → List ℕ
+placeFaults p v gone q =
+    let d = placeDrive p q in
+    let z = placeZone p q in
+    let b = placeBlock p q in
+    cond (leb (p .N) d) (0 ∷ [])
+    (consIf (not (between 1 (p .S) b) || (not (isIn gone d) && leb (pointerAt v d z) b)) z [])
+
+-- 01, Read: where an address lies
+pub data Found : Type 0 where
+  nowhere : Found
+  here : ℕ → Found
+  away : ℕ → Found
+
+-- 01, Read: where the table says that it lies
+unfoldable pub lookup : Params → ℕ → List ℕ → ℕ → Found
+lookup p gone tb a =
+    let q = placeAt tb a in
+    let r = cond (isIn gone (placeDrive p q)) (away q) (here q) in
+    cond (eqb q neverPlace) nowhere r
+
+-- 01, Refusals, 9: a place to be read
+unfoldable pub foundFaults : Params → View → ℕ → Found → List ℕ
+foundFaults p v gone nowhere = []
+foundFaults p v gone (here q) = placeFaults p v gone q
+foundFaults p v gone (away q) = placeFaults p v gone q
+
+-- 01, What a zone holds: the offsets at which the present drives show a stripe: lowest of each, as a list of lists
+unfoldable pub shown : Params → View → ℕ → List ℕ → ℕ → ℕ → List (List ℕ)
+shown p v gone cs z s = map (λ d. shownAt p v cs d z s) (present p gone)
+
+-- 01, Refusals, 9: a decode whose stripe the table doesn't show on all present drives
+unfoldable pub decodeFaults : Params → View → ℕ → List ℕ → Found → List ℕ
+decodeFaults p v gone cs nowhere = []
+decodeFaults p v gone cs (here q) = []
+decodeFaults p v gone cs (away q) = consIf (any isNil (shown p v gone cs (placeZone p q) (placeBlock p q - 1))) (placeZone p q) []
+
+-- 01, Read: block and record at a place of a present drive
+unfoldable pub storedAt : Params → View → ℕ → ℕ → ℕ → ℕ → Piece
+storedAt p v gone d z o = mkPiece (chunkAt v d z (1 + o) .block) (recordAt p v gone d z o)
+
+-- 01, Read: block and record decoded from the chunks that the table shows
+unfoldable pub decodedAt : Params → View → ℕ → List ℕ → ℕ → ℕ → Piece
+decodedAt p v gone cs z s = parityPiece p s (map (λ d. storedAt p v gone d z (firstOr 0 (shownAt p v cs d z s))) (present p gone))
+
+-- 01, Read: the block, with its record, that an address reads: zeros if never written (02, item 2, takes the stamp from here)
+unfoldable pub readPiece : Params → View → ℕ → List ℕ → Found → Piece
+readPiece p v gone cs nowhere = mkPiece (replicate (p .B) 0) (mkRec 0 0 0)
+readPiece p v gone cs (here q) = storedAt p v gone (placeDrive p q) (placeZone p q) (placeBlock p q - 1)
+readPiece p v gone cs (away q) = decodedAt p v gone cs (placeZone p q) (placeBlock p q - 1)
+
+-- 01, Read: the part of the image, never written, or on the missing drive
+unfoldable pub readAnswer : Params → Found → Answer
+readAnswer p nowhere = Never
+readAnswer p (here q) = Part (placeByte p q)
+readAnswer p (away q) = Lost
+
+-- 01, Refusals: the checks of both reads, up to 9
+unfoldable pub readChecks : Params → Bool → ℕ → List Check
+readChecks p long a = rule 1 (not (inRange p)) ∷ rule 2 (not long) ∷ rule 4 (leb (p .L) a) ∷ []
+
+-- 01, Read: the first call
+unfoldable pub readVerdict : Params → Bool → View → Memory → ℕ → Verdict
+readVerdict p long v m a =
+    let st = m .state in
+    let gone = st .missing in
+    let f = lookup p gone (m .addresses) a in
+    decided (firstRefusal (readChecks p long a ++ (zones (stateFaults p st ++ foundFaults p v gone f) ∷ []))) (mkPlan [] (readAnswer p f) m [])
+
+-- 01, Read: the second call, on a lent block
+unfoldable pub fillVerdict : Params → Bool → View → Memory → ℕ → List ℕ → Verdict
+fillVerdict p long v m a b =
+    let st = m .state in
+    let gone = st .missing in
+    let cs = m .compact in
+    let f = lookup p gone (m .addresses) a in
+    let ok = firstRefusal (readChecks p (long && eqb (length b) (p .B)) a
+    ++ (zones (stateFaults p st ++ foundFaults p v gone f) ∷ zones (decodeFaults p v gone cs f) ∷ [])) in
+    let q = mkPlan [] Filled m (readPiece p v gone cs f .block) in
+    decided ok q

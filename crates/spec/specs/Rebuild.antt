@@ -1,0 +1,47 @@
+-- Rebuild (01, Restart and rebuild). Assumes nothing.
+use mathlib.Core.List.{List, [], _∷_, _++_, map}
+use mathlib.Core.Bool.{Bool, cond, not, _&&_, _||_}
+use Prim.Native.Nat.{ℕ}
+use lib.Dec.{ltb, eqb}
+use Rattle.spec.specs.declared.Params.{Params}
+use Rattle.spec.specs.declared.State.{State}
+use Rattle.spec.specs.declared.Answer.the-variants.{Rebuilt}
+use Rattle.spec.specs.Calls.{Check, firstRefusal, mkPlan, Verdict, decided}
+use Rattle.spec.specs.Calls.Check.{rule}
+use Rattle.spec.specs.Drives.{View, Store, zoneOn, zeroSpare}
+use Rattle.spec.specs.Drives.Store.{put, reset}
+use Rattle.spec.specs.Faults.{imageChecks}
+use Rattle.spec.specs.Layout.{headerBlock, recordBytes, footerBlock}
+use Rattle.spec.specs.Lists.{below, flat}
+use Rattle.spec.specs.Memory.{Memory}
+use Rattle.spec.specs.Params.{inRange, footers, named}
+use Rattle.spec.specs.Parity.{Piece}
+use Rattle.spec.specs.Segments.{Segment, segments, counted, pieceOf, putPiece}
+
+-- 01, Refusals, 1: rebuild unless of the drive the last restart named missing
+unfoldable pub namesMissing : Params → State → ℕ → Bool
+namesMissing p st d = ltb d (p .N) && eqb (st .missing) (named d)
+
+-- 01, Refusals: the checks of a rebuild
+unfoldable pub rebuildChecks : Params → Bool → View → Memory → ℕ → List Segment → List Check
+rebuildChecks p long v m d gs =
+    rule 1 (not (inRange p) || not (namesMissing p (m .state) d)) ∷ rule 2 (not long) ∷ imageChecks p v (named d) gs
+
+-- 01, Rebuild: header, the chunk of each counted stripe in rising order, and the footer if the survivors' zones are full
+unfoldable pub rebuiltZone : Params → ℕ → Segment → List Store
+rebuiltZone p d g =
+    let z = zoneOn (g .seg) d in
+    let qs = map (λ s. pieceOf p (named d) g s d) (counted p (named d) g) in
+    let fs = map (λ i. put d z (footerBlock p (map (λ (q : Piece). recordBytes (q .rec)) qs) i) zeroSpare) (below (footers p)) in
+    put d z (headerBlock p d z (g .serial) (g .copied)) zeroSpare ∷ map (putPiece d z) qs ++ cond (g .full) fs []
+
+-- 01, Rebuild: resets the named drive, then each remaining segment
+unfoldable pub rebuildStores : Params → ℕ → List Segment → List Store
+rebuildStores p d gs = map (λ z. reset d z) (below (p .Z)) ++ flat (rebuiltZone p d) gs
+
+-- 01, Rebuild: state and tables don't change
+unfoldable pub rebuildVerdict : Params → Bool → View → Memory → ℕ → Verdict
+rebuildVerdict p long v m d =
+    let gs = segments p v (named d) in
+    let q = mkPlan (rebuildStores p d gs) Rebuilt m [] in
+    decided (firstRefusal (rebuildChecks p long v m d gs)) q

@@ -1,0 +1,177 @@
+-- What the drives say: which segments remain, which stripes count, the tables (01, Restart, 1 to 3). Assumes nothing.
+use mathlib.Core.List.{List, [], map}
+use mathlib.Core.Bool.{Bool, cond, not, _&&_}
+use Prim.Native.Nat.{ℕ, _+_}
+use lib.Dec.{eqb}
+use lib.ListN.{getD}
+use Rattle.spec.specs.declared.Params.{Params}
+use Rattle.spec.specs.Bytes.{toBe}
+use Rattle.spec.specs.Drives.{noChunk, Zone, noZone, View, zoneAt, pointerAt, chunkAt, Store, segmentNumbers, zoneOn, sealedIn, dataStored, recordIn}
+use Rattle.spec.specs.Drives.Store.{put}
+use Rattle.spec.specs.Layout.{dataDrives, compactEntry, headerSerial, headerCopied, Rec, mkRec, recordBytes}
+use Rattle.spec.specs.Lists.Opt.{none}
+use Rattle.spec.specs.Lists.{below, all, any, keep, indexOf, flat, greatest, firstOr, padTo, isIn}
+use Rattle.spec.specs.Params.{placeOf, drivesOf, present}
+use Rattle.spec.specs.Parity.{Piece, mkPiece, parityRec, parityPiece}
+use Rattle.spec.specs.Rank.{Cand, best, placeOr, candsOf}
+
+-- 01, Restart, 2: the headers on the lowest present drive
+unfoldable pub lowDrive : Params → ℕ → ℕ
+lowDrive p gone = firstOr 0 (present p gone)
+
+-- 01, Restart, 2: a segment's header on a drive
+unfoldable pub headerAt : View → ℕ → ℕ → List ℕ
+headerAt v d g = chunkAt v d (zoneOn g d) 0 .block
+
+-- 01, Restart, 1: a segment with a zone empty on some present drive is dropped; those left
+unfoldable pub leftBy1 : Params → View → ℕ → List ℕ
+leftBy1 p v gone = keep (λ g. all (λ d. not (eqb (pointerAt v d (zoneOn g d)) 0)) (present p gone)) (segmentNumbers p)
+
+-- 01, Restart, 2: its copied serial (0 for none) is that of another segment left by 1
+unfoldable pub isCopy : View → ℕ → List ℕ → ℕ → Bool
+isCopy v d left g =
+    let c = headerCopied (headerAt v d g) in
+    not (eqb c 0) && any (λ h. not (eqb h g) && eqb (headerSerial (headerAt v d h)) c) left
+
+-- 01, Restart, 1 and 2: the segments that remain, rising
+unfoldable pub remaining : Params → View → ℕ → List ℕ
+remaining p v gone =
+    let left = leftBy1 p v gone in
+    keep (λ g. not (isCopy v (lowDrive p gone) left g)) left
+
+-- a segment as read: number, serials by the lowest present drive, sealed or not, its zones by drive, and the records of stored chunks by drive
+pub record Segment : Type 0 where
+  pub seg : ℕ
+  pub serial : ℕ
+  pub copied : ℕ
+  pub full : Bool
+  pub zonesBy : List Zone
+  pub recs : List (List Rec)
+
+-- 01, Restart, 3: the records of the data blocks below a zone's pointer, by footer or spare
+unfoldable pub recordsIn : Params → Bool → Zone → List Rec
+recordsIn p w q = map (recordIn p w q) (below (dataStored p q))
+
+-- 01, Restart, 1 to 3: segment g as read
+unfoldable pub segmentOf : Params → View → ℕ → ℕ → Segment
+segmentOf p v gone g =
+    let b = headerAt v (lowDrive p gone) g in
+    let w = sealedIn p v gone g in
+    let qs = map (λ d. zoneAt v d (zoneOn g d)) (drivesOf p) in
+    record {
+      seg = g;
+      serial = headerSerial b;
+      copied = headerCopied b;
+      full = w;
+      zonesBy = qs;
+      recs = map (λ d. cond (isIn gone d) [] (recordsIn p w (getD qs d noZone))) (drivesOf p);
+    }
+
+-- the remaining segments as read
+unfoldable pub segments : Params → View → ℕ → List Segment
+segments p v gone = map (segmentOf p v gone) (remaining p v gone)
+
+-- ---- chunks of a segment
+
+-- the records of its chunks on a drive, by offset
+unfoldable pub recsOn : Segment → ℕ → List Rec
+recsOn g d = getD (g .recs) d []
+
+-- the lowest offset of a stripe's chunk on a drive; the number of chunks there if it has none
+unfoldable pub offsetOn : Segment → ℕ → ℕ → ℕ
+offsetOn g d s = indexOf (λ (r : Rec). eqb (r .stripe) s) (recsOn g d)
+
+-- 01, Restart, 3: the drive has the stripe's chunk
+unfoldable pub hasChunk : Segment → ℕ → ℕ → Bool
+hasChunk g s d = any (λ (r : Rec). eqb (r .stripe) s) (recsOn g d)
+
+-- 01, Restart, 3: a stripe counts if every present drive has its chunk
+unfoldable pub counts : Params → ℕ → Segment → ℕ → Bool
+counts p gone g s = all (hasChunk g s) (present p gone)
+
+-- 01, Restart, 3: the stripes that count, rising
+unfoldable pub counted : Params → ℕ → Segment → List ℕ
+counted p gone g = keep (counts p gone g) (below (p .S))
+
+-- 01, Restart: stripes with some chunk but not counted
+unfoldable pub uncounted : Params → ℕ → Segment → List ℕ
+uncounted p gone g = keep (λ s. any (hasChunk g s) (present p gone) && not (counts p gone g s)) (below (p .S))
+
+-- 01, Restart, 3: the chunk of a stripe as stored
+unfoldable pub storedPiece : Segment → ℕ → ℕ → Piece
+storedPiece g s d =
+    let o = offsetOn g d s in
+    mkPiece (getD (getD (g .zonesBy) d noZone .blocks) (1 + o) noChunk .block) (getD (recsOn g d) o (mkRec 0 0 0))
+
+-- 01, Read and Rebuild: the chunk of a counted stripe, stored, or decoded from the present ones
+unfoldable pub pieceOf : Params → ℕ → Segment → ℕ → ℕ → Piece
+pieceOf p gone g s d =
+    let a = storedPiece g s d in
+    let b = parityPiece p s (map (storedPiece g s) (present p gone)) in
+    cond (isIn gone d) b a
+
+-- the store of a chunk
+unfoldable pub putPiece : ℕ → ℕ → Piece → Store
+putPiece d z q = put d z (q .block) (recordBytes (q .rec))
+
+-- the record alone
+unfoldable pub storedRec : Segment → ℕ → ℕ → Rec
+storedRec g s d = getD (recsOn g d) (offsetOn g d s) (mkRec 0 0 0)
+
+-- 01, Restart, 3: its record, stored or decoded
+unfoldable pub recOf : Params → ℕ → Segment → ℕ → ℕ → Rec
+recOf p gone g s d =
+    let a = storedRec g s d in
+    let b = parityRec s (map (storedRec g s) (present p gone)) in
+    cond (isIn gone d) b a
+
+-- 01, The array: on the missing drive data offset s stands for stripe s
+unfoldable pub offsetOf : ℕ → Segment → ℕ → ℕ → ℕ
+offsetOf gone g s d =
+    let o = offsetOn g d s in
+    cond (isIn gone d) s o
+
+-- ---- the tables that the drives say
+
+-- 01, The calls: the record of a counted stripe on a drive, as it competes
+unfoldable pub candOf : Params → ℕ → Segment → ℕ → ℕ → Cand
+candOf p gone g s d =
+    let r = recOf p gone g s d in
+    let o = offsetOf gone g s d in
+    record { address = r .address; stamp = r .stamp; serial = g .serial; drive = d; offset = o; place = placeOf p d (zoneOn (g .seg) d) (1 + o) }
+
+-- the data records of counted stripes
+unfoldable pub segmentCands : Params → ℕ → Segment → List Cand
+segmentCands p gone g = flat (λ s. map (candOf p gone g s) (dataDrives p s)) (counted p gone g)
+
+-- 01, The calls: all completed records
+unfoldable pub candidates : Params → ℕ → List Segment → List Cand
+candidates p gone gs = flat (segmentCands p gone) gs
+
+-- 01, The array and The calls, last paragraph: the address table
+unfoldable pub addressTable : Params → List Cand → List ℕ
+addressTable p cs = flat (λ a. toBe 4 (placeOr (best none (candsOf a cs)))) (below (p .L))
+
+-- 01, What a zone holds: the compact table; 0 where no chunk is stored, the drive is missing or the segment dropped
+unfoldable pub compactRow : Params → List Rec → List ℕ
+compactRow p rs = padTo (p .S) (map (λ (r : Rec). compactEntry p (r .stripe)) rs)
+
+-- 01, What a zone holds: the records of a zone of a remaining segment
+unfoldable pub rowOf : Params → List Segment → ℕ → ℕ → List Rec
+rowOf p gs d z = flat (λ (g : Segment). cond (eqb (zoneOn (g .seg) d) z) (recsOn g d) []) gs
+
+-- 01, What a zone holds: for each drive, zone and offset, in that order
+unfoldable pub compactTable : Params → List Segment → List ℕ
+compactTable p gs = flat (λ d. flat (λ z. compactRow p (rowOf p gs d z)) (below (p .Z))) (drivesOf p)
+
+-- 01, Restart: the greatest counted stamp, the greatest remaining serial
+unfoldable pub greatestStamp : List Cand → ℕ
+greatestStamp cs = greatest (map (λ (c : Cand). c .stamp) cs)
+
+-- 01, Restart: the greatest remaining serial
+unfoldable pub greatestSerial : List Segment → ℕ
+greatestSerial gs = greatest (map (λ (g : Segment). g .serial) gs)
+
+-- 01, Restart, 4: the unsealed segments
+unfoldable pub unsealed : List Segment → List Segment
+unsealed gs = keep (λ (g : Segment). not (g .full)) gs

@@ -1,0 +1,129 @@
+-- The write call, and what it shares with a copy and with closing (01, Write). Assumes nothing.
+use mathlib.Core.List.{List, [], _∷_}
+use mathlib.Core.Bool.{Bool, cond, not, _&&_, _||_}
+use Prim.Native.Nat.{ℕ, suc}
+use lib.Dec.{leb, eqb}
+use lib.ListN.{length}
+use Rattle.spec.specs.declared.Params.{Params}
+use Rattle.spec.specs.declared.State.{State}
+use Rattle.spec.specs.declared.Answer.the-variants.{Sent}
+use Rattle.spec.specs.Calls.{Check, firstRefusal, Plan, mkPlan, Verdict, decided}
+use Rattle.spec.specs.Calls.Check.{rule, zones}
+use Rattle.spec.specs.Counts.{lastCount, aStamp}
+use Rattle.spec.specs.Drives.{View, Store, emptyZones, headerStores}
+use Rattle.spec.specs.Layout.{dataDrive, group}
+use Rattle.spec.specs.Lists.{any, isNil, firstOr}
+use Rattle.spec.specs.Memory.{Memory, mkMemory, slotCount, stripeIn, filledIn, isFull, inFlight, freeSlot, fillingSlot, hasFilling, stateFaults}
+use Rattle.spec.specs.Memory.{setStamp, setOpen, beginStripe, addEntry, setSlotBlock, setSlotParity}
+use Rattle.spec.specs.Params.{inRange}
+
+-- 01, Write: a stripe that begins now needs a new segment
+unfoldable pub mustOpen : Params → State → Bool
+mustOpen p st = eqb (st .opened) 0 || eqb (st .next) (p .S)
+
+-- 01, Write: a block taken now opens a segment
+unfoldable pub opens : Params → State → Bool
+opens p st = not (hasFilling p st) && mustOpen p st
+
+-- 01, Refusals, 6: no next stamp for a write, or no next serial where a segment must be opened
+unfoldable pub noStamp : State → Bool
+noStamp st = eqb (st .stamp .0) lastCount
+
+-- 01, Refusals, 6: no next serial where a segment must be opened
+unfoldable pub noSerial : Params → State → Bool
+noSerial p st = opens p st && eqb (st .serial .0) lastCount
+
+-- 01, Refusals, 7: a stripe must begin and eight are in flight, or it is in the next group or segment and any is in flight
+unfoldable pub otherGroup : Params → State → ℕ → Bool
+otherGroup p st i = not (eqb (group p (stripeIn st i)) (group p (st .next)))
+
+-- 01, Refusals, 7: wait
+unfoldable pub mustWait : Params → State → Bool
+mustWait p st =
+    not (hasFilling p st)
+    && (leb slotCount (length (inFlight st)) || (mustOpen p st && not (isNil (inFlight st)))
+    || (not (mustOpen p st) && any (otherGroup p st) (inFlight st)))
+
+-- 01, Refusals, 8: n zones empty on all drives, or fewer
+unfoldable pub scarce : Params → View → ℕ → Bool
+scarce p v n = leb (length (emptyZones p v)) n
+
+-- ---- a data position filled
+
+-- 01, Write: what filling a position leaves
+pub record Placed : Type 0 where
+  pub state : State
+  pub inflight : List ℕ
+  pub drive : ℕ
+
+-- 01, Write: the block lies in its eighth by drive; parity is worked out when the last data block is in
+unfoldable pub placed : Params → State → List ℕ → ℕ → ℕ → ℕ → ℕ → List ℕ → Placed
+placed p st fl i a t w b =
+    let s = stripeIn st i in
+    let d = dataDrive p s (filledIn st i) in
+    let st′ = addEntry st i a t w in
+    let fl′ = setSlotBlock p fl i d b in
+    let fl″ = setSlotParity p fl′ i s in
+    record { state = st′; inflight = cond (isFull p st′ i) fl″ fl′; drive = d }
+
+-- ---- a block sent: write or copy
+
+-- 01, Write: what sending a block leaves
+pub record Sending : Type 0 where
+  pub stores : List Store
+  pub state : State
+  pub inflight : List ℕ
+  pub stripe : ℕ
+  pub drive : ℕ
+
+-- 01, Write: the segment that is opened is the lowest zone empty on all drives, its serial the next one
+unfoldable pub openedBy : Params → View → State → State
+openedBy p v st =
+    let st′ = setOpen st (firstOr 0 (emptyZones p v)) (suc (st .serial .0)) in
+    cond (opens p st) st′ st
+
+-- 01, Write: the next data position of the filling stripe, or the next stripe number in the lowest free eighth
+unfoldable pub slotFor : Params → State → ℕ
+slotFor p st = cond (hasFilling p st) (fillingSlot p st) (freeSlot st)
+
+-- 01, Write: the state with that stripe begun
+unfoldable pub begunBy : Params → State → State → State
+begunBy p st st₁ =
+    let st₂ = beginStripe st₁ (freeSlot st) in
+    cond (hasFilling p st) st st₂
+
+-- 01, Write: address a with stamp t and block b; headers first where a segment is opened
+unfoldable pub sending : Params → View → State → List ℕ → ℕ → ℕ → ℕ → List ℕ → Sending
+sending p v st fl a t w b =
+    let i = slotFor p st in
+    let st₂ = begunBy p st (openedBy p v st) in
+    let q = placed p st₂ fl i a t w b in
+    let hs = headerStores p (firstOr 0 (emptyZones p v)) (suc (st .serial .0)) 0 in
+    record {
+      stores = cond (opens p st) hs [];
+      state = q .state;
+      inflight = q .inflight;
+      stripe = stripeIn st₂ i;
+      drive = q .drive;
+    }
+
+-- 01, Refusals: the checks of a write
+unfoldable pub writeChecks : Params → Bool → View → Memory → ℕ → List ℕ → List Check
+writeChecks p long v m a b =
+    let st = m .state in
+    rule 1 (not (inRange p)) ∷ rule 2 (not long || not (eqb (length b) (p .B))) ∷ rule 3 (not (eqb (st .missing) 0)) ∷ rule 4 (leb (p .L) a)
+    ∷ rule 6 (noStamp st || noSerial p st) ∷ rule 7 (mustWait p st) ∷ rule 8 (scarce p v (cond (opens p st) 2 1)) ∷ zones (stateFaults p st) ∷ []
+
+-- 01, Write: the block takes the next stamp
+unfoldable pub writePlan : Params → View → Memory → ℕ → List ℕ → Plan
+writePlan p v m a b =
+    let st = m .state in
+    let t = suc (st .stamp .0) in
+    let q = sending p v st (m .inflight) a t 1 b in
+    mkPlan (q .stores) (Sent (aStamp t) (q .stripe) (q .drive)) (mkMemory (setStamp (q .state) t) (m .addresses) (m .compact) (q .inflight)) b
+
+-- 01, Write: the call
+unfoldable pub writeVerdict : Params → Bool → View → Memory → ℕ → List ℕ → Verdict
+writeVerdict p long v m a b =
+    let q = writePlan p v m a b in
+    decided (firstRefusal (writeChecks p long v m a b)) q
