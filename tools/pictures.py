@@ -1,6 +1,6 @@
 #!/usr/bin/env python3
-"""Writes the drawings of docs/: zone.svg (a zone, a segment, a stripe group with landed chunks), restart.svg (the states of a restart) and
-chain.svg (from a C function to the demands)."""
+"""Writes the drawings of docs/: zone.svg (a zone, a segment, a stripe group with landed chunks), restart.svg (the states of a restart),
+chain.svg (from a C function to the demands) and floors.svg (the crates of crates.txt on their floors)."""
 import os
 
 ROOT = os.path.dirname(os.path.dirname(os.path.abspath(__file__)))
@@ -117,10 +117,10 @@ def chain():
     d = Drawing(900, 560)
     d.text(450, 28, "From a C function to the demands", 17, weight="bold")
 
-    d.lines(250, 46, 400, 44, ["sorgizhed_write, sorgizhed_restart, ..", "include/sorgizhed.h, crates/cabi"], "#eeeeee")
+    d.lines(250, 46, 400, 44, ["sorgizhed_write, sorgizhed_restart, ..", "include/sorgizhed.h, crates/api_c"], "#eeeeee")
     d.arrow([(450, 90), (450, 128)])
     d.text(462, 113, "contract of each: answer and all lent bytes equal", 12, "start")
-    d.lines(250, 130, 400, 58, ["callBytes p l c", "one call on six lent buffers, the state as bytes", "defs: Engine"])
+    d.lines(250, 130, 400, 58, ["callBytes p l c", "one call on six lent buffers, the state as bytes", "spec: Engine"])
     d.arrow([(300, 188), (150, 226)])
     d.text(60, 212, "any call, any bytes", 12, "start")
     d.lines(20, 228, 270, 58, ["Demand 1, zone rules", "of every call; spec_demands: Answering,", "Rules; proved in proof_answers"], "#e5f5e0")
@@ -132,14 +132,75 @@ def chain():
     d.lines(250, 330, 400, 58, ["proof_bytes", "a state that a call leaves fits its widths and comes back from its", "bytes, so a list of calls on bytes is one with the state a value"])
     d.arrow([(445, 330), (445, 288)])
     d.arrow([(600, 330), (740, 288)])
-    d.lines(40, 432, 480, 74, ["Demand 2, the state a value: AfterRestart onValues", "proof_layout (layout), proof_flights (landings, parity),", "proof_rebuilt (rebuild), tablesay (tables, reads, refusal 9)"])
+    d.lines(40, 432, 480, 74, ["Demand 2, the state a value: AfterRestart onValues", "proof_layout (layout), proof_flights (landings, parity),", "proof_rebuilt (rebuild), proof_tables (tables, reads, refusal 9)"])
     d.arrow([(330, 432), (370, 390)])
-    d.lines(560, 432, 320, 74, ["Demand 3, the state a value", "demand3 over runs, restarts, rebuilds, bridge;", "the crash machine: machine"])
+    d.lines(560, 432, 320, 74, ["Demand 3, the state a value", "proof_crash, over proof_crash_calls, _restarts,", "_rebuilds, _items and _machine"])
     d.arrow([(680, 432), (580, 390)])
     d.text(450, 540, "Every arrow is an equation or a theorem that the checker has accepted; nothing between a C function and a demand is by hand.", 12)
     d.save("chain.svg")
 
 
+FLOORS = [
+    ("api", "the C functions", "#eeeeee"),
+    ("call", "the calls", "#deebf7"),
+    ("recover", "what restart and rebuild look at and store", "#deebf7"),
+    ("mem", "the state and the tables in memory", "#deebf7"),
+    ("disk", "what lies on the drives", "#deebf7"),
+    ("bits", "numbers and masks in bytes", "#deebf7"),
+]
+
+
+def listed():
+    """the crates of crates.txt, by floor"""
+    floors = {}
+    with open(os.path.join(ROOT, "crates.txt")) as f:
+        for line in f:
+            name = line.split("#")[0].split(":")[0].strip()
+            if name:
+                floors.setdefault(name.split("_")[0], []).append(name)
+    return floors
+
+
+def band(d, x, y, width, floor, what, fill, names):
+    """one floor: its name, what stands on it, its crates in rows; the y below it"""
+    rows, room = [[]], width - 24
+    for name in names:
+        w = 7 * len(name) + 16
+        if sum(7 * len(n) + 24 for n in rows[-1]) + w > room:
+            rows.append([])
+        rows[-1].append(name)
+    height = 34 + 28 * len(rows)
+    d.box(x, y, width, height, fill, round_=8)
+    d.text(x + 12, y + 20, f"{floor}_" if names != [floor] else floor, 13, "start", "bold")
+    d.text(x + 70, y + 20, what, 12, "start")
+    for i, row in enumerate(rows):
+        at = x + 12
+        for name in row:
+            w = 7 * len(name) + 16
+            d.box(at, y + 28 + 28 * i, w, 22)
+            d.text(at + w / 2, y + 43 + 28 * i, name, 11)
+            at += w + 8
+    return y + height
+
+
+def floors():
+    """The crates on their floors: each lists crates of its own floor and of lower ones; code lists no theorem's crate."""
+    crates = listed()
+    d = Drawing(1100, 900)
+    d.text(550, 28, "The crates on their floors", 17, weight="bold")
+    d.text(550, 48, "a crate cites its own floor and lower ones; code cites no theorem", 12)
+    y = 62
+    for floor, what, fill in FLOORS:
+        y = band(d, 20, y, 700, floor, what, fill, crates.get(floor, [])) + 8
+    right = band(d, 740, 62, 340, "proof", "the theorems: demands 1, 2 and 3", "#e5f5e0", crates["proof"]) + 8
+    band(d, 740, right, 340, "bench", "leaves, for bench/leaves", "#eeeeee", crates.get("bench", []))
+    y = band(d, 20, y, 1060, "law", "laws of the definitions, cited by code and theorems", "#fff7bc", crates["law"]) + 8
+    y = band(d, 20, y, 1060, "spec", "what a reader must believe: the definitions, and the demands as statements", "#fee391", crates["spec"]) + 8
+    d.size = (1100, y + 8)
+    d.save("floors.svg")
+
+
 zone()
 restart()
 chain()
+floors()

@@ -1,29 +1,33 @@
 #!/usr/bin/env python3
-"""Lines of each listed crate, without blanks, comments and `use` lines: code, definitions and laws, proofs; then the same for what each call has of its own.
+"""Lines of each listed crate, without blanks, comments and `use` lines, and thousands of characters of these lines: code, definitions and laws, proofs; then the same for what each call has of its own.
 With the file of what `rt ci` printed, also the seconds of each proof: tools/sizes.py [LOG]"""
 import re
 import sys
 from pathlib import Path
 
+# what each call has of its own: the beginnings of its crates' names
 CALLS = {
-    "write": "filling write",
-    "landing": "rank stored footing waits landfaults pointing sealing land",
-    "closing": "close",
-    "both reads": "lookup read",
-    "reclaim": "marks counts victim copies reclaim",
-    "restart": "remains groups fronts surveys faults compacts offers load settling dropping mending moving rewriting refitting restart",
-    "rebuild": "restoring decoding reviving rebuild",
-    "the C functions": "hosts told cabi",
+    "write": "call_filling call_write",
+    "landing": "disk_rank disk_stored disk_footers call_land",
+    "closing": "call_close",
+    "both reads": "mem_lookup mem_bounds call_read",
+    "reclaim": "mem_marks call_reclaim call_copy",
+    "restart": "recover_segments recover_groups recover_headers recover_survey recover_check recover_compact recover_addresses recover_tables"
+               " recover_drop recover_footers recover_move recover_rewrite recover_stores law_restart call_restart",
+    "rebuild": "recover_reset recover_decode recover_rebuild call_rebuild",
+    "the C functions": "law_lent api_",
 }
 
 
 def lines(folder, ending, comment):
-    n = 0
+    """lines, and their characters without indentation"""
+    n = chars = 0
     for f in Path(folder).rglob("*" + ending):
         for line in f.read_text().splitlines():
             s = line.strip()
-            n += bool(s) and not s.startswith(comment) and not s.startswith(("use ", "ghost use "))
-    return n
+            if s and not s.startswith((comment, "use ", "ghost use ")):
+                n, chars = n + 1, chars + len(s)
+    return [n, chars]
 
 
 def row(name, figures):
@@ -38,10 +42,12 @@ for entry in Path("crates.txt").read_text().splitlines():
     name = entry.split(":")[0].strip()
     if name and not name.startswith("#"):
         c = "crates/" + name
-        sizes[name] = [lines(c + "/src", ".rt", "//"), lines(c + "/specs", ".antt", "--"), lines(c + "/proofs", ".antt", "--")] + ([seconds.get(name, 0)] if seconds else [])
+        parts = [lines(c + "/src", ".rt", "//"), lines(c + "/specs", ".antt", "--"), lines(c + "/proofs", ".antt", "--")]
+        sizes[name] = [p[0] for p in parts] + [sum(p[1] for p in parts) // 1000] + ([seconds.get(name, 0)] if seconds else [])
 for name, figures in sizes.items():
     print(row(name, figures))
 print(row("all", [sum(x) for x in zip(*sizes.values())]))
 print()
 for call, crates in CALLS.items():
-    print(row(call, [sum(x) for x in zip(*(sizes[c] for c in crates.split()))]))
+    own = [s for c, s in sizes.items() if any(c == b or c.startswith(b.rstrip("_") + "_") for b in crates.split())]
+    print(row(call, [sum(x) for x in zip(*own)]))

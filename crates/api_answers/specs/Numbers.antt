@@ -1,5 +1,5 @@
 -- Refusal 1 of restart and rebuild, on the state's bytes of any length (01, Refusals, 1). Assumes nothing.
-use Prim.Native.Nat.{ℕ, suc, _<_, _≤_}
+use Prim.Native.Nat.{ℕ, _<_, _≤_}
 use Rattle.mem_codec.specs.Codec.{state-read}
 use Rattle.spec.specs.Bytes.{leOf, part}
 use Rattle.spec.specs.Memory.{stateOf}
@@ -10,8 +10,8 @@ use Rattle.spec.specs.Restart.{namesDrive}
 use Rattle.spec.specs.declared.Params.{Params}
 use Rattle.spec.specs.declared.State.{State}
 use Rattle.law_basic.specs.Le.{leOf-part-one}
-use borrow.Author.Tests.{lt-ltb, le-ltb, eq-eqb}
-use lib.Dec.{ltb, eqb}
+use borrow.Author.Tests.{lt-ltb, le-ltb}
+use lib.Dec.{eqb}
 use lib.ListN.{length, getD}
 use mathlib.Core.Bool.{Bool, true, false, _&&_, _||_}
 use mathlib.Core.List.{List, [], _∷_}

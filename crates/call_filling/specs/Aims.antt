@@ -1,8 +1,8 @@
 -- Where a block goes, asked once of the front of the state (01, Write; Refusals, 6 and 7). What the front says is what the state says: both read the same lists. Assumes nothing.
 use Prim.Native.Nat.{ℕ, _+_, _-_, _≤_, _<_}
 use Rattle.spec.specs.Counts.{lastCount}
-use Rattle.spec.specs.Lists.{any, indexOf}
-use Rattle.spec.specs.Memory.{stripeIn, filledIn, isFree, isFull, isFilling, inFlight, freeSlot, fillingSlot, hasFilling, slots, slotCount}
+use Rattle.spec.specs.Lists.{indexOf}
+use Rattle.spec.specs.Memory.{stripeIn, filledIn, isFree, isFull, isFilling, inFlight, freeSlot, fillingSlot, hasFilling, slots}
 use Rattle.spec.specs.Params.{dataCount}
 use Rattle.spec.specs.Write.{mustOpen, opens, noStamp, noSerial, otherGroup, mustWait, slotFor}
 use Rattle.spec.specs.declared.Params.{Params}
@@ -14,9 +14,8 @@ use Rattle.mem_rows.specs.Rows.{frontOf, behind}
 use Rattle.mem_rows.specs.declared.Front.{Front}
 use borrow.Author.Tests.{lt-ltb, le-ltb, le-leb, lt-leb}
 use lib.Dec.{leb, ltb, eqb}
-use lib.ListN.{length}
 use mathlib.Core.Bool.{Bool, true, false, cond, not, _&&_}
-use mathlib.Core.Path.{_≡_, refl, sym, ap, ap₂, _∙_}
+use mathlib.Core.Path.{_≡_, sym, ap, ap₂, _∙_}
 use native.Mathlib.Decide.{decLt}
 use native.Mathlib.Omega.{arith}
 

@@ -1,5 +1,5 @@
 -- The eighth of a stripe whose chunk landed, put back into the state: one law of lists, then field by field (01, Landing). Assumes nothing.
-use mathlib.Core.Path.{_≡_, refl, sym, ap, _∙_}
+use mathlib.Core.Path.{_≡_, sym, ap, _∙_}
 use mathlib.Core.List.{List}
 use mathlib.Core.Bool.{Bool, true, false, cond}
 use Prim.Native.Nat.{ℕ, _+_, _*_, _≤_, _<_}
@@ -10,7 +10,7 @@ use lib.Seq.{getD-set-same, getD-set-other, set-getD}
 use Rattle.spec.specs.declared.Answer.{Answer}
 use Rattle.spec.specs.declared.State.{State}
 use Rattle.spec.specs.Bytes.{part, splice}
-use Rattle.spec.specs.Memory.{mkState, cell, stripeIn, filledIn, landedIn, landedMask, markLanded, freeStripe, setClosed}
+use Rattle.spec.specs.Memory.{mkState, cell, stripeIn, filledIn, landedMask, markLanded, freeStripe, setClosed}
 use Rattle.law_basic.specs.Splice.{getD-part, length-part, splice-part, is-splice}
 use Rattle.mem_rows.specs.declared.Row.{Row}
 use Rattle.mem_rows.specs.declared.Change.{Change}

@@ -9,7 +9,7 @@ use Rattle.spec.specs.Engine.Call.{write}
 use Rattle.spec.specs.Lists.{firstOr}
 use Rattle.spec.specs.Lists.Opt.{none, some}
 use Rattle.spec.specs.Memory.{Memory, mkMemory, zeroState, hasFilling, setStamp, setOpen}
-use Rattle.spec.specs.Params.{inRange, dataCount, addressesLen, compactLen}
+use Rattle.spec.specs.Params.{dataCount, addressesLen, compactLen}
 use Rattle.spec.specs.Write.{opens, Sending, openedBy, slotFor, sending, writeChecks, writePlan, writeVerdict}
 use Rattle.spec.specs.declared.Answer.the-variants.{Cut, Sent}
 use Rattle.spec.specs.declared.Params.{Params}

@@ -1,18 +1,12 @@
 -- No restart in order is refused: what refusals 9 and 8 ask follows from the drive facts, for every choice m. Assumes nothing.
-use mathlib.Core.Path.{_≡_, refl, sym, ap, ap₂, _∙_, subst}
-use mathlib.Core.List.{List, [], _∷_, _++_}
-use mathlib.Core.Logic.{_⊎_, inl, inr, ⊎-elim, _≢_}
-use mathlib.Core.Bool.{Bool, true, false}
-use Prim.Native.Nat.{ℕ, zero, suc, _+_, _≤_, _<_}
+use mathlib.Core.Path.{_≡_, sym, _∙_}
+use mathlib.Core.Logic.{inl, inr, ⊎-elim, _≢_}
+use Prim.Native.Nat.{ℕ, _<_}
 use native.Mathlib.Omega.{arith}
-use native.Mathlib.Decide.{ℕ-discrete, decLt, decLe}
-use lib.ListN.{length, getD, take}
-use Rattle.proof_crash_machine.specs.Val.{Val, 𝟘, _⊕_, ⊕-assoc, ⊕-self, ⊕-zero, xorN, xorN-put}
-use Rattle.proof_crash_machine.specs.Facts.Pair.{alone, pair}
-use Rattle.proof_crash_machine.specs.Lemma.{pair-alone, pair-o, pair-w, counts}
-use Rattle.proof_crash_machine.specs.View.{Item, View, In}
-use Rattle.proof_crash_machine.specs.View.Item.{hdr, chunk, foot}
-use Rattle.proof_crash_machine.specs.Facts.{Par, Pair, Heads, Ghost, InV, Good, Tr, Choice, L, R, Stripe, Datum, Counted, Off, Zone, Used, Whole, Ragged, Facts, used, decL}
+use Rattle.proof_crash_machine.specs.Val.{Val}
+use Rattle.proof_crash_machine.specs.Facts.Pair.{pair}
+use Rattle.proof_crash_machine.specs.View.{View}
+use Rattle.proof_crash_machine.specs.Facts.{Par, Ghost, Good, Tr, Choice, L, R, Stripe, Datum, Zone, Used, Ragged, Facts, used, decL}
 
 pub record Accepts (p : Par) (g : Ghost) (v : View) (m : ℕ) : Type 0 where
   -- pointers, headers, numbers, stored addresses, zone by zone, of the present drives

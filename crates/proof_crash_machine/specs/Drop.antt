@@ -1,17 +1,16 @@
 -- Restart, step 4: the resets of the segments that steps 1 and 2 drop keep the drive facts at every prefix. Assumes nothing.
-use mathlib.Core.Path.{_≡_, refl, sym, ap, ap₂, _∙_, subst}
-use mathlib.Core.List.{List, [], _∷_, _++_}
+use mathlib.Core.Path.{_≡_, refl, sym, _∙_, subst}
+use mathlib.Core.List.{List}
 use mathlib.Core.Logic.{_⊎_, inl, inr, ⊎-elim, _≢_}
-use Prim.Native.Nat.{ℕ, zero, suc, _+_, _≤_, _<_}
+use Prim.Native.Nat.{ℕ, _≤_, _<_}
 use native.Mathlib.Omega.{arith}
-use native.Mathlib.Decide.{ℕ-discrete, decLt, decLe}
-use lib.ListN.{length, getD, take}
-use Rattle.proof_crash_machine.specs.Val.{Val, 𝟘, xorN, xorN-same, decode-all}
+use native.Mathlib.Decide.{ℕ-discrete}
+use Rattle.proof_crash_machine.specs.Val.{Val}
 use Rattle.proof_crash_machine.specs.Facts.Pair.{alone, pair}
-use Rattle.proof_crash_machine.specs.Lemma.{pair-alone, pair-o, pair-w, old-own, counts}
-use Rattle.proof_crash_machine.specs.View.{Item, View, Store, In, cleared, apply, applyAll, AllS, along, along-all}
-use Rattle.proof_crash_machine.specs.View.Store.{put, reset}
-use Rattle.proof_crash_machine.specs.Facts.{Par, Pair, Heads, Ghost, Choice, L, R, Stripe, Datum, Counted, Used, Whole, Moved, Swap, Facts, L-same, used, decL}
+use Rattle.proof_crash_machine.specs.Lemma.{pair-o, old-own}
+use Rattle.proof_crash_machine.specs.View.{View, Store, cleared, apply, applyAll, AllS, along, along-all}
+use Rattle.proof_crash_machine.specs.View.Store.{reset}
+use Rattle.proof_crash_machine.specs.Facts.{Par, Ghost, L, R, Counted, Used, Whole, Moved, Swap, Facts, L-same, used, decL}
 use Rattle.proof_crash_machine.specs.Reset.{Floor, May, reset-kept, Counted-fwd, L-gone, L-back, same}
 use Rattle.proof_crash_machine.specs.Steps.{Prefix}
 use Rattle.proof_crash_machine.specs.Ghosts.{withPr, unpaired}

@@ -1,26 +1,26 @@
 -- The steps can be made: a first restart, a segment opened, a stripe begun, a block sent. Assumes nothing.
-use mathlib.Core.Path.{_≡_, refl, sym, ap, ap₂, _∙_, subst}
-use mathlib.Core.List.{List, [], _∷_, _++_}
-use mathlib.Core.Logic.{_⊎_, inl, inr, ⊎-elim, _≢_}
+use mathlib.Core.Path.{_≡_, refl, sym, ap, _∙_, subst}
+use mathlib.Core.List.{List, [], _∷_}
+use mathlib.Core.Logic.{inl, ⊎-elim, _≢_}
 use mathlib.Core.Bool.{Bool, true, false}
-use Prim.Native.Nat.{ℕ, zero, suc, _+_, _≤_, _<_}
+use Prim.Native.Nat.{ℕ, suc, _<_}
 use native.Mathlib.Omega.{arith}
 use native.Mathlib.Decide.{ℕ-discrete}
-use lib.ListN.{length, take}
+use lib.ListN.{length}
 use Rattle.proof_crash_machine.specs.Val.{Val, 𝟘, pads}
-use Rattle.proof_crash_machine.specs.Facts.Pair.{alone, pair}
-use Rattle.proof_crash_machine.specs.View.{View, Store, Item, In, applyAll, chunk-hdr}
+use Rattle.proof_crash_machine.specs.Facts.Pair.{alone}
+use Rattle.proof_crash_machine.specs.View.{View, Item, In, applyAll, chunk-hdr}
 use Rattle.proof_crash_machine.specs.View.Item.{chunk, hdr}
-use Rattle.proof_crash_machine.specs.Facts.{Par, Heads, Ghost, InV, Counted, Stripe, Used, Ragged}
-use Rattle.proof_crash_machine.specs.Finish.{Reads, finishing, upTo}
+use Rattle.proof_crash_machine.specs.Facts.{Par, Ghost, Stripe, Used}
+use Rattle.proof_crash_machine.specs.Finish.{finishing, upTo}
 use Rattle.proof_crash_machine.specs.Ghosts.{withPr, withSent}
 use Rattle.proof_crash_machine.specs.Name.{naming}
 use Rattle.proof_crash_machine.specs.OpenSeg.{headers, Fresh, opened}
-use Rattle.proof_crash_machine.specs.Memory.{Mem, setAt, setAt-elim, flown}
+use Rattle.proof_crash_machine.specs.Memory.{Mem, setAt-elim, flown}
 use Rattle.proof_crash_machine.specs.Memory2.{restMem, openMem}
 use Rattle.proof_crash_machine.specs.Filling.{filled, unfilled, unfilled-data}
-use Rattle.proof_crash_machine.specs.History.{State, Mode, Step, Run, Inv, Into, Opens, Dropping, at, start, began, kept-all}
-use Rattle.proof_crash_machine.specs.History.Mode.{off, ro, run}
+use Rattle.proof_crash_machine.specs.History.{State, Step, Inv, at, start, began, kept-all}
+use Rattle.proof_crash_machine.specs.History.Mode.{run}
 use Rattle.proof_crash_machine.specs.History.Step.{restart-plain, open-done, begin, send, land, missing}
 use Rattle.proof_crash_machine.specs.History.Run.{stop, then}
 

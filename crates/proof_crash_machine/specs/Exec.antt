@@ -1,19 +1,18 @@
 -- The same by tests, look-ups and maxima, as a restart computes it: the address table is what the facts speak of. Assumes nothing.
 use mathlib.Core.Path.{_≡_, refl, sym, ap, ap₂, _∙_, subst}
-use mathlib.Core.List.{List, [], _∷_, _++_}
+use mathlib.Core.List.{List, [], _∷_}
 use mathlib.Core.Logic.{_⊎_, inl, inr, ⊎-elim, _≢_}
-use mathlib.Core.Bool.{Bool, true, false, cond, not, _&&_, _||_}
-use Prim.Native.Nat.{ℕ, zero, suc, _+_, _≤_, _<_, max}
+use mathlib.Core.Bool.{Bool, true, false, not, _&&_, _||_}
+use Prim.Native.Nat.{ℕ, zero, suc, _≤_, _<_, max}
 use native.Mathlib.Omega.{arith}
 use native.Mathlib.Decide.{ℕ-discrete, decLt, decLe}
 use lib.Dec.{eqb, ltb}
-use borrow.Author.Tests.{eqb-true, eqb-false, eq-eqb, ne-eqb, ltb-true, lt-ltb, not-true}
-use lib.ListN.{length, getD, take}
-use Rattle.proof_crash_machine.specs.Val.{Val, 𝟘, _⊕_, ⊕-self, xorN, xorN-same, xorN-put, decode-all}
-use Rattle.proof_crash_machine.specs.Facts.Pair.{alone, pair}
-use Rattle.proof_crash_machine.specs.View.{Item, View, In, chunk-val, chunk-num, chunk-hdr, chunk-foot, in-some}
+use borrow.Author.Tests.{eqb-true, eq-eqb, ltb-true, lt-ltb}
+use lib.ListN.{length, getD}
+use Rattle.proof_crash_machine.specs.Val.{Val, 𝟘, _⊕_, ⊕-self, xorN, xorN-put, decode-all}
+use Rattle.proof_crash_machine.specs.View.{Item, View, In, chunk-num, chunk-hdr, chunk-foot, in-some}
 use Rattle.proof_crash_machine.specs.View.Item.{hdr, chunk, foot}
-use Rattle.proof_crash_machine.specs.Facts.{Par, Pair, Heads, Ghost, Tr, Choice, L, R, Stripe, Datum, Counted, Off, Zone, Used, Facts, used}
+use Rattle.proof_crash_machine.specs.Facts.{Par, Ghost, Tr, Choice, L, R, Stripe, Counted, Off, Used, Facts, used}
 use Rattle.proof_crash_machine.specs.Rewrite.{present}
 use Rattle.proof_crash_machine.specs.Rebuild.{in-off, once-in}
 use Rattle.proof_crash_machine.specs.Finish.{Reads}

@@ -1,18 +1,16 @@
 -- Stripes in flight: one begins, a block goes in (a write, a copy, padding), footers, a segment is sealed. Assumes nothing.
 use mathlib.Core.Path.{_≡_, refl, sym, ap, ap₂, _∙_, subst}
-use mathlib.Core.List.{List, [], _∷_, _++_}
-use mathlib.Core.Logic.{_⊎_, inl, inr, ⊎-elim, _≢_}
+use mathlib.Core.List.{List}
+use mathlib.Core.Logic.{inl, ⊎-elim, _≢_}
 use mathlib.Core.Bool.{Bool, true, false}
-use Prim.Native.Nat.{ℕ, zero, suc, _+_, _≤_, _<_}
+use Prim.Native.Nat.{ℕ, _<_}
 use native.Mathlib.Omega.{arith}
-use native.Mathlib.Decide.{ℕ-discrete, decLt, decLe}
-use lib.ListN.{length, getD, take}
-use Rattle.proof_crash_machine.specs.Val.{Val, 𝟘, pads, pads-stamp, _⊕_, ⊕-assoc, ⊕-comm, ⊕-self, ⊕-zero, ⊕-back, ⊕-right, xorN, xorN-put, xorN-change}
-use Rattle.proof_crash_machine.specs.Facts.Pair.{alone, pair}
-use Rattle.proof_crash_machine.specs.Lemma.{pair-alone, pair-o, pair-w, counts}
+use native.Mathlib.Decide.{ℕ-discrete}
+use lib.ListN.{length}
+use Rattle.proof_crash_machine.specs.Val.{Val, 𝟘, pads, pads-stamp, _⊕_, ⊕-assoc, ⊕-comm, ⊕-self, ⊕-zero, ⊕-right, xorN, xorN-put, xorN-change}
 use Rattle.proof_crash_machine.specs.View.{Item, View, In, after, chunk-foot}
-use Rattle.proof_crash_machine.specs.View.Item.{hdr, chunk, foot}
-use Rattle.proof_crash_machine.specs.Facts.{Par, Pair, Heads, Ghost, InV, Good, Tr, Choice, Stripe, Datum, Used, Whole, Ragged, Facts}
+use Rattle.proof_crash_machine.specs.View.Item.{chunk, foot}
+use Rattle.proof_crash_machine.specs.Facts.{Par, Ghost, Good, Datum, Ragged}
 use Rattle.proof_crash_machine.specs.Memory.{Mem, MemOk, Flight, Ok, setAt, setAt-elim}
 use Rattle.proof_crash_machine.specs.Put
 

@@ -1,16 +1,12 @@
 -- (7) What a finished restart reads, from the drive facts. Assumes nothing.
-use mathlib.Core.Path.{_≡_, refl, sym, ap, ap₂, _∙_, subst}
-use mathlib.Core.List.{List, [], _∷_, _++_}
-use mathlib.Core.Logic.{_⊎_, inl, inr, ⊎-elim, _≢_}
-use Prim.Native.Nat.{ℕ, zero, suc, _+_, _≤_, _<_}
+use mathlib.Core.Path.{_≡_, ap}
+use mathlib.Core.Logic.{_⊎_, inl, inr, ⊎-elim}
+use Prim.Native.Nat.{ℕ, _≤_, _<_}
 use native.Mathlib.Omega.{arith}
-use native.Mathlib.Decide.{ℕ-discrete, decLt, decLe}
-use lib.ListN.{length, getD, take}
-use Rattle.proof_crash_machine.specs.Val.{Val, 𝟘, pads, pads-stamp, xorN, xorN-same, decode-all}
-use Rattle.proof_crash_machine.specs.Facts.Pair.{alone, pair}
-use Rattle.proof_crash_machine.specs.Lemma.{pair-alone, pair-o, pair-w, old-own, counts}
-use Rattle.proof_crash_machine.specs.View.{Item, View, In}
-use Rattle.proof_crash_machine.specs.Facts.{Par, Pair, Heads, Ghost, InV, Good, Choice, Stripe, Datum, Counted, Parity, Swap, Content, Facts}
+use Rattle.proof_crash_machine.specs.Val.{Val, pads, pads-stamp}
+use Rattle.proof_crash_machine.specs.Lemma.{counts}
+use Rattle.proof_crash_machine.specs.View.{View}
+use Rattle.proof_crash_machine.specs.Facts.{Par, Ghost, InV, Choice, Counted, Facts}
 use Rattle.proof_crash_machine.specs.Finish.{Reads}
 
 -- K is what a restart that names m reads, on drives with the facts

@@ -1,18 +1,18 @@
 -- A restart has finished: v, base, fresh and cur begin anew. Assumes nothing.
-use mathlib.Core.Path.{_≡_, refl, sym, ap, ap₂, _∙_, subst}
-use mathlib.Core.List.{List, [], _∷_, _++_}
+use mathlib.Core.Path.{_≡_, refl, sym, _∙_, subst}
+use mathlib.Core.List.{List, [], _∷_}
 use mathlib.Core.Logic.{_⊎_, inl, inr, ⊎-elim, _≢_}
-use Prim.Native.Nat.{ℕ, zero, suc, _+_, _≤_, _<_}
+use Prim.Native.Nat.{ℕ, _≤_, _<_}
 use native.Mathlib.Omega.{arith}
-use native.Mathlib.Decide.{ℕ-discrete, decLt, decLe}
-use lib.ListN.{length, getD, take}
-use Rattle.proof_crash_machine.specs.Val.{Val, 𝟘, xorN, xorN-same, decode-all}
-use Rattle.proof_crash_machine.specs.Facts.Pair.{alone, pair}
-use Rattle.proof_crash_machine.specs.Lemma.{pair-alone, pair-o, pair-w, old-own, counts}
-use Rattle.proof_crash_machine.specs.View.{Item, View, In}
-use Rattle.proof_crash_machine.specs.View.Item.{hdr, chunk, foot}
-use Rattle.proof_crash_machine.specs.Facts.{Par, Pair, Heads, Ghost, InV, Good, Tr, Choice, L, R, Stripe, Datum, Counted, Off, Zone, Parity, Used, Whole}
-use Rattle.proof_crash_machine.specs.Facts.{Moved, Swap, Ragged, Open, Content, Facts, used}
+use native.Mathlib.Decide.{ℕ-discrete, decLe}
+use lib.ListN.{length}
+use Rattle.proof_crash_machine.specs.Val.{Val, decode-all}
+use Rattle.proof_crash_machine.specs.Facts.Pair.{alone}
+use Rattle.proof_crash_machine.specs.Lemma.{pair-alone}
+use Rattle.proof_crash_machine.specs.View.{View, In}
+use Rattle.proof_crash_machine.specs.View.Item.{chunk}
+use Rattle.proof_crash_machine.specs.Facts.{Par, Heads, Ghost, InV, Good, Tr, Choice, R, Stripe, Datum, Counted, Zone, Used, Whole}
+use Rattle.proof_crash_machine.specs.Facts.{Moved, Facts, used}
 
 -- K is what a restart that names m reads: at each address the greatest counted stamp
 pub record Reads (p : Par) (h : Heads) (v : View) (m : ℕ) (K : ℕ → ℕ) : Type 0 where

@@ -1,17 +1,16 @@
 -- A footer block keeps the drive facts: nothing that counts is changed. Assumes nothing.
-use mathlib.Core.Path.{_≡_, refl, sym, ap, ap₂, _∙_, subst}
+use mathlib.Core.Path.{_≡_, sym, _∙_}
 use mathlib.Core.List.{List, [], _∷_, _++_}
-use mathlib.Core.Logic.{_⊎_, inl, inr, ⊎-elim, _≢_}
-use Prim.Native.Nat.{ℕ, zero, suc, _+_, _≤_, _<_}
+use mathlib.Core.Logic.{inl, inr, ⊎-elim}
+use Prim.Native.Nat.{ℕ, suc, _≤_, _<_}
 use native.Mathlib.Omega.{arith}
-use native.Mathlib.Decide.{ℕ-discrete, decLt, decLe}
-use lib.ListN.{length, getD, take}
-use Rattle.proof_crash_machine.specs.Val.{Val, 𝟘, xorN, xorN-same, decode-all}
-use Rattle.proof_crash_machine.specs.Facts.Pair.{alone, pair}
-use Rattle.proof_crash_machine.specs.Lemma.{pair-alone, pair-o, pair-w, old-own, counts}
+use lib.ListN.{length}
+use Rattle.proof_crash_machine.specs.Val.{Val}
+use Rattle.proof_crash_machine.specs.Facts.Pair.{pair}
+use Rattle.proof_crash_machine.specs.Lemma.{counts}
 use Rattle.proof_crash_machine.specs.View.{Item, View, In, after, in-cases, chunk-foot}
-use Rattle.proof_crash_machine.specs.View.Item.{hdr, chunk, foot}
-use Rattle.proof_crash_machine.specs.Facts.{Par, Pair, Heads, Ghost, Tr, Choice, L, R, Stripe, Datum, Counted, Off, Zone, Parity, Used, Whole, Moved, Swap, Ragged, Open, Content, Facts}
+use Rattle.proof_crash_machine.specs.View.Item.{chunk, foot}
+use Rattle.proof_crash_machine.specs.Facts.{Par, Ghost, Tr, Stripe, Counted, Off, Zone, Used, Whole, Ragged, Facts}
 use Rattle.proof_crash_machine.specs.Put
 
 module _ (p : Par) (g : Ghost) (v : View) (d z j : ℕ) (drive : Tr p (g .un) d) (begun : 0 < length (v d z)) (room : length (v d z) < p .cap)

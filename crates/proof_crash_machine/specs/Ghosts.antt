@@ -1,17 +1,13 @@
 -- The ghost changes alone: a block is sent, writes are acknowledged, a pair has ended. Assumes nothing.
-use mathlib.Core.Path.{_≡_, refl, sym, ap, ap₂, _∙_, subst}
-use mathlib.Core.List.{List, [], _∷_, _++_}
-use mathlib.Core.Logic.{_⊎_, inl, inr, ⊎-elim, _≢_}
-use Prim.Native.Nat.{ℕ, zero, suc, _+_, _≤_, _<_}
-use native.Mathlib.Omega.{arith}
-use native.Mathlib.Decide.{ℕ-discrete, decLt}
-use lib.ListN.{length, getD}
-use Rattle.proof_crash_machine.specs.Val.{Val, 𝟘, xorN, xorN-same, decode-all}
-use Rattle.proof_crash_machine.specs.View.{Item, View, In, chunk-val, chunk-num}
-use Rattle.proof_crash_machine.specs.View.Item.{hdr, chunk, foot}
+use mathlib.Core.Path.{_≡_, sym, _∙_}
+use mathlib.Core.List.{List, _∷_}
+use mathlib.Core.Logic.{_⊎_, inl, inr, ⊎-elim}
+use Prim.Native.Nat.{ℕ, _≤_, _<_}
+use Rattle.proof_crash_machine.specs.Val.{Val}
+use Rattle.proof_crash_machine.specs.View.{View}
 use Rattle.proof_crash_machine.specs.Facts.Pair.{alone, pair}
-use Rattle.proof_crash_machine.specs.Lemma.{pair-alone, pair-o, pair-w, old-own}
-use Rattle.proof_crash_machine.specs.Facts.{Par, Pair, Heads, Ghost, InV, Good, Tr, Choice, L, R, Stripe, Datum, Counted, Zone, Parity, Used, Whole, Moved, Swap, Ragged, Open, Content, Facts}
+use Rattle.proof_crash_machine.specs.Lemma.{pair-alone}
+use Rattle.proof_crash_machine.specs.Facts.{Par, Pair, Ghost, Good, Counted, Zone, Used, Facts}
 
 abbrev pub withPr : Ghost → Pair → Ghost
 withPr g b = record { un = g .un; hd = g .hd; pr = b; sent = g .sent; last = g .last; base = g .base; top = g .top }

@@ -1,16 +1,16 @@
 -- (5) A header stored in an empty zone keeps the drive facts: of a segment opened by a write, and of a rewrite. Assumes nothing.
-use mathlib.Core.Path.{_≡_, refl, sym, ap, ap₂, _∙_, subst}
-use mathlib.Core.List.{List, [], _∷_, _++_}
+use mathlib.Core.Path.{_≡_, refl, sym, ap, _∙_, subst}
+use mathlib.Core.List.{List, [], _∷_}
 use mathlib.Core.Logic.{_⊎_, inl, inr, ⊎-elim, _≢_}
-use Prim.Native.Nat.{ℕ, zero, suc, _+_, _≤_, _<_}
+use Prim.Native.Nat.{ℕ, _≤_, _<_}
 use native.Mathlib.Omega.{arith}
-use native.Mathlib.Decide.{ℕ-discrete, decLt}
-use lib.ListN.{length, getD}
-use Rattle.proof_crash_machine.specs.Val.{Val, 𝟘, xorN}
+use native.Mathlib.Decide.{ℕ-discrete}
+use lib.ListN.{length}
+use Rattle.proof_crash_machine.specs.Val.{Val}
 use Rattle.proof_crash_machine.specs.View.{Item, View, In, after, chunk-hdr}
-use Rattle.proof_crash_machine.specs.View.Item.{hdr, chunk, foot}
-use Rattle.proof_crash_machine.specs.Facts.{Par, Pair, Ghost, Good, Tr, Choice, L, R, Stripe, Datum, Counted, Off, Zone, Parity, Used, Whole, Moved, Swap, Ragged, Open, Content, Facts, used}
-use Rattle.proof_crash_machine.specs.Facts.Pair.{alone, pair}
+use Rattle.proof_crash_machine.specs.View.Item.{hdr, chunk}
+use Rattle.proof_crash_machine.specs.Facts.{Par, Ghost, L, Stripe, Counted, Zone, Used, Whole, Swap, Ragged, Open, Content, Facts, used}
+use Rattle.proof_crash_machine.specs.Facts.Pair.{pair}
 use Rattle.proof_crash_machine.specs.Put
 
 pub zone-head : (p : Par) (g : Ghost) (d w : ℕ) → 0 < p .cap → Zone p g d w (hdr (g .hd .ser w) (g .hd .cop w) ∷ [])

@@ -1,21 +1,20 @@
 -- Every history: the invariant is kept by each step, cut or not, and each finished restart reads what it should. Assumes nothing.
-use mathlib.Core.Path.{_≡_, refl, sym, ap, ap₂, _∙_, subst}
+use mathlib.Core.Path.{_≡_, refl, sym, ap, _∙_, subst}
 use mathlib.Core.List.{List, [], _∷_, _++_}
 use mathlib.Core.Logic.{_⊎_, inl, inr, ⊎-elim, _≢_}
 use mathlib.Core.Bool.{Bool, true, false}
-use Prim.Native.Nat.{ℕ, zero, suc, _+_, _≤_, _<_}
+use Prim.Native.Nat.{ℕ, suc, _≤_, _<_}
 use native.Mathlib.Omega.{arith}
-use native.Mathlib.Decide.{ℕ-discrete, decLt, decLe}
-use lib.ListN.{length, getD, take}
-use Rattle.proof_crash_machine.specs.Val.{Val, 𝟘, pads, xorN}
+use native.Mathlib.Decide.{ℕ-discrete}
+use lib.ListN.{length, take}
+use Rattle.proof_crash_machine.specs.Val.{Val, pads}
 use Rattle.proof_crash_machine.specs.Facts.Pair.{alone, pair}
-use Rattle.proof_crash_machine.specs.Lemma.{pair-alone, pair-o, pair-w, counts}
-use Rattle.proof_crash_machine.specs.View.{Item, View, Store, In, after, apply, applyAll, AllS, resets}
-use Rattle.proof_crash_machine.specs.View.Item.{hdr, chunk, foot}
-use Rattle.proof_crash_machine.specs.View.Store.{put, reset}
+use Rattle.proof_crash_machine.specs.Lemma.{pair-alone, counts}
+use Rattle.proof_crash_machine.specs.View.{View, Store, In, after, applyAll, AllS, resets}
+use Rattle.proof_crash_machine.specs.View.Item.{chunk, foot}
+use Rattle.proof_crash_machine.specs.View.Store.{reset}
 use Rattle.proof_crash_machine.specs.Rest.{InS, Dropped, Unsealed, rest-of, clean-of}
-use Rattle.proof_crash_machine.specs.Facts.{Par, Pair, Heads, Ghost, InV, Good, Tr, Choice, L, R, Stripe, Datum, Counted, Zone, Used, Whole, Ragged, Facts}
-use Rattle.proof_crash_machine.specs.Steps.{Prefix}
+use Rattle.proof_crash_machine.specs.Facts.{Par, Heads, Ghost, InV, Choice, R, Stripe, Datum, Counted, Used, Whole, Ragged, Facts}
 use Rattle.proof_crash_machine.specs.Ghosts.{withPr, withBase, withSent, sending, raised}
 use Rattle.proof_crash_machine.specs.Name.{naming}
 use Rattle.proof_crash_machine.specs.Drop.{DropOf, dropped, dropped-end, settled}

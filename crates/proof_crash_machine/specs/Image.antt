@@ -1,11 +1,9 @@
 -- How the view comes from cells and write pointers: the view of a store is the store on the view. Assumes nothing.
-use mathlib.Core.Path.{_≡_, refl, sym, ap, ap₂, _∙_, subst}
+use mathlib.Core.Path.{_≡_, refl, ap₂}
 use mathlib.Core.List.{List, [], _∷_, _++_}
-use mathlib.Core.Logic.{_⊎_, inl, inr, _≢_}
-use Prim.Native.Nat.{ℕ, zero, suc, _+_, _≤_, _<_}
+use Prim.Native.Nat.{ℕ, zero, suc, _<_}
 use native.Mathlib.Omega.{arith}
 use native.Mathlib.Decide.{ℕ-discrete}
-use lib.ListN.{length}
 use Rattle.proof_crash_machine.specs.View.{Item, View, after, cleared, upd, pick}
 use Rattle.proof_crash_machine.specs.Memory.{choose, setAt, setAt-elim}
 

@@ -1,17 +1,16 @@
 -- (3) A landed chunk keeps the drive facts. Assumes nothing.
-use mathlib.Core.Path.{_≡_, refl, sym, ap, ap₂, _∙_, subst}
+use mathlib.Core.Path.{_≡_, refl, sym, ap, _∙_, subst}
 use mathlib.Core.List.{List, [], _∷_, _++_}
 use mathlib.Core.Logic.{_⊎_, inl, inr, ⊎-elim, _≢_}
-use Prim.Native.Nat.{ℕ, zero, suc, _+_, _≤_, _<_}
+use Prim.Native.Nat.{ℕ, zero, suc, _≤_, _<_}
 use native.Mathlib.Omega.{arith}
-use native.Mathlib.Decide.{ℕ-discrete, decLt}
-use lib.ListN.{length, getD, length-append}
+use native.Mathlib.Decide.{ℕ-discrete}
+use lib.ListN.{length}
 use Rattle.proof_crash_machine.specs.Val.{Val, 𝟘, xorN, xorN-same, decode-all}
 use Rattle.proof_crash_machine.specs.View.{Item, View, In, after, chunk-val, chunk-num}
-use Rattle.proof_crash_machine.specs.View.Item.{hdr, chunk, foot}
-use Rattle.proof_crash_machine.specs.Facts.{Par, Pair, Ghost, Good, Tr, Choice, L, R, Stripe, Datum, Counted, Off, Zone, Parity, Used, Whole, Moved, Swap, Open, Content, Facts}
-use Rattle.proof_crash_machine.specs.Facts.Pair.{alone, pair}
-use Rattle.proof_crash_machine.specs.Lemma.{pair-alone}
+use Rattle.proof_crash_machine.specs.View.Item.{chunk}
+use Rattle.proof_crash_machine.specs.Facts.{Par, Ghost, Good, Tr, Stripe, Datum, Counted, Off, Zone, Parity, Used, Whole, Swap, Open, Content, Facts}
+use Rattle.proof_crash_machine.specs.Facts.Pair.{pair}
 use Rattle.proof_crash_machine.specs.Put
 
 -- what memory knows of a chunk that lands (M3, M5, M6, M7)

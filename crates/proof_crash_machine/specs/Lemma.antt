@@ -1,14 +1,12 @@
 -- (2) What counts with none missing counts whichever drive is missing. Assumes nothing.
-use mathlib.Core.Path.{_≡_, refl, sym, ap, ap₂, _∙_, subst}
-use mathlib.Core.List.{List, [], _∷_, _++_}
-use mathlib.Core.Logic.{_⊎_, inl, inr, ⊎-elim, _≢_}
-use Prim.Native.Nat.{ℕ, zero, suc, _+_, _≤_, _<_}
+use mathlib.Core.Path.{_≡_, refl, sym, _∙_, subst}
+use mathlib.Core.Logic.{_⊎_, inl, inr}
+use Prim.Native.Nat.{ℕ, _≤_}
 use native.Mathlib.Omega.{arith}
-use native.Mathlib.Decide.{ℕ-discrete, decLt}
-use lib.ListN.{length}
-use Rattle.proof_crash_machine.specs.Val.{Val, 𝟘, xorN}
-use Rattle.proof_crash_machine.specs.View.{Item, View, In}
-use Rattle.proof_crash_machine.specs.Facts.{Par, Pair, Ghost, Tr, Choice, L, R, Stripe, Datum, Counted, Used, Whole, Moved, Swap, Facts, decL, L-none, Stripe-none, used, whole-L}
+use native.Mathlib.Decide.{ℕ-discrete}
+use Rattle.proof_crash_machine.specs.Val.{Val}
+use Rattle.proof_crash_machine.specs.View.{View}
+use Rattle.proof_crash_machine.specs.Facts.{Par, Pair, Ghost, Choice, L, R, Stripe, Datum, Counted, Used, Whole, Moved, Swap, decL, L-none, Stripe-none, used, whole-L}
 use Rattle.proof_crash_machine.specs.Facts.Pair.{alone, pair}
 
 pub pair-w : {w o a b : ℕ} → pair w o ≡ pair a b → w ≡ a

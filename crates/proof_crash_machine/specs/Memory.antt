@@ -1,21 +1,21 @@
 -- Memory between uncut calls (M2 to M7, as far as demand 3 needs them), and how calls keep them. Assumes nothing.
-use mathlib.Core.Path.{_≡_, refl, sym, ap, ap₂, _∙_, subst}
-use mathlib.Core.List.{List, [], _∷_, _++_}
+use mathlib.Core.Path.{_≡_, refl, sym, ap₂, _∙_, subst}
+use mathlib.Core.List.{List}
 use mathlib.Core.Logic.{_⊎_, inl, inr, ⊎-elim, _≢_}
 use mathlib.Core.Bool.{Bool, true, false}
-use Prim.Native.Nat.{ℕ, zero, suc, _+_, _≤_, _<_}
+use Prim.Native.Nat.{ℕ, zero, suc, _≤_, _<_}
 use native.Mathlib.Omega.{arith}
-use native.Mathlib.Decide.{ℕ-discrete, decLt, decLe}
-use lib.ListN.{length, getD, take}
+use native.Mathlib.Decide.{ℕ-discrete}
+use lib.ListN.{length}
 use Rattle.proof_crash_machine.specs.Val.{Val, 𝟘, xorN}
 use Rattle.proof_crash_machine.specs.Facts.Pair.{alone, pair}
-use Rattle.proof_crash_machine.specs.Lemma.{pair-alone, pair-o, pair-w}
-use Rattle.proof_crash_machine.specs.View.{Item, View, Store, In, after, cleared, apply, applyAll, chunk-num, chunk-val, in-some}
-use Rattle.proof_crash_machine.specs.View.Item.{hdr, chunk, foot}
-use Rattle.proof_crash_machine.specs.Facts.{Par, Pair, Heads, Ghost, InV, Good, Tr, Choice, L, R, Stripe, Datum, Counted, Used, Whole, Ragged, Facts, used}
+use Rattle.proof_crash_machine.specs.Lemma.{pair-alone}
+use Rattle.proof_crash_machine.specs.View.{Item, View, In, after, chunk-num, chunk-val}
+use Rattle.proof_crash_machine.specs.View.Item.{chunk}
+use Rattle.proof_crash_machine.specs.Facts.{Par, Ghost, InV, Good, R, Datum, Counted, Used, Whole, Ragged, Facts, used}
 use Rattle.proof_crash_machine.specs.Put
 use Rattle.proof_crash_machine.specs.Land.{Landing, landed}
-use Rattle.proof_crash_machine.specs.Ghosts.{withBase, withSent, sending, raised}
+use Rattle.proof_crash_machine.specs.Ghosts.{withBase, withSent}
 use Rattle.proof_crash_machine.specs.Reset as Reset
 
 -- ---- functions changed at one place

@@ -1,18 +1,17 @@
 -- Memory facts after a reclaim that resets, after an opening, and after a restart. Assumes nothing.
-use mathlib.Core.Path.{_≡_, refl, sym, ap, ap₂, _∙_, subst}
-use mathlib.Core.List.{List, [], _∷_, _++_}
-use mathlib.Core.Logic.{_⊎_, inl, inr, ⊎-elim, _≢_}
+use mathlib.Core.Path.{_≡_, refl, sym, _∙_, subst}
+use mathlib.Core.List.{List, [], _∷_}
+use mathlib.Core.Logic.{⊎-elim, _≢_}
 use mathlib.Core.Bool.{Bool, true, false}
 use Prim.Native.Nat.{ℕ, zero, suc, _+_, _≤_, _<_}
 use native.Mathlib.Omega.{arith}
-use native.Mathlib.Decide.{ℕ-discrete, decLt, decLe}
-use lib.ListN.{length, getD, take}
-use Rattle.proof_crash_machine.specs.Val.{Val, 𝟘, xorN}
-use Rattle.proof_crash_machine.specs.Facts.Pair.{alone, pair}
-use Rattle.proof_crash_machine.specs.Lemma.{pair-alone, pair-o, pair-w, counts}
-use Rattle.proof_crash_machine.specs.View.{Item, View, Store, In, cleared, apply, applyAll, resets, chunk-hdr}
-use Rattle.proof_crash_machine.specs.View.Item.{hdr, chunk, foot}
-use Rattle.proof_crash_machine.specs.Facts.{Par, Pair, Heads, Ghost, InV, Good, Tr, Choice, Datum, Used, Whole, Ragged, Facts}
+use native.Mathlib.Decide.{ℕ-discrete}
+use lib.ListN.{length}
+use Rattle.proof_crash_machine.specs.Val.{Val, 𝟘}
+use Rattle.proof_crash_machine.specs.Facts.Pair.{alone}
+use Rattle.proof_crash_machine.specs.View.{Item, View, In, cleared, apply, applyAll, resets, chunk-hdr}
+use Rattle.proof_crash_machine.specs.View.Item.{hdr, chunk}
+use Rattle.proof_crash_machine.specs.Facts.{Par, Ghost, Tr, Used, Whole, Ragged}
 use Rattle.proof_crash_machine.specs.Reset.{gone, zone-kept, drive-kept}
 use Rattle.proof_crash_machine.specs.Name.{naming, setN, setN-same, setN-other}
 use Rattle.proof_crash_machine.specs.Finish.{Clean, finishing, upTo, upTo-le}

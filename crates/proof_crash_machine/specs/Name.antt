@@ -1,18 +1,15 @@
 -- (5) A segment not in use gets its serials, and may become the new one of a pair, with no store: the ghost changes alone. Assumes nothing.
 use mathlib.Core.Path.{_≡_, refl, sym, ap, ap₂, _∙_, subst}
-use mathlib.Core.List.{List, [], _∷_, _++_}
-use mathlib.Core.Logic.{_⊎_, inl, inr, ⊎-elim, _≢_}
-use Prim.Native.Nat.{ℕ, zero, suc, _+_, _≤_, _<_}
-use native.Mathlib.Omega.{arith}
-use native.Mathlib.Decide.{ℕ-discrete, decLt}
-use lib.ListN.{length, getD}
-use Rattle.proof_crash_machine.specs.Val.{Val, 𝟘, xorN}
-use Rattle.proof_crash_machine.specs.View.{Item, View, In}
-use Rattle.proof_crash_machine.specs.View.Item.{hdr, chunk, foot}
-use Rattle.proof_crash_machine.specs.Facts.{Par, Pair, Heads, Ghost, Good, Tr, Choice, L, R, Stripe, Datum, Counted, Off, Zone, Parity, Used, Whole}
-use Rattle.proof_crash_machine.specs.Facts.{Moved, Swap, Ragged, Open, Content, Facts, used}
+use mathlib.Core.Logic.{inl, inr, ⊎-elim, _≢_}
+use Prim.Native.Nat.{ℕ, _≤_, _<_}
+use native.Mathlib.Decide.{ℕ-discrete}
+use Rattle.proof_crash_machine.specs.Val.{Val}
+use Rattle.proof_crash_machine.specs.View.{View}
+use Rattle.proof_crash_machine.specs.View.Item.{hdr}
+use Rattle.proof_crash_machine.specs.Facts.{Par, Pair, Ghost, Choice, R, Counted, Zone, Used, Whole}
+use Rattle.proof_crash_machine.specs.Facts.{Facts, used}
 use Rattle.proof_crash_machine.specs.Facts.Pair.{alone, pair}
-use Rattle.proof_crash_machine.specs.Lemma.{pair-alone, pair-o, pair-w}
+use Rattle.proof_crash_machine.specs.Lemma.{pair-alone}
 
 abbrev pub pickN : {P : Type 0} → Dec P → ℕ → ℕ → ℕ
 pickN (yes q) a b = a

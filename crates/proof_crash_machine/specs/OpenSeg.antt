@@ -1,22 +1,21 @@
 -- A segment is opened: its headers on all drives, at every prefix. Assumes nothing.
-use mathlib.Core.Path.{_≡_, refl, sym, ap, ap₂, _∙_, subst}
+use mathlib.Core.Path.{_≡_, refl, sym, ap, _∙_, subst}
 use mathlib.Core.List.{List, [], _∷_, _++_}
-use mathlib.Core.Logic.{_⊎_, inl, inr, ⊎-elim, _≢_}
-use mathlib.Core.Bool.{Bool, true, false}
-use Prim.Native.Nat.{ℕ, zero, suc, _+_, _≤_, _<_}
+use mathlib.Core.Logic.{inl, ⊎-elim, _≢_}
+use Prim.Native.Nat.{ℕ, suc, _≤_, _<_}
 use native.Mathlib.Omega.{arith}
-use native.Mathlib.Decide.{ℕ-discrete, decLt, decLe}
-use lib.ListN.{length, getD, take}
-use Rattle.proof_crash_machine.specs.Val.{Val, 𝟘, xorN}
-use Rattle.proof_crash_machine.specs.Facts.Pair.{alone, pair}
-use Rattle.proof_crash_machine.specs.Lemma.{pair-alone, pair-o, pair-w}
+use native.Mathlib.Decide.{ℕ-discrete, decLt}
+use lib.ListN.{length}
+use Rattle.proof_crash_machine.specs.Val.{Val}
+use Rattle.proof_crash_machine.specs.Facts.Pair.{alone}
+use Rattle.proof_crash_machine.specs.Lemma.{pair-alone}
 use Rattle.proof_crash_machine.specs.View.{Item, View, Store, In, after, apply, applyAll, chunk-hdr, upd-same}
-use Rattle.proof_crash_machine.specs.View.Item.{hdr, chunk, foot}
-use Rattle.proof_crash_machine.specs.View.Store.{put, reset}
-use Rattle.proof_crash_machine.specs.Facts.{Par, Pair, Heads, Ghost, InV, Good, Tr, Choice, L, R, Stripe, Datum, Counted, Used, Whole, Ragged, Facts, used}
+use Rattle.proof_crash_machine.specs.View.Item.{hdr, chunk}
+use Rattle.proof_crash_machine.specs.View.Store.{put}
+use Rattle.proof_crash_machine.specs.Facts.{Par, Ghost, Used, Ragged, Facts}
 use Rattle.proof_crash_machine.specs.Put
 use Rattle.proof_crash_machine.specs.Header.{Opening, headed}
-use Rattle.proof_crash_machine.specs.Name.{setN, setN-same, setN-other, naming, named}
+use Rattle.proof_crash_machine.specs.Name.{setN-same, setN-other, naming, named}
 use Rattle.proof_crash_machine.specs.Steps.{list, Prefix, list-prefix, list-end}
 
 -- the stores

@@ -1,17 +1,15 @@
 -- The order of sends: what a finished restart reads is no earlier than any acknowledged block of that address. Assumes nothing.
-use mathlib.Core.Path.{_≡_, refl, sym, ap, ap₂, _∙_, subst}
-use mathlib.Core.List.{List, [], _∷_, _++_}
-use mathlib.Core.Logic.{_⊎_, inl, inr, ⊎-elim, _≢_}
-use mathlib.Core.Bool.{Bool, true, false}
-use Prim.Native.Nat.{ℕ, zero, suc, _+_, _≤_, _<_}
+use mathlib.Core.Path.{_≡_, refl, sym, ap, _∙_}
+use mathlib.Core.List.{List, _∷_}
+use mathlib.Core.Logic.{_⊎_, inl, inr}
+use Prim.Native.Nat.{ℕ, suc, _≤_, _<_}
 use native.Mathlib.Omega.{arith}
-use native.Mathlib.Decide.{ℕ-discrete, decLt, decLe}
+use native.Mathlib.Decide.{decLt}
 use Rattle.proof_crash_machine.specs.Val.{Val, 𝟘}
 use Rattle.proof_crash_machine.specs.Facts.{Par, InV}
-use Rattle.proof_crash_machine.specs.Finish.{upTo, upTo-le}
-use Rattle.proof_crash_machine.specs.Memory.{Mem, MemOk, setAt, setAt-elim}
-use Rattle.proof_crash_machine.specs.History.{State, Mode, Step, Run, Inv, Claim, ClaimOf, claims, kept, start, began, mem-of}
-use Rattle.proof_crash_machine.specs.History.Mode.{run}
+use Rattle.proof_crash_machine.specs.Finish.{upTo-le}
+use Rattle.proof_crash_machine.specs.Memory.{setAt, setAt-elim}
+use Rattle.proof_crash_machine.specs.History.{State, Step, Run, Inv, Claim, kept, start, began, mem-of}
 use Rattle.proof_crash_machine.specs.History.Step.{ack, begin, close, copy, footer, land, lose, missing, open-cut, open-done, rebuild, rebuild-done, rebuild-store}
 use Rattle.proof_crash_machine.specs.History.Step.{reset-cut, reset-done, restart, restart-cut₁, restart-cut₂, restart-footer, restart-plain, seal, send}
 use Rattle.proof_crash_machine.specs.History.Run.{stop, then}

@@ -1,16 +1,16 @@
 -- (1) What one more item in a zone that is not empty leaves as it was. Assumes nothing.
-use mathlib.Core.Path.{_≡_, refl, sym, ap, ap₂, _∙_, subst}
+use mathlib.Core.Path.{_≡_, sym, _∙_, subst}
 use mathlib.Core.List.{List, [], _∷_, _++_}
 use mathlib.Core.Logic.{_⊎_, inl, inr, ⊎-elim, _≢_}
-use Prim.Native.Nat.{ℕ, zero, suc, _+_, _≤_, _<_}
+use Prim.Native.Nat.{ℕ, zero, suc, _<_}
 use native.Mathlib.Omega.{arith}
-use native.Mathlib.Decide.{ℕ-discrete, decLt}
+use native.Mathlib.Decide.{decLt}
 use lib.ListN.{length, getD, length-append, List·getD-append}
 use lib.Seq.{getD-append-seam}
-use Rattle.proof_crash_machine.specs.Val.{Val, 𝟘, xorN}
-use Rattle.proof_crash_machine.specs.View.{Item, View, In, after, upd, upd-elim, upd-same, upd-zone, upd-drive, in-left, in-last, in-cases}
-use Rattle.proof_crash_machine.specs.View.Item.{hdr, chunk, foot}
-use Rattle.proof_crash_machine.specs.Facts.{Par, Pair, Ghost, Tr, Choice, L, R, Stripe, Datum, Counted, Off, Used, Whole}
+use Rattle.proof_crash_machine.specs.Val.{Val}
+use Rattle.proof_crash_machine.specs.View.{Item, View, In, after, upd-elim, upd-same, upd-zone, upd-drive, in-left, in-last, in-cases}
+use Rattle.proof_crash_machine.specs.View.Item.{chunk, foot}
+use Rattle.proof_crash_machine.specs.Facts.{Par, Ghost, L, R, Stripe, Counted, Off, Used, Whole}
 
 -- ---- one list
 pub length-snoc : (l : List Item) (i : Item) → length (l ++ (i ∷ [])) ≡ suc (length l)

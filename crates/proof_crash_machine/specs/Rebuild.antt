@@ -1,18 +1,18 @@
 -- (6) The end of a rebuild: the facts for the one choice d give the facts for every choice. Assumes nothing.
-use mathlib.Core.Path.{_≡_, refl, sym, ap, ap₂, _∙_, subst}
-use mathlib.Core.List.{List, [], _∷_, _++_}
+use mathlib.Core.Path.{_≡_, refl, sym, ap, _∙_, subst}
+use mathlib.Core.List.{List, [], _∷_}
 use mathlib.Core.Logic.{_⊎_, inl, inr, ⊎-elim, _≢_}
-use Prim.Native.Nat.{ℕ, zero, suc, _+_, _≤_, _<_}
+use Prim.Native.Nat.{ℕ, suc, _≤_, _<_}
 use native.Mathlib.Omega.{arith}
-use native.Mathlib.Decide.{ℕ-discrete, decLt}
+use native.Mathlib.Decide.{ℕ-discrete}
 use lib.ListN.{length, getD}
-use Rattle.proof_crash_machine.specs.Val.{Val, 𝟘, xorN, xorN-same, decode-all}
-use Rattle.proof_crash_machine.specs.View.{Item, View, In, chunk-val, chunk-num}
+use Rattle.proof_crash_machine.specs.Val.{Val, xorN-same, decode-all}
+use Rattle.proof_crash_machine.specs.View.{Item, View, In, chunk-val}
 use Rattle.proof_crash_machine.specs.View.Item.{hdr, chunk, foot}
-use Rattle.proof_crash_machine.specs.Facts.Pair.{alone, pair}
-use Rattle.proof_crash_machine.specs.Lemma.{pair-alone, pair-o, pair-w, old-own}
-use Rattle.proof_crash_machine.specs.Facts.{Par, Pair, Heads, Ghost, Good, Tr, Choice, L, R, Stripe, Datum, Counted, Off, Zone, Parity, Used, Whole, Moved, Swap}
-use Rattle.proof_crash_machine.specs.Facts.{Ragged, Open, Content, Facts, Same, L-same, Stripe-same, Counted-same, used, decL}
+use Rattle.proof_crash_machine.specs.Facts.Pair.{pair}
+use Rattle.proof_crash_machine.specs.Lemma.{pair-o, old-own}
+use Rattle.proof_crash_machine.specs.Facts.{Par, Ghost, L, R, Stripe, Counted, Off, Zone, Used, Whole, Moved}
+use Rattle.proof_crash_machine.specs.Facts.{Ragged, Facts, used, decL}
 
 -- where a chunk stands
 pub in-off : (i : Item) (l : List Item) → In i l → (k : ℕ) × Off l k i

@@ -1,17 +1,16 @@
 -- What a rebuild stores on its drive, zone by zone, is what `Rebuilt` asks. Assumes nothing.
-use mathlib.Core.Path.{_≡_, refl, sym, ap, ap₂, _∙_, subst}
+use mathlib.Core.Path.{_≡_, refl, sym, ap, _∙_, subst}
 use mathlib.Core.List.{List, [], _∷_, _++_, append-nil, append-assoc}
 use mathlib.Core.Logic.{_⊎_, inl, inr, ⊎-elim, _≢_}
 use Prim.Native.Nat.{ℕ, zero, suc, _+_, _≤_, _<_}
 use native.Mathlib.Omega.{arith}
-use native.Mathlib.Decide.{ℕ-discrete, decLt, decLe}
-use lib.ListN.{length, getD, take}
-use Rattle.proof_crash_machine.specs.Val.{Val, 𝟘, xorN}
-use Rattle.proof_crash_machine.specs.Facts.Pair.{alone, pair}
-use Rattle.proof_crash_machine.specs.View.{Item, View, Store, In, after, apply, applyAll, upd-same, chunk-num, chunk-val, chunk-hdr, chunk-foot, in-left, in-last, in-cases, in-some}
+use native.Mathlib.Decide.{ℕ-discrete}
+use lib.ListN.{length, getD}
+use Rattle.proof_crash_machine.specs.Val.{Val}
+use Rattle.proof_crash_machine.specs.View.{Item, View, Store, In, after, apply, applyAll, upd-same, chunk-num, chunk-val, chunk-hdr, chunk-foot, in-left, in-last}
 use Rattle.proof_crash_machine.specs.View.Item.{hdr, chunk, foot}
-use Rattle.proof_crash_machine.specs.View.Store.{put, reset}
-use Rattle.proof_crash_machine.specs.Facts.{Par, Pair, Heads, Ghost, Tr, Choice, L, R, Stripe, Datum, Off, Zone, Used, Ragged, Facts}
+use Rattle.proof_crash_machine.specs.View.Store.{put}
+use Rattle.proof_crash_machine.specs.Facts.{Par, Ghost, R, Stripe, Off, Ragged, Facts}
 use Rattle.proof_crash_machine.specs.Put
 use Rattle.proof_crash_machine.specs.Rebuild.{Rebuilt, once-in, in-off}
 use Rattle.proof_crash_machine.specs.Rest.{decR}

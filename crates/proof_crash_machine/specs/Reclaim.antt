@@ -1,15 +1,13 @@
 -- (4) Reclaim's resets of a segment without live blocks keep the drive facts at every prefix. Assumes nothing.
-use mathlib.Core.Path.{_≡_, refl, sym, ap, ap₂, _∙_, subst}
-use mathlib.Core.List.{List, [], _∷_, _++_}
+use mathlib.Core.Path.{_≡_, sym, _∙_}
 use mathlib.Core.Logic.{_⊎_, inl, inr, ⊎-elim, _≢_}
-use Prim.Native.Nat.{ℕ, zero, suc, _+_, _≤_, _<_}
+use Prim.Native.Nat.{ℕ, _≤_}
 use native.Mathlib.Omega.{arith}
-use lib.ListN.{length, take}
+use lib.ListN.{take}
 use Rattle.proof_crash_machine.specs.Val.{Val}
-use Rattle.proof_crash_machine.specs.View.{View, Store, apply, applyAll, cleared, along, along-all, AllS, resets, ResetOf, resets-are}
-use Rattle.proof_crash_machine.specs.View.Store.{put, reset}
-use Rattle.proof_crash_machine.specs.Facts.{Par, Pair, Ghost, Counted, Facts}
-use Rattle.proof_crash_machine.specs.Facts.Pair.{alone, pair}
+use Rattle.proof_crash_machine.specs.View.{View, Store, apply, applyAll, cleared, along, along-all, resets, ResetOf, resets-are}
+use Rattle.proof_crash_machine.specs.Facts.{Par, Ghost, Counted, Facts}
+use Rattle.proof_crash_machine.specs.Facts.Pair.{alone}
 use Rattle.proof_crash_machine.specs.Lemma.{pair-alone}
 use Rattle.proof_crash_machine.specs.Reset.{Floor, May, Counted-fwd, reset-kept}
 

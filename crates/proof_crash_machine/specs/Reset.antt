@@ -1,16 +1,16 @@
 -- (1), (4) What the reset of one zone leaves as it was, and when it keeps the drive facts. Assumes nothing.
-use mathlib.Core.Path.{_≡_, refl, sym, ap, ap₂, _∙_, subst}
-use mathlib.Core.List.{List, [], _∷_, _++_}
+use mathlib.Core.Path.{_≡_, refl, sym, _∙_, subst}
+use mathlib.Core.List.{List, []}
 use mathlib.Core.Logic.{_⊎_, inl, inr, ⊎-elim, _≢_}
-use Prim.Native.Nat.{ℕ, zero, suc, _+_, _≤_, _<_}
+use Prim.Native.Nat.{ℕ, _≤_, _<_}
 use native.Mathlib.Omega.{arith}
-use native.Mathlib.Decide.{ℕ-discrete, decLt}
-use lib.ListN.{length, getD}
-use Rattle.proof_crash_machine.specs.Val.{Val, 𝟘, xorN}
-use Rattle.proof_crash_machine.specs.View.{Item, View, In, cleared, upd, upd-elim, upd-same, upd-zone, upd-drive}
-use Rattle.proof_crash_machine.specs.View.Item.{hdr, chunk, foot}
-use Rattle.proof_crash_machine.specs.Facts.{Par, Pair, Ghost, Tr, Choice, L, R, Stripe, Datum, Counted, Off, Zone, Parity, Used, Whole, Moved, Swap, Open, Content}
-use Rattle.proof_crash_machine.specs.Facts.{Facts, Same, L-same, Stripe-same, Counted-same, L-none, Stripe-none, used, whole-L, decL}
+use native.Mathlib.Decide.{ℕ-discrete}
+use lib.ListN.{length}
+use Rattle.proof_crash_machine.specs.Val.{Val}
+use Rattle.proof_crash_machine.specs.View.{Item, View, In, cleared, upd-elim, upd-same, upd-zone, upd-drive}
+use Rattle.proof_crash_machine.specs.View.Item.{chunk}
+use Rattle.proof_crash_machine.specs.Facts.{Par, Pair, Ghost, Tr, Choice, L, R, Stripe, Datum, Counted, Zone, Parity, Used, Whole, Moved, Swap, Open, Content}
+use Rattle.proof_crash_machine.specs.Facts.{Facts, Same, L-same, Stripe-same, Counted-same, used, whole-L, decL}
 use Rattle.proof_crash_machine.specs.Facts.Pair.{alone, pair}
 use Rattle.proof_crash_machine.specs.Lemma.{pair-alone, pair-o, pair-w, old-own}
 

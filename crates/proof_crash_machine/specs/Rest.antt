@@ -1,19 +1,19 @@
 -- After the resets of a restart all that is used remains; and where nothing is to be rewritten the drives are clean. Assumes nothing.
-use mathlib.Core.Path.{_≡_, refl, sym, ap, ap₂, _∙_, subst}
-use mathlib.Core.List.{List, [], _∷_, _++_}
-use mathlib.Core.Logic.{_⊎_, inl, inr, ⊎-elim, _≢_}
-use Prim.Native.Nat.{ℕ, zero, suc, _+_, _≤_, _<_}
+use mathlib.Core.Path.{_≡_, refl, sym, _∙_, subst}
+use mathlib.Core.List.{List, [], _∷_}
+use mathlib.Core.Logic.{_⊎_, inl, inr}
+use Prim.Native.Nat.{ℕ, _≤_, _<_}
 use native.Mathlib.Omega.{arith}
-use native.Mathlib.Decide.{ℕ-discrete, decLt, decLe}
-use lib.ListN.{length, getD, take}
-use Rattle.proof_crash_machine.specs.Val.{Val, 𝟘, xorN}
+use native.Mathlib.Decide.{ℕ-discrete, decLe}
+use lib.ListN.{length}
+use Rattle.proof_crash_machine.specs.Val.{Val}
 use Rattle.proof_crash_machine.specs.Facts.Pair.{alone, pair}
 use Rattle.proof_crash_machine.specs.Lemma.{pair-alone, pair-o, pair-w}
-use Rattle.proof_crash_machine.specs.View.{Item, View, Store, In, cleared, apply, applyAll, AllS, in-some}
-use Rattle.proof_crash_machine.specs.View.Item.{hdr, chunk, foot}
-use Rattle.proof_crash_machine.specs.View.Store.{put, reset}
-use Rattle.proof_crash_machine.specs.Facts.{Par, Pair, Heads, Ghost, Tr, Choice, L, R, Stripe, Datum, Counted, Used, Whole, Swap, Ragged, Facts, used, decL, decAll}
-use Rattle.proof_crash_machine.specs.Reset.{gone, zone-kept, drive-kept, each, len-back}
+use Rattle.proof_crash_machine.specs.View.{Item, View, Store, In, apply, applyAll, AllS}
+use Rattle.proof_crash_machine.specs.View.Item.{chunk}
+use Rattle.proof_crash_machine.specs.View.Store.{reset}
+use Rattle.proof_crash_machine.specs.Facts.{Par, Pair, Ghost, Choice, L, R, Stripe, Used, Swap, Facts, used, decL, decAll}
+use Rattle.proof_crash_machine.specs.Reset.{gone, zone-kept, each, len-back}
 use Rattle.proof_crash_machine.specs.Drop.{DropOf}
 use Rattle.proof_crash_machine.specs.Restart.{full-stripe}
 use Rattle.proof_crash_machine.specs.Rebuild.{once-in}

@@ -1,21 +1,20 @@
 -- A healthy restart, whole: resets of what is dropped, the rewrite, the new history values. Assumes nothing.
-use mathlib.Core.Path.{_≡_, refl, sym, ap, ap₂, _∙_, subst}
-use mathlib.Core.List.{List, [], _∷_, _++_}
-use mathlib.Core.Logic.{_⊎_, inl, inr, ⊎-elim, _≢_}
-use Prim.Native.Nat.{ℕ, zero, suc, _+_, _≤_, _<_}
+use mathlib.Core.Path.{_≡_, refl, sym, ap, _∙_, subst}
+use mathlib.Core.List.{List, [], _++_}
+use mathlib.Core.Logic.{inr, ⊎-elim, _≢_}
+use Prim.Native.Nat.{ℕ, zero, suc, _≤_, _<_}
 use native.Mathlib.Omega.{arith}
-use native.Mathlib.Decide.{ℕ-discrete, decLt, decLe}
-use lib.ListN.{length, getD, take}
-use Rattle.proof_crash_machine.specs.Val.{Val, 𝟘, xorN, xorN-same, decode-all}
+use native.Mathlib.Decide.{ℕ-discrete, decLt}
+use lib.ListN.{length}
+use Rattle.proof_crash_machine.specs.Val.{Val, 𝟘}
 use Rattle.proof_crash_machine.specs.Facts.Pair.{alone, pair}
-use Rattle.proof_crash_machine.specs.Lemma.{pair-alone, pair-o, pair-w, old-own, counts}
-use Rattle.proof_crash_machine.specs.View.{Item, View, Store, In, apply, applyAll, AllS, in-some}
-use Rattle.proof_crash_machine.specs.View.Item.{hdr, chunk, foot}
-use Rattle.proof_crash_machine.specs.View.Store.{put, reset}
-use Rattle.proof_crash_machine.specs.Facts.{Par, Pair, Heads, Ghost, Tr, Choice, L, R, Stripe, Datum, Counted, Off, Zone, Used, Whole, Moved, Swap, Ragged, Facts, Stripe-same, used, decL}
+use Rattle.proof_crash_machine.specs.Lemma.{pair-alone, pair-o, pair-w, counts}
+use Rattle.proof_crash_machine.specs.View.{Item, View, Store, In, applyAll, AllS, in-some}
+use Rattle.proof_crash_machine.specs.View.Item.{chunk}
+use Rattle.proof_crash_machine.specs.Facts.{Par, Pair, Heads, Ghost, Tr, R, Stripe, Datum, Counted, Off, Zone, Used, Whole, Ragged, Facts, Stripe-same, used}
 use Rattle.proof_crash_machine.specs.Steps.{Prefix, prefix-append, applyAll-append}
 use Rattle.proof_crash_machine.specs.Ghosts.{withPr, unpaired}
-use Rattle.proof_crash_machine.specs.Name.{setN, setN-same, setN-other, naming, named}
+use Rattle.proof_crash_machine.specs.Name.{setN-same, setN-other, naming, named}
 use Rattle.proof_crash_machine.specs.Drop.{DropOf, dropped, dropped-end, settled}
 use Rattle.proof_crash_machine.specs.Rewrite.{Plan, Before, copies, drops, rewritten, Left, left}
 use Rattle.proof_crash_machine.specs.Rebuild.{in-off, once-in}

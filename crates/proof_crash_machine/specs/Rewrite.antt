@@ -1,19 +1,19 @@
 -- (5) The rewrite at restart: headers and stripes of w, then the resets of o. Assumes nothing.
-use mathlib.Core.Path.{_≡_, refl, sym, ap, ap₂, _∙_, subst}
+use mathlib.Core.Path.{_≡_, refl, sym, ap, _∙_, subst}
 use mathlib.Core.List.{List, [], _∷_, _++_}
 use mathlib.Core.Logic.{_⊎_, inl, inr, ⊎-elim, _≢_}
 use Prim.Native.Nat.{ℕ, zero, suc, _+_, _≤_, _<_}
 use native.Mathlib.Omega.{arith}
 use native.Mathlib.Decide.{ℕ-discrete, decLt}
-use lib.ListN.{length, getD}
+use lib.ListN.{length}
 use Rattle.proof_crash_machine.specs.Val.{Val, 𝟘, xorN, decode-all}
 use Rattle.proof_crash_machine.specs.View.{Item, View, Store, In, after, cleared, apply, applyAll, in-last, in-left, in-cases, chunk-val, chunk-num, chunk-hdr}
-use Rattle.proof_crash_machine.specs.View.Item.{hdr, chunk, foot}
+use Rattle.proof_crash_machine.specs.View.Item.{hdr, chunk}
 use Rattle.proof_crash_machine.specs.View.Store.{put, reset}
-use Rattle.proof_crash_machine.specs.Facts.{Par, Pair, Heads, Ghost, Good, Tr, Choice, L, R, Stripe, Datum, Counted, Off, Zone, Parity, Used, Whole, Moved, Swap}
-use Rattle.proof_crash_machine.specs.Facts.{Ragged, Open, Content, Facts, used, whole-L, Same, L-same, Stripe-same, Stripe-none}
+use Rattle.proof_crash_machine.specs.Facts.{Par, Ghost, L, Stripe, Datum, Counted, Used, Whole, Moved}
+use Rattle.proof_crash_machine.specs.Facts.{Ragged, Facts, used, whole-L, Stripe-same, Stripe-none}
 use Rattle.proof_crash_machine.specs.Facts.Pair.{alone, pair}
-use Rattle.proof_crash_machine.specs.Lemma.{pair-alone, pair-o, pair-w, old-own}
+use Rattle.proof_crash_machine.specs.Lemma.{pair-o, pair-w, old-own}
 use Rattle.proof_crash_machine.specs.Put
 use Rattle.proof_crash_machine.specs.Land.{Landing, landed, Datum-same}
 use Rattle.proof_crash_machine.specs.Header.{Opening, headed}

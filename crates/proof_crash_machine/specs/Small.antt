@@ -1,15 +1,11 @@
 -- The small box: M7 and M8 by computation, on the definitions that a restart computes with. Assumes nothing.
 use mathlib.Core.Path.{_≡_, refl}
-use mathlib.Core.List.{List, [], _∷_}
-use mathlib.Core.Bool.{Bool, true, false}
-use Prim.Native.Nat.{ℕ, zero, suc, _+_, _-_, _/_, _%_, _≤_, _<_}
+use mathlib.Core.List.{[], _∷_}
+use Prim.Native.Nat.{ℕ, zero, suc, _-_, _/_, _%_}
 use native.Mathlib.Omega.{arith}
-use lib.ListN.{length}
-use lib.Bits.{bitXor}
-use lib.Dec.{eqb, ltb}
 use Rattle.proof_crash_machine.specs.Val.{Val, 𝟘, _⊕_, xorN}
-use Rattle.proof_crash_machine.specs.View.{Item, View}
-use Rattle.proof_crash_machine.specs.View.Item.{hdr, chunk, foot}
+use Rattle.proof_crash_machine.specs.View.{View}
+use Rattle.proof_crash_machine.specs.View.Item.{hdr, chunk}
 use Rattle.proof_crash_machine.specs.Facts.{Par}
 use Rattle.proof_crash_machine.specs.Exec.{allB, maxN, when, found, lookup, serOf, copOf, low, leftB, remB, countB, here, valOf, inData, inStripe, inSegment, best}
 

@@ -1,18 +1,14 @@
 -- (6) Stores on the untrusted drive keep all facts. Assumes nothing.
-use mathlib.Core.Path.{_≡_, refl, sym, ap, ap₂, _∙_, subst}
-use mathlib.Core.List.{List, [], _∷_, _++_}
-use mathlib.Core.Logic.{_⊎_, inl, inr, ⊎-elim, _≢_}
-use Prim.Native.Nat.{ℕ, zero, suc, _+_, _≤_, _<_}
+use mathlib.Core.Path.{_≡_, refl, sym, _∙_, subst}
+use mathlib.Core.List.{List}
+use mathlib.Core.Logic.{inl, inr, ⊎-elim, _≢_}
+use Prim.Native.Nat.{ℕ, _≤_, _<_}
 use native.Mathlib.Omega.{arith}
-use native.Mathlib.Decide.{ℕ-discrete, decLt}
-use lib.ListN.{length, getD}
-use Rattle.proof_crash_machine.specs.Val.{Val, 𝟘, xorN, xorN-same, decode-all}
-use Rattle.proof_crash_machine.specs.View.{Item, View, In, chunk-val, chunk-num}
-use Rattle.proof_crash_machine.specs.View.Item.{hdr, chunk, foot}
-use Rattle.proof_crash_machine.specs.Facts.Pair.{alone, pair}
-use Rattle.proof_crash_machine.specs.Lemma.{pair-alone, pair-o, pair-w, old-own}
-use Rattle.proof_crash_machine.specs.Facts.{Par, Pair, Heads, Ghost, Good, Tr, Choice, L, R, Stripe, Datum, Counted, Zone, Parity, Used, Whole, Moved, Swap, Ragged}
-use Rattle.proof_crash_machine.specs.Facts.{Open, Content, Facts, Same, L-same, Stripe-same, Counted-same}
+use lib.ListN.{length}
+use Rattle.proof_crash_machine.specs.Val.{Val}
+use Rattle.proof_crash_machine.specs.View.{Item, View}
+use Rattle.proof_crash_machine.specs.Facts.{Par, Ghost, Tr, Choice, Stripe, Datum, Counted, Zone, Used, Whole, Moved, Ragged}
+use Rattle.proof_crash_machine.specs.Facts.{Facts, Same, L-same, Stripe-same, Counted-same}
 
 module _ (p : Par) (g : Ghost) (lost : g .un < p .N) (v u : View) (same : (e y : ℕ) → e < p .N → e ≢ g .un → v e y ≡ u e y) where
   -- the only choice is the untrusted drive

@@ -1,11 +1,11 @@
 -- The drives as lists of stored items; one store changes one zone. Assumes nothing.
-use mathlib.Core.Path.{_≡_, refl, sym, ap, ap₂, _∙_, subst}
+use mathlib.Core.Path.{_≡_, refl}
 use mathlib.Core.List.{List, [], _∷_, _++_}
 use mathlib.Core.Logic.{_⊎_, inl, inr, ⊎-elim, _≢_}
 use Prim.Native.Nat.{ℕ, zero, suc, _+_, _≤_, _<_}
 use native.Mathlib.Omega.{arith}
-use native.Mathlib.Decide.{ℕ-discrete, decLt}
-use lib.ListN.{length, getD, take, length-append}
+use native.Mathlib.Decide.{ℕ-discrete}
+use lib.ListN.{length, take}
 use Rattle.proof_crash_machine.specs.Val.{Val}
 
 pub data Item : Type 0 where

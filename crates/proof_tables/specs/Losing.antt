@@ -1,14 +1,13 @@
 -- With a drive missing: the restart that names it, the calls that are refused, and its rebuild. Assumes nothing.
 use mathlib.Core.Path.{_≡_, refl, sym, ap, _∙_, subst}
-use mathlib.Core.List.{List, [], _∷_, _++_, map}
-use mathlib.Core.Bool.{Bool, true, false, cond, not, _&&_, _||_}
+use mathlib.Core.List.{List, [], _∷_}
+use mathlib.Core.Bool.{Bool, true, false, not, _&&_, _||_}
 use mathlib.Core.Logic.{inl}
 use Prim.Native.Nat.{ℕ, _^_, _≤_, _<_}
 use native.Mathlib.Decide.{ℕ-discrete}
 use borrow.Author.Tests.{ne-eqb, ltb-true, eqb-true, not-false}
 use native.Mathlib.Omega.{arith}
-use lib.Dec.{leb, ltb, eqb}
-use lib.ListN.{length}
+use lib.Dec.{ltb, eqb}
 use lib.Count.{ones}
 use Rattle.spec.specs.declared.Params.{Params}
 use Rattle.spec.specs.declared.Answer.{Answer}
@@ -16,20 +15,20 @@ use Rattle.spec.specs.declared.Answer.the-variants.{Cut, Rebuilt}
 use Rattle.proof_tables.specs.Run.{Lost, Run, Kept}
 use Rattle.spec.specs.Answers.{kind, isRefused, isRefusedAs, isCut}
 use Rattle.spec.specs.Calls.{Check, firstRefusal, Plan, mkPlan, decided, After, outcome}
-use Rattle.spec.specs.Calls.Check.{rule, zones}
-use Rattle.spec.specs.Closing.{closeChecks, closePlan, closeVerdict}
+use Rattle.spec.specs.Calls.Check.{rule}
+use Rattle.spec.specs.Closing.{closeChecks, closeVerdict}
 use Rattle.spec.specs.Drives.{View, storeView, Disk, storeDisk, storeAll}
 use Rattle.spec.specs.Engine.Call.{write, land, close, reclaim, rebuild}
 use Rattle.spec.specs.Engine.{storeCount, lentBlock, verdict, lentOk, callOn, callDisk}
 use Rattle.spec.specs.Faults.{imageChecks}
-use Rattle.spec.specs.Landing.{waiting, landFaults, landChecks, landPlan, landVerdict}
-use Rattle.spec.specs.Lists.{keep, isNil, firstOr, only, isIn}
-use Rattle.spec.specs.Memory.{Memory, hasFilling, stateFaults}
-use Rattle.spec.specs.Params.{between, inRange, placeBlock, named, present}
+use Rattle.spec.specs.Landing.{landChecks, landVerdict}
+use Rattle.spec.specs.Lists.{isNil, only, isIn}
+use Rattle.spec.specs.Memory.{Memory}
+use Rattle.spec.specs.Params.{inRange, named, present}
 use Rattle.spec.specs.Rebuild.{namesMissing, rebuildChecks, rebuildStores, rebuildVerdict}
-use Rattle.spec.specs.Reclaim.{tableFaults, victim, isNone, victimSegment, victimLive, idle, reclaimChecks, resetPlan, copyPlan, reclaimVerdict}
+use Rattle.spec.specs.Reclaim.{reclaimChecks, reclaimVerdict}
 use Rattle.spec.specs.Segments.{lowDrive, segments, candidates, addressTable, compactTable}
-use Rattle.spec.specs.Write.{opens, noStamp, noSerial, mustWait, scarce, writeChecks, writePlan, writeVerdict}
+use Rattle.spec.specs.Write.{writeChecks, writeVerdict}
 use Rattle.law_basic.specs.Be.{room}
 use Rattle.law_basic.specs.Geometry.{Ranged, ranged}
 use Rattle.law_basic.specs.Mask.{isIn-only}

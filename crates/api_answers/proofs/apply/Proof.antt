@@ -1,4 +1,3 @@
-use Prim.Native.Nat.{_<_, _≤_}
 use Rattle.api_answers.specs.Applied.{applied-refused, applied-cut, applied-done}
 use Rattle.api_answers.specs.declared.Told.{Told}
 use Rattle.spec.specs.Answers.{kind}

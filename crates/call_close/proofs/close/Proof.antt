@@ -1,5 +1,5 @@
 -- `close`: the front and the filling stripe's eighth are the state's; then refused or done. Assumes nothing.
-use Prim.Native.Nat.{ℕ, _≤_, _<_}
+use Prim.Native.Nat.{_≤_}
 use Rattle.mem_calls.specs.Left.{checked}
 use Rattle.call_close.specs.Ends.{close-refused, close-done}
 use Rattle.call_close.specs.Order.{refusal}

@@ -1,4 +1,3 @@
-use Rattle.mem_rows.specs.Rows.{behind}
 use Rattle.spec.specs.Memory.{filledIn, isFree}
 use borrow.Author.Needs.{needs}
 use mathlib.Core.Path.{refl}

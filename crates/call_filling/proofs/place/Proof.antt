@@ -2,7 +2,6 @@ use Prim.Native.Nat.{ℕ}
 use Rattle.spec.specs.Bytes.{splice}
 use Rattle.spec.specs.Memory.{slotByte, setSlotBlock}
 use Rattle.call_filling.specs.Entries.{driveFor, entered, placedRow}
-use mathlib.Core.List.{List}
 use mathlib.Core.Path.{_≡_, ap, _∙_}
 use borrow.Author.Needs.{needs}
 use Rattle.call_filling.proofs.place.Statement.{statement}

@@ -1,5 +1,4 @@
-use Prim.Native.Nat.{ℕ, suc, _<_}
-use Rattle.spec.specs.Params.{dataCount}
+use Prim.Native.Nat.{ℕ, suc}
 use Rattle.call_filling.specs.Entries.{begunRow, placedRow, mkSentRow, sentRow}
 use Rattle.law_basic.specs.Geometry.{ranged, data-count-low}
 use Rattle.mem_rows.specs.declared.Row.{Row}

@@ -1,8 +1,5 @@
-use Prim.Native.Nat.{ℕ}
 use Rattle.call_land.specs.Marked.{changeTo}
-use Rattle.mem_rows.specs.declared.Change.{Change}
-use mathlib.Core.Bool.{Bool}
-use mathlib.Core.Path.{_≡_, sym, ap}
+use mathlib.Core.Path.{sym, ap}
 use Rattle.call_land.proofs.change_to.Statement.{statement}
 use Rattle.call_land.proofs.change_to.Tie as tie
 

@@ -1,13 +1,12 @@
 use Rattle.mem_calls.specs.Left.{checked}
 use Rattle.spec.specs.Drives.{Disk, mkDisk}
-use Rattle.spec.specs.Lists.Opt.{none, some}
+use Rattle.spec.specs.Lists.Opt.{some}
 use Rattle.spec.specs.Memory.{Memory, mkMemory}
 use Rattle.call_land.specs.Ends.{Chosen, land-refused}
-use Rattle.call_land.specs.Ready.{refusal}
 use Rattle.mem_rows.specs.declared.Change.{Change}
 use Rattle.mem_rows.specs.Rows.{Sized}
 use borrow.Author.Needs.{needs}
-use mathlib.Core.Path.{_≡_, sym, ap, _∙_}
+use mathlib.Core.Path.{sym, ap, _∙_}
 use Rattle.call_land.proofs.land.Statement.{statement}
 use Rattle.call_land.proofs.land.Tie as tie
 

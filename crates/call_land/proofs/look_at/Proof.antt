@@ -1,12 +1,9 @@
 use Prim.Native.Nat.{ℕ, _<_}
-use Rattle.spec.specs.Landing.{slotOf}
-use Rattle.spec.specs.Memory.{inFlight}
 use Rattle.mem_rows.specs.Rows.{rowOf}
 use borrow.Author.Needs.{needs}
 use lib.Dec.{eqb}
-use lib.ListN.{length}
-use mathlib.Core.Bool.{Bool, _&&_}
-use mathlib.Core.Path.{_≡_, sym, ap, _∙_, subst}
+use mathlib.Core.Bool.{_&&_}
+use mathlib.Core.Path.{sym, ap, _∙_, subst}
 use Rattle.call_land.proofs.look_at.Statement.{statement}
 use Rattle.call_land.proofs.look_at.Tie as tie
 

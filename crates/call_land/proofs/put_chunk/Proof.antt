@@ -4,14 +4,14 @@ use Rattle.spec.specs.Drives.{Disk, mkDisk, storeDisk}
 use Rattle.spec.specs.Drives.Store.{put}
 use Rattle.spec.specs.Landing.{flightRec}
 use Rattle.spec.specs.Layout.{recordBytes}
-use Rattle.spec.specs.Memory.{slotByte, slotBlock}
+use Rattle.spec.specs.Memory.{slotBlock}
 use Rattle.law_basic.specs.Geometry.{ranged}
 use Rattle.law_basic.specs.Splice.{length-part, part-lent}
 use Rattle.disk_records.specs.Record.{recOf, record-long}
 use Rattle.call_land_chunk.specs.Alone.{alone}
 use borrow.Author.Needs.{needs}
 use lib.ListN.{length, take, drop}
-use mathlib.Core.Path.{_≡_, sym, ap, _∙_}
+use mathlib.Core.Path.{_≡_, ap, _∙_}
 use Prim.Native.Nat.{_+_, _-_}
 use native.Mathlib.Omega.{arith}
 use Rattle.call_land.proofs.put_chunk.Statement.{statement}

@@ -1,4 +1,3 @@
-use Prim.Native.Nat.{ℕ}
 use Rattle.spec.specs.Drives.{Disk, mkDisk}
 use Rattle.call_land.specs.Plan.{seals-none, seals-some}
 use borrow.Author.Needs.{needs}

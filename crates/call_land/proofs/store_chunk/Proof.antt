@@ -9,7 +9,7 @@ use Rattle.law_basic.specs.Geometry.{ranged, data-below, zone-on-lt}
 use Rattle.call_land_chunk.specs.Alone.{alone, markRow}
 use borrow.Author.Needs.{needs}
 use lib.ListN.{set}
-use mathlib.Core.Path.{_≡_, sym, ap, _∙_, subst}
+use mathlib.Core.Path.{_≡_, ap, _∙_, subst}
 use native.Mathlib.Omega.{arith}
 use Rattle.call_land.proofs.store_chunk.Statement.{statement}
 use Rattle.call_land.proofs.store_chunk.Tie as tie

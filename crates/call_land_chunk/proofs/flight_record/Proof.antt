@@ -1,6 +1,6 @@
 use Prim.Native.Nat.{ℕ}
 use Rattle.spec.specs.Landing.{flightRec}
-use Rattle.spec.specs.Layout.{Rec, dataPosition, isData}
+use Rattle.spec.specs.Layout.{dataPosition, isData}
 use Rattle.spec.specs.Memory.{stripeIn, entryIn, entriesIn}
 use Rattle.spec.specs.Parity.{parityRec}
 use Rattle.law_basic.specs.Geometry.{ranged}

@@ -1,4 +1,3 @@
-use Prim.Native.Nat.{ℕ}
 use borrow.Author.Tests.{eq-eqb, ne-eqb, not-true, not-false}
 use lib.Dec.{eqb}
 use mathlib.Core.Bool.{Bool, true, false, _&&_}

@@ -1,9 +1,6 @@
-use Prim.Native.Nat.{ℕ}
-use Rattle.mem_rows.specs.declared.Row.{Row}
 use Rattle.call_land_chunk.specs.Alone.{markRow}
 use borrow.Author.Needs.{needs}
 use lib.ListN.{set}
-use mathlib.Core.Path.{_≡_}
 use Rattle.call_land_chunk.proofs.mark_landed.Statement.{statement}
 use Rattle.call_land_chunk.proofs.mark_landed.Tie as tie
 

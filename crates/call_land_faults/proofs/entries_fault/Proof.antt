@@ -1,5 +1,5 @@
 use Prim.Native.Nat.{ℕ, _+_, _-_, _≤_, _<_}
-use Rattle.spec.specs.Drives.{View, viewOf}
+use Rattle.spec.specs.Drives.{viewOf}
 use Rattle.spec.specs.Landing.{entryFaults}
 use Rattle.spec.specs.Layout.{Rec}
 use Rattle.spec.specs.Lists.{least, flat, consIf}

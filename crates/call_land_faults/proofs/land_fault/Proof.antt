@@ -6,11 +6,10 @@ use Rattle.spec.specs.Lists.{least, flat}
 use Rattle.spec.specs.Memory.{entriesIn}
 use Rattle.call_land_faults.specs.Lowest.{faultsOf, faults-part, faults-whole}
 use Rattle.call_land_chunk.specs.Alone.{alone}
-use borrow.Author.Needs.{needs}
 use borrow.Author.Tests.{not-true, not-false}
 use mathlib.Core.Bool.{Bool}
 use mathlib.Core.List.{List}
-use mathlib.Core.Path.{_≡_, sym, ap, _∙_}
+use mathlib.Core.Path.{sym, ap, _∙_}
 use Rattle.call_land_faults.proofs.land_fault.Statement.{statement}
 use Rattle.call_land_faults.proofs.land_fault.Tie as tie
 

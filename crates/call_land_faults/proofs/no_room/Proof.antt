@@ -1,4 +1,4 @@
-use Prim.Native.Nat.{ℕ, _+_}
+use Prim.Native.Nat.{_+_}
 use Rattle.spec.specs.Drives.{pointerOf, zoneOn}
 use Rattle.spec.specs.Params.{footers, capacity}
 use Rattle.call_land_faults.specs.Lowest.{overBy}

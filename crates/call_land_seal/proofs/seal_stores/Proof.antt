@@ -1,4 +1,4 @@
-use Prim.Native.Nat.{ℕ, _+_, _-_, _≤_, _<_}
+use Prim.Native.Nat.{ℕ, _+_, _-_, _≤_}
 use Rattle.spec.specs.Drives.{Disk, mkDisk, zoneAt, zoneOn, pointerOf, footerStores}
 use Rattle.spec.specs.Params.{footers, capacity}
 use Rattle.law_basic.specs.Geometry.{ranged, zone-on-lt}

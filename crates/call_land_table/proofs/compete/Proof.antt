@@ -1,13 +1,12 @@
-use Prim.Native.Nat.{ℕ}
 use Rattle.spec.specs.Landing.{landedCand}
 use Rattle.spec.specs.Layout.{Rec}
-use Rattle.spec.specs.Rank.{Cand, better}
+use Rattle.spec.specs.Rank.{better}
 use Rattle.law_basic.specs.Geometry.{ranged, data-count-high}
 use Rattle.call_land_table.specs.Winners.{other-address, same-address}
 use Rattle.disk_rank.specs.Ranked.{rankedBest}
 use Rattle.call_land_chunk.specs.Alone.{alone}
 use borrow.Author.Needs.{needs}
-use mathlib.Core.Path.{_≡_, sym, ap, _∙_}
+use mathlib.Core.Path.{sym, ap, _∙_}
 use native.Mathlib.Omega.{arith}
 use Rattle.call_land_table.proofs.compete.Statement.{statement}
 use Rattle.call_land_table.proofs.compete.Tie as tie

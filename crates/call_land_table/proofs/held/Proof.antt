@@ -9,7 +9,6 @@ use Rattle.spec.specs.Params.{addressesLen}
 use Rattle.spec.specs.Rank.{Cand}
 use Rattle.call_land_table.specs.Winners.{IsData}
 use borrow.Author.Tests.{eq-eqb, ne-eqb}
-use lib.Dec.{eqb}
 use mathlib.Core.Bool.{Bool, cond}
 use mathlib.Core.Path.{_≡_, sym, ap, _∙_, subst}
 use native.Mathlib.Omega.{arith}

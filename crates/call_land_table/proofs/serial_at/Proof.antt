@@ -1,4 +1,4 @@
-use Prim.Native.Nat.{ℕ, _+_, _≤_, _<_}
+use Prim.Native.Nat.{ℕ, _≤_}
 use Rattle.spec.specs.Drives.{mkDisk, zoneOn}
 use Rattle.spec.specs.Landing.{serialAt}
 use Rattle.spec.specs.Layout.{headerSerial}

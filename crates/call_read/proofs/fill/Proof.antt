@@ -1,7 +1,6 @@
 use Rattle.spec.specs.Drives.{Disk, mkDisk, viewOf}
 use Rattle.spec.specs.Lists.Opt.{none}
 use Rattle.spec.specs.Memory.{Memory, mkMemory, stateOf}
-use Rattle.spec.specs.Read.{Found}
 use Rattle.call_read.specs.Ends.{fill-refused, fill-done}
 use Rattle.call_read.specs.Fill.{filling, placedAt, found-placed}
 use Rattle.call_read.specs.Order.{found, refusal}

@@ -1,7 +1,7 @@
 use Rattle.spec.specs.Drives.{Disk, mkDisk}
 use Rattle.spec.specs.Lists.Opt.{none}
 use Rattle.spec.specs.Memory.{Memory, mkMemory, stateOf}
-use Rattle.spec.specs.Read.{Found, readAnswer}
+use Rattle.spec.specs.Read.{readAnswer}
 use Rattle.call_read.specs.Ends.{read-refused, read-done}
 use Rattle.call_read.specs.Order.{found, refusal}
 use Rattle.call_read.specs.Ready.{ready}

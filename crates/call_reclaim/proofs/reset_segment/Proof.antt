@@ -1,12 +1,10 @@
 use Rattle.spec.specs.Drives.{mkDisk}
 use Rattle.spec.specs.Memory.{mkMemory}
 use Rattle.spec.specs.declared.Answer.the-variants.{Reset}
-use Rattle.law_basic.specs.Geometry.{ranged}
 use Rattle.call_reclaim.specs.Clearing.{reset-cut, reset-done}
 use Rattle.mem_rows.specs.Rows.{keptAs}
 use Rattle.mem_rows.specs.declared.Change.{Change}
 use mathlib.Core.Path.{ap, _∙_}
-use native.Mathlib.Omega.{arith}
 use borrow.Author.Needs.{needs}
 use Rattle.call_reclaim.proofs.reset_segment.Statement.{statement}
 use Rattle.call_reclaim.proofs.reset_segment.Tie as tie

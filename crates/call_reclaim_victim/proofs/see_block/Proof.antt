@@ -1,4 +1,4 @@
-use Prim.Native.Nat.{ℕ, _+_, _-_, _<_}
+use Prim.Native.Nat.{ℕ, _+_, _<_}
 use Rattle.call_reclaim_live.specs.Live.{places-high}
 use Rattle.spec.specs.Drives.{viewOf}
 use Rattle.spec.specs.Params.{addressesLen}

@@ -1,5 +1,5 @@
 use Prim.Native.Nat.{ℕ, suc}
-use Rattle.call_filling.specs.Entries.{SentRow, sentRow}
+use Rattle.call_filling.specs.Entries.{sentRow}
 use Rattle.spec.specs.Counts.{aStamp}
 use Rattle.spec.specs.declared.Answer.the-variants.{Sent}
 use mathlib.Core.Path.{_≡_, ap, _∙_}

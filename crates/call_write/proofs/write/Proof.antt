@@ -9,7 +9,7 @@ use Rattle.call_filling.specs.Aims.{aimOf, front-aim}
 use Rattle.call_filling.specs.Left.{Opening, opening-front}
 use Rattle.call_filling.specs.declared.Aim.{Aim}
 use Rattle.law_calls.specs.Slots.{slot-lt}
-use Rattle.mem_rows.specs.Rows.{Sized, frontOf, behind}
+use Rattle.mem_rows.specs.Rows.{Sized, behind}
 use Rattle.mem_rows.specs.declared.Change.{Change}
 use Rattle.mem_rows.specs.declared.Front.{Front}
 use Rattle.call_write.specs.Ends.{write-refused, ends-cut, plan-asks, ends-plan}

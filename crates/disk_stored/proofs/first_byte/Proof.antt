@@ -2,7 +2,7 @@ use mathlib.Core.Path.{_≡_, sym, ap, _∙_}
 use mathlib.Core.Bool.{Bool, false}
 use Prim.Native.Nat.{ℕ, _+_}
 use native.Mathlib.Omega.{arith}
-use Rattle.law_basic.specs.Geometry.{ranged, capacity-low, image-high, spare-len}
+use Rattle.law_basic.specs.Geometry.{ranged, capacity-low, image-high}
 use Rattle.spec.specs.Params.{unitLen}
 use Rattle.disk_stored.specs.Stored.{firstByte, first-foot-below}
 use Rattle.disk_stored.proofs.first_byte.Statement.{statement}

@@ -1,6 +1,6 @@
 use mathlib.Core.Path.{_≡_, ap, ap₂, _∙_}
 use native.Mathlib.Omega.{arith}
-use Prim.Native.Nat.{ℕ, _+_, _^_, _<_}
+use Prim.Native.Nat.{_+_, _<_}
 use lib.Count.{ones}
 use lib.ListN.{length, getD}
 use Rattle.mem_codec.specs.Codec.{state-len}

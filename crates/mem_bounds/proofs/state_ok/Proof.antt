@@ -1,10 +1,10 @@
-use mathlib.Core.Path.{_≡_, ap, _∙_}
+use mathlib.Core.Path.{_∙_}
 use native.Mathlib.Omega.{arith}
-use Prim.Native.Nat.{ℕ, _+_}
+use Prim.Native.Nat.{_+_}
 use lib.Dec.{eqb}
 use Rattle.mem_codec.specs.Codec.{state-len}
 use Rattle.law_basic.specs.Geometry.{ranged}
-use Rattle.mem_bounds.specs.Bounds.{pastIn, slotsPast, frontPast, state-in}
+use Rattle.mem_bounds.specs.Bounds.{state-in}
 use borrow.Author.Needs.{needs}
 use Rattle.mem_bounds.proofs.state_ok.Statement.{statement}
 use Rattle.mem_bounds.proofs.state_ok.Tie as tie

@@ -1,5 +1,5 @@
 -- `put_cells`: three runs of numbers, three edits. Assumes nothing.
-use mathlib.Core.Path.{_≡_, ap, _∙_}
+use mathlib.Core.Path.{ap, _∙_}
 use mathlib.Core.List.{List}
 use Prim.Native.Nat.{ℕ, _+_, _*_}
 use Rattle.spec.specs.Bytes.{toLe, splice}

@@ -1,7 +1,4 @@
 -- `put_change`: the edits of the numbers in front, then of an eighth where one changes. Assumes nothing.
-use mathlib.Core.Path.{_≡_}
-use lib.ListN.{length, getD}
-use Prim.Native.Nat.{ℕ, _<_}
 use Rattle.mem_codec.specs.Codec.{state-len}
 use Rattle.mem_codec.specs.Changes.{change-front, change-row}
 use Rattle.mem_rows.specs.Rows.{RowSized}

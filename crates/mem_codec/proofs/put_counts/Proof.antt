@@ -1,8 +1,6 @@
 -- `put_counts`: four stores, four edits. Assumes nothing.
-use mathlib.Core.Path.{_≡_, ap, _∙_}
-use mathlib.Core.List.{List}
-use Prim.Native.Nat.{ℕ}
-use Rattle.spec.specs.Bytes.{toLe, splice}
+use mathlib.Core.Path.{ap, _∙_}
+use Rattle.spec.specs.Bytes.{splice}
 use Rattle.spec.specs.Lists.{total}
 use Rattle.spec.specs.Memory.{stateSections, sectionLen}
 use Rattle.mem_codec.specs.Changes.{number-written}

@@ -2,7 +2,7 @@
 use mathlib.Core.Path.{_≡_, ap, _∙_}
 use mathlib.Core.List.{List, [], _∷_}
 use Prim.Native.Nat.{ℕ, _+_, _*_, _<_}
-use lib.ListN.{length, set, length-set}
+use lib.ListN.{length-set}
 use Rattle.spec.specs.Bytes.{toLe, splice}
 use Rattle.spec.specs.Lists.{flat, total}
 use Rattle.spec.specs.Memory.{stateSections, sectionLen}

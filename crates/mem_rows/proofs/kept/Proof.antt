@@ -1,8 +1,4 @@
-use Rattle.mem_rows.specs.declared.Change.{Change}
-use Rattle.mem_rows.specs.declared.Row.{Row}
-use Rattle.mem_rows.specs.Rows.{keptAs}
 use borrow.Author.Needs.{needs}
-use mathlib.Core.Path.{_≡_, ap}
 use Rattle.mem_rows.proofs.kept.Statement.{statement}
 use Rattle.mem_rows.proofs.kept.Tie as tie
 

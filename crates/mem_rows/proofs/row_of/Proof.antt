@@ -1,7 +1,7 @@
 -- `row_of`: after k turns the first k elements of each array are taken. Assumes nothing.
 use Prim.Native.Nat.{_-_, _*_, _≤_}
 use Rattle.spec.specs.Bytes.{part}
-use Rattle.spec.specs.Memory.{cell, stripeIn, filledIn, landedIn}
+use Rattle.spec.specs.Memory.{stripeIn, filledIn, landedIn}
 use Rattle.mem_rows.specs.Rows.{rowOf, Sized, row-step, row-taken}
 use lib.ListN.{length, take, length-set}
 use borrow.Author.Needs.{needs}

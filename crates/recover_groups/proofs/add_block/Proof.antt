@@ -1,6 +1,5 @@
 use mathlib.Core.Path.{sym, _∙_}
 use Prim.Native.Nat.{_+_}
-use borrow.Author.Needs.{needs}
 use Rattle.spec.specs.Bytes.{xors}
 use Rattle.spec.specs.History.{before}
 use Rattle.spec.specs.Lists.{isIn}

@@ -1,6 +1,5 @@
 use mathlib.Core.Path.{sym, ap, _∙_}
 use Prim.Native.Nat.{_+_}
-use borrow.Author.Needs.{needs}
 use Rattle.spec.specs.History.{before}
 use Rattle.spec.specs.Layout.{mkRec}
 use Rattle.spec.specs.Lists.{isIn}

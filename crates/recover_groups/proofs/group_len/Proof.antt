@@ -1,5 +1,4 @@
 use native.Mathlib.Omega.{arith}
-use borrow.Author.Needs.{needs}
 use Rattle.spec.specs.History.{before}
 use Rattle.law_basic.specs.Geometry.{ranged}
 use Rattle.recover_groups.specs.Groups.{groupLen}

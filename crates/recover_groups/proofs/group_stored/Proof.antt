@@ -1,7 +1,6 @@
 use mathlib.Core.Path.{ap, _∙_}
 use Prim.Native.Nat.{ℕ}
 use native.Mathlib.Omega.{arith}
-use borrow.Author.Needs.{needs}
 use Rattle.spec.specs.Drives.{zoneAt, viewOf, dataStored}
 use Rattle.spec.specs.History.{before}
 use Rattle.law_basic.specs.Geometry.{zone-on-lt}

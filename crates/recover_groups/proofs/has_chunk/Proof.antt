@@ -1,5 +1,4 @@
 use mathlib.Core.Path.{refl}
-use borrow.Author.Needs.{needs}
 use Rattle.spec.specs.History.{before}
 use Rattle.recover_groups.specs.Chunks.{chunk-is}
 use borrow.Author.Needs.{needs}

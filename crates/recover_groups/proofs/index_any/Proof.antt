@@ -2,7 +2,6 @@ use mathlib.Core.Path.{sym, ap, _∙_}
 use mathlib.Core.Bool.{Bool, not, _||_}
 use Prim.Native.Nat.{_+_}
 use native.Mathlib.Omega.{arith}
-use borrow.Author.Needs.{needs}
 use Rattle.spec.specs.Drives.{viewOf}
 use Rattle.spec.specs.History.{before}
 use Rattle.spec.specs.Segments.{recsOn}

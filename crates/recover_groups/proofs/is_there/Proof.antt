@@ -3,7 +3,6 @@ use mathlib.Core.Bool.{Bool, not, _||_}
 use Prim.Native.Nat.{_+_, _*_}
 use lib.Dec.{eqb}
 use lib.ListN.{getD}
-use borrow.Author.Needs.{needs}
 use Rattle.spec.specs.History.{before}
 use Rattle.proof_tables.specs.Segs.{has-chunk}
 use borrow.Author.Needs.{needs}

@@ -1,7 +1,6 @@
 use mathlib.Core.Path.{refl}
 use Prim.Native.Nat.{_+_, _*_}
 use native.Mathlib.Omega.{arith}
-use borrow.Author.Needs.{needs}
 use Rattle.spec.specs.History.{before}
 use Rattle.recover_groups.specs.Chunks.{entered-chunk}
 use borrow.Author.Needs.{needs}

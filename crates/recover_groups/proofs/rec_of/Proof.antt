@@ -1,7 +1,6 @@
 use mathlib.Core.Path.{sym, _∙_}
 use mathlib.Core.List.{map}
 use Prim.Native.Nat.{_+_}
-use borrow.Author.Needs.{needs}
 use Rattle.spec.specs.History.{before}
 use Rattle.spec.specs.Lists.{isIn}
 use Rattle.spec.specs.Params.{present}

@@ -2,9 +2,8 @@ use mathlib.Core.Path.{_≡_, refl, sym, ap, _∙_}
 use mathlib.Core.Bool.{Bool, true, false, _&&_}
 use borrow.Author.Tests.{not-true, not-false}
 use borrow.Author.Needs.{needs}
-use Rattle.spec.specs.Faults.{badRec, storedBad}
+use Rattle.spec.specs.Faults.{storedBad}
 use Rattle.spec.specs.Layout.{isData}
-use Rattle.disk_records.specs.Record.{recOf as recVal}
 use Rattle.recover_groups.proofs.stored_bad.Statement.{statement}
 use Rattle.recover_groups.proofs.stored_bad.Tie as tie
 

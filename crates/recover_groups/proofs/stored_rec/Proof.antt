@@ -1,6 +1,5 @@
 use mathlib.Core.Path.{_∙_}
 use native.Mathlib.Omega.{arith}
-use borrow.Author.Needs.{needs}
 use Rattle.spec.specs.Drives.{zoneAt, viewOf, recordIn}
 use Rattle.spec.specs.History.{before}
 use Rattle.law_basic.specs.Geometry.{ranged, zone-on-lt}

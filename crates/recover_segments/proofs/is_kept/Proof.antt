@@ -4,7 +4,6 @@ use Prim.Native.Nat.{ℕ}
 use borrow.Author.Tests.{not-true, not-false, eq-eqb, ne-eqb}
 use lib.Dec.{eqb}
 use lib.ListN.{getD}
-use borrow.Author.Needs.{needs}
 use Rattle.spec.specs.Drives.{viewOf}
 use Rattle.spec.specs.History.{before}
 use Rattle.spec.specs.Layout.{headerCopied}

@@ -2,7 +2,6 @@ use mathlib.Core.Path.{sym, ap, _∙_}
 use mathlib.Core.Bool.{Bool, false, not, _&&_}
 use borrow.Author.Tests.{not-true, not-false}
 use lib.ListN.{getD}
-use borrow.Author.Needs.{needs}
 use Rattle.spec.specs.Drives.{viewOf, sealedIn}
 use Rattle.spec.specs.History.{before}
 use borrow.Author.Needs.{needs}

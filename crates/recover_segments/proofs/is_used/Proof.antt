@@ -2,7 +2,6 @@ use mathlib.Core.Path.{sym, ap, _∙_}
 use mathlib.Core.Bool.{Bool, not, _||_}
 use Prim.Native.Nat.{ℕ}
 use lib.Dec.{eqb}
-use borrow.Author.Needs.{needs}
 use Rattle.spec.specs.Drives.{pointerOf, zoneOn}
 use Rattle.spec.specs.History.{before}
 use Rattle.law_basic.specs.Geometry.{zone-on-lt}
