@@ -1,3 +1,4 @@
+-- `good_rebuild`: `out-of-reach` for parameters out of range, `names-beyond` for a drive not below N; else masks are compared (`names-it`). Assumes nothing.
 use Rattle.api_answers.specs.Numbers.{out-of-reach, names-beyond, names-it}
 use Rattle.spec.specs.Memory.{stateOf}
 use Rattle.spec.specs.Params.{inRange}

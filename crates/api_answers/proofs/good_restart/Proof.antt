@@ -1,3 +1,4 @@
+-- `good_restart`: `out-of-range` for the parameters, `names-one` for a drive below N; else only 255 is good (`names-none`). Assumes nothing.
 use Rattle.api_answers.specs.Numbers.{out-of-range, names-one, names-none}
 use Rattle.spec.specs.Params.{inRange}
 use borrow.Author.Needs.{needs}

@@ -1,3 +1,4 @@
+-- `missing_in`: fewer than two bytes decode to 0 (`missing-short`); else the mask is byte 1 (`missing-long`). Assumes nothing.
 use Rattle.api_answers.specs.Numbers.{missing-short, missing-long}
 use borrow.Author.Needs.{needs}
 use native.Mathlib.Omega.{arith}

@@ -1,3 +1,4 @@
+-- `short_of`: both ways through the if give what `shortAnswer` refuses with, 2 or 1. Assumes nothing.
 use Rattle.api_answers.specs.Told.{toldOf}
 use Rattle.spec.specs.declared.Answer.the-variants.{Refused}
 use borrow.Author.Needs.{needs}

@@ -1,3 +1,4 @@
+-- `sorgizhed_close`: a state of another length is `hears-short`; else `close` on it decoded, for any count, and the change: `hears-change`. Assumes nothing.
 use Rattle.api_answers.specs.Told.{toldOf, lending, hears}
 use Rattle.api_answers.specs.Applied.{hears-change}
 use Rattle.api_answers.specs.Hears.{hears-short}

@@ -1,3 +1,4 @@
+-- `sorgizhed_fill`: a state of another length is `hears-short`; else `fill` reads its bytes, which decoding and encoding keeps: `hears-read`. Assumes nothing.
 use Rattle.api_answers.specs.Told.{toldOf, lending, hears}
 use Rattle.api_answers.specs.Hears.{hears-short, hears-read}
 use Rattle.api_answers.specs.declared.Told.{Told}

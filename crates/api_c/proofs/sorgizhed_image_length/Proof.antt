@@ -1,3 +1,4 @@
+-- `sorgizhed_image_length`: in range it is `image_len`, else 0: the two sides of the contract's cond. Assumes nothing.
 use Rattle.spec.specs.Params.{mkParams, inRange, imageLen}
 use Rattle.spec.specs.declared.Params.{Params}
 use borrow.Author.Needs.{needs}

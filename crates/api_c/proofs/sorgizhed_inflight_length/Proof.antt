@@ -1,3 +1,4 @@
+-- `sorgizhed_inflight_length`: in range it is `inflight_len`, else 0: the two sides of the contract's cond. Assumes nothing.
 use Rattle.spec.specs.Params.{mkParams, inRange, inflightLen}
 use Rattle.spec.specs.declared.Params.{Params}
 use borrow.Author.Needs.{needs}

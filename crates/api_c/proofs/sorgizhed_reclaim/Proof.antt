@@ -1,3 +1,4 @@
+-- `sorgizhed_reclaim`: a state of another length is `hears-short`; else `reclaim` on it decoded, then the change made there: `hears-change`. Assumes nothing.
 use Rattle.api_answers.specs.Told.{toldOf, lending, hears}
 use Rattle.api_answers.specs.Applied.{hears-change}
 use Rattle.api_answers.specs.Hears.{hears-short}

@@ -1,3 +1,5 @@
+-- `sorgizhed_restart`: a state of another length is refused with 1 or 2, by `good_restart`
+-- (`hears-short`); else `restart` on it decoded, and the new one encoded: `hears-call`. Assumes nothing.
 use Rattle.api_answers.specs.Told.{toldOf, lending, hears}
 use Rattle.api_answers.specs.Hears.{hears-short, hears-call}
 use Rattle.api_answers.specs.declared.Told.{Told}

@@ -1,3 +1,4 @@
+-- `sorgizhed_write`: a state of another length is `hears-short`; else `write` on it decoded, then the change made there: `hears-change`. Assumes nothing.
 use Rattle.api_answers.specs.Told.{toldOf, lending, hears}
 use Rattle.api_answers.specs.Applied.{hears-change}
 use Rattle.api_answers.specs.Hears.{hears-short}

@@ -1,3 +1,4 @@
+-- `fold_longs`: x is the exclusive or of the first i numbers; one turn adds number i, as `read_be64` reads it. Assumes nothing.
 use mathlib.Core.Path.{_≡_, ap, _∙_}
 use Prim.Native.Nat.{ℕ, _-_, _≤_}
 use native.Mathlib.Omega.{arith}

@@ -1,3 +1,4 @@
+-- `fold_width`: x is the exclusive or of the first i numbers; one turn adds number i, as `read_be` reads it with width 8. Assumes nothing.
 use mathlib.Core.Path.{_≡_, ap, _∙_}
 use Prim.Native.Nat.{ℕ, _-_, _≤_}
 use native.Mathlib.Omega.{arith}

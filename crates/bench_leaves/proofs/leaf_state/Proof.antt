@@ -1,3 +1,4 @@
+-- `leaf_state`: each of the three tests that holds leaves dst; else decoded, cell k set in three arrays and encoded, as the definition does. Assumes nothing.
 use mathlib.Core.Path.{sym, ap, _∙_}
 use lib.ListN.{length}
 use borrow.Author.Tests.{le-leb, lt-leb, eq-eqb, ne-eqb}

@@ -1,3 +1,4 @@
+-- `leaf_xor`: unequal lengths: the test of the contract is false and dst stays; else it is `xor_into`. Assumes nothing.
 use borrow.Author.Tests.{eq-eqb, ne-eqb}
 use borrow.Author.Needs.{needs}
 use Rattle.bench_leaves.proofs.leaf_xor.Statement.{statement}

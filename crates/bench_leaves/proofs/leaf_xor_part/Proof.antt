@@ -1,3 +1,4 @@
+-- `leaf_xor_part`: the two tests are, without overflow, that at + the length of src is above that of dst; else it is `xor_part`. Assumes nothing.
 use Prim.Native.Nat.{_+_}
 use native.Mathlib.Omega.{arith}
 use lib.ListN.{length}

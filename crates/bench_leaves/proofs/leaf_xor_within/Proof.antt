@@ -1,3 +1,4 @@
+-- `leaf_xor_within`: the four tests are, without overflow, that b + n is above the length or a + n above b; else the parts lie apart. Assumes nothing.
 use mathlib.Core.Logic.{inl}
 use Prim.Native.Nat.{_+_}
 use native.Mathlib.Omega.{arith}

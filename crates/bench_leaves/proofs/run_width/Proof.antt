@@ -1,3 +1,4 @@
+-- `run_width`: after i turns the bytes of the first i numbers stand in front; one turn appends the 8 bytes of first + i, by `write_be`. Assumes nothing.
 use mathlib.Core.Path.{_≡_, refl, _∙_}
 use Prim.Native.Nat.{_-_, _≤_}
 use native.Mathlib.Omega.{arith}

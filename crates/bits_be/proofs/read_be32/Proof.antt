@@ -1,3 +1,4 @@
+-- `read_be32`: four bytes below 256, so no sum passes 2 ^ 32; `beOf-part-four` says that the nested sum is their number. Assumes nothing.
 use native.Mathlib.Omega.{arith}
 use Rattle.spec.specs.Engine.Call.{close}
 use Rattle.law_basic.specs.Be.{beOf-part-four}

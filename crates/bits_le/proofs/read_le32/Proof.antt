@@ -1,3 +1,4 @@
+-- `read_le32`: four bytes below 256, so no sum passes 2 ^ 32; `leOf-part-four` says that the nested sum is their number. Assumes nothing.
 use Rattle.law_basic.specs.Le.{leOf-part-four}
 use borrow.Author.Needs.{needs}
 use Rattle.bits_le.proofs.read_le32.Statement.{statement}

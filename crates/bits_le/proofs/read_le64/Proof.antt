@@ -1,3 +1,4 @@
+-- `read_le64`: the high half, from at + 4, times 2 ^ 32 plus the low half is the number of the eight bytes (`leOf-part-add`). Assumes nothing.
 use mathlib.Core.Path.{sym, ap₂, _∙_}
 use Prim.Native.Nat.{ℕ, _+_, _*_}
 use native.Mathlib.Omega.{arith}

@@ -1,3 +1,4 @@
+-- `count`: a mask below 2 ^ 8 has at most 8 ones, so the cast loses nothing. Assumes nothing.
 use mathlib.Core.Path.{refl}
 use Prim.Native.Nat.{_<_}
 use native.Mathlib.Omega.{arith}

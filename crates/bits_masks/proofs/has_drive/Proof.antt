@@ -1,3 +1,4 @@
+-- `has_drive`: above 7 no bit of a number below 256 is set; else the bit is what shifting and mod 2 leave. Assumes nothing.
 use mathlib.Core.Path.{sym}
 use Prim.Native.Nat.{_<_}
 use borrow.Author.Needs.{needs}

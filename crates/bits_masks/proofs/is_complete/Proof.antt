@@ -1,3 +1,4 @@
+-- `is_complete`: `count` is the number of ones, so that the code compares what the definition compares. Assumes nothing.
 use mathlib.Core.Path.{ap}
 use Prim.Native.Nat.{ℕ}
 use borrow.Author.Needs.{needs}

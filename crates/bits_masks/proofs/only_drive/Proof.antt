@@ -1,3 +1,4 @@
+-- `only_drive`: above 7 the mask is none; else 1 shifted by the drive is the mask of it alone. Assumes nothing.
 use mathlib.Core.Path.{sym}
 use borrow.Author.Needs.{needs}
 use Rattle.spec.specs.Engine.Call.{close}

@@ -1,3 +1,4 @@
+-- `with_drive`: `only_drive` is the mask of the drive alone; the bitwise or is that of the definition. Assumes nothing.
 use mathlib.Core.Path.{ap}
 use borrow.Author.Needs.{needs}
 use lib.Bits.{bitOr}

@@ -1,3 +1,5 @@
+-- `checks`: a failed test closes its end (`range-fails` and so on), the passed ones
+-- before it drop off; if zones are scarce, `scarce_checks` is the rest. Assumes nothing.
 use Rattle.call_close.specs.Order.{range-fails, range-passes, lengths-fail, lengths-pass, missing-fails, missing-passes, filling-fails, scarce-last, state-fails, state-passes}
 use Rattle.spec.specs.Drives.{Disk, mkDisk, viewOf}
 use Rattle.spec.specs.Engine.{lentOk}

@@ -1,3 +1,4 @@
+-- `is_left`: the first place of `look` is NEVER just when the victim has no live block out of flight; the test negates both sides. Assumes nothing.
 use borrow.Author.Needs.{needs}
 use mathlib.Core.Bool.{not}
 use mathlib.Core.Path.{sym, ap}

@@ -1,3 +1,4 @@
+-- `pad`: the part cleared is the block of the next drive in the eighth, set to zeros; `enter` goes on from that buffer. Assumes nothing.
 use Prim.Native.Nat.{ℕ}
 use Rattle.spec.specs.Bytes.{splice}
 use Rattle.spec.specs.Memory.{slotByte, setSlotBlock}

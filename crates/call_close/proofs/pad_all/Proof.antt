@@ -1,3 +1,4 @@
+-- `pad_all`: k is the number filled, and padding the rest from here gives what padding from the start gives; a turn pads one position. Assumes nothing.
 use Prim.Native.Nat.{ℕ, _+_, _-_, _≤_, _<_}
 use Rattle.law_basic.specs.Geometry.{ranged, data-count-high}
 use Rattle.call_close.specs.Pads.{paddedRow, pads-turn, pads-end, pad-filled}

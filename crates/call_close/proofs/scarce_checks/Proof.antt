@@ -1,3 +1,4 @@
+-- `scarce_checks`: `left-fails`, `numbers-fail`, `table-fails` close the refusals, `table-passes` the end; `any_outside` is the table's fault. Assumes nothing.
 use Rattle.call_close.specs.Order.{left-fails, numbers-fail, table-fails, table-passes}
 use Rattle.spec.specs.Drives.{viewOf}
 use Rattle.spec.specs.Lists.{consIf, isNil}

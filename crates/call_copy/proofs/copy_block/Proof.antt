@@ -1,3 +1,4 @@
+-- `copy_block`: record and block are those at place q, so the plan of the copy is the plan of sending them; a block fits the 4096 bytes. Assumes nothing.
 use Prim.Native.Nat.{ℕ, _≤_}
 use Rattle.spec.specs.Bytes.{part}
 use Rattle.spec.specs.Calls.{Plan, outcome}

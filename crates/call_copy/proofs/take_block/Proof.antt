@@ -1,3 +1,4 @@
+-- `take_block`: the block at q ends within the image (`place-within`), and copied to byte 0 it is the front of the buffer (`front-part`). Assumes nothing.
 use Prim.Native.Nat.{ℕ, _+_, _-_}
 use Rattle.spec.specs.Bytes.{part}
 use Rattle.spec.specs.Params.{unitLen}

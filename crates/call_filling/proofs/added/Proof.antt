@@ -1,3 +1,4 @@
+-- `added`: field by field: k is the number filled, so mask bit, address and stamp are set there; filled + 1 is its successor. Assumes nothing.
 use Prim.Native.Nat.{ℕ, _*_}
 use Rattle.spec.specs.Lists.{only}
 use Rattle.call_filling.specs.Entries.{addedRow}

@@ -1,3 +1,4 @@
+-- `aim_of`: an eighth below 8 is the filling one (`aim-filling`); at 8 there is none and a stripe begins in the free eighth (`aim-begins`). Assumes nothing.
 use Rattle.call_filling.specs.Aims.{aim-filling, aim-begins}
 use Rattle.mem_rows.specs.Rows.{behind}
 use native.Mathlib.Omega.{arith}

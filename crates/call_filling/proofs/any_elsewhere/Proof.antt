@@ -1,3 +1,4 @@
+-- `any_elsewhere`: some eighth from i on is in flight elsewhere just when any stripe in flight is; a found one ends it, one passed drops off. Assumes nothing.
 use Rattle.mem_rows.specs.Rows.{behind}
 use Prim.Native.Nat.{_-_, _≤_}
 use Rattle.spec.specs.Lists.{upFrom, below, any}

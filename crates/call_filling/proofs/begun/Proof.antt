@@ -1,3 +1,4 @@
+-- `begun`: the row with four fields set is `begunRow` unfolded. Assumes nothing.
 use Rattle.call_filling.specs.Entries.{begunRow}
 use mathlib.Core.Path.{refl}
 use Rattle.call_filling.proofs.begun.Statement.{statement}

@@ -1,3 +1,4 @@
+-- `enter`: the row is that of `added`; parity is set just when filled + 1 reaches the data count, as `entered` has it, else the buffer stays. Assumes nothing.
 use Prim.Native.Nat.{suc}
 use Rattle.spec.specs.Memory.{setSlotParity}
 use Rattle.spec.specs.Params.{dataCount}

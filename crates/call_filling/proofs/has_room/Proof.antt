@@ -1,3 +1,4 @@
+-- `has_room`: k + 1 below N says that k is below the data count, N - 1 (`room-test`). Assumes nothing.
 use Prim.Native.Nat.{ℕ, _+_}
 use Rattle.call_filling.specs.Aims.{room-test}
 use lib.Dec.{ltb}

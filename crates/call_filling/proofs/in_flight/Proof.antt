@@ -1,3 +1,4 @@
+-- `in_flight`: n plus the number of eighths in flight from i on is the number of all; n is at most i, and a turn counts eighth i or passes it. Assumes nothing.
 use Rattle.mem_rows.specs.Rows.{behind}
 use Prim.Native.Nat.{ℕ, _+_, _-_, _≤_}
 use Rattle.spec.specs.Lists.{upFrom, keep}

@@ -1,3 +1,4 @@
+-- `is_elsewhere`: a free eighth gives false; in another the two groups are those of its stripe and of the next one, as in `otherGroup`. Assumes nothing.
 use Rattle.spec.specs.Layout.{group}
 use Rattle.spec.specs.Memory.{stripeIn}
 use Rattle.spec.specs.Write.{otherGroup}

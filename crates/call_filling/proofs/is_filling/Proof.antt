@@ -1,3 +1,4 @@
+-- `is_filling`: a free eighth is not filling; for another `has_room` of its filled positions says that it is not full. Assumes nothing.
 use Rattle.spec.specs.Memory.{filledIn, isFull, isFilling}
 use Rattle.mem_rows.specs.Rows.{behind}
 use mathlib.Core.Bool.{Bool, not, _&&_}

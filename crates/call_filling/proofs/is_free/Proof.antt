@@ -1,3 +1,4 @@
+-- `is_free`: the element read, compared with 0, is `isFree` unfolded. Assumes nothing.
 use Rattle.spec.specs.Memory.{filledIn, isFree}
 use borrow.Author.Needs.{needs}
 use mathlib.Core.Path.{refl}

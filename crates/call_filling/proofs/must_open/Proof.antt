@@ -1,3 +1,4 @@
+-- `must_open`: with no segment open the first half of the or is true; else it is false, and the test of next against S is the other half. Assumes nothing.
 use Rattle.spec.specs.Write.{mustOpen}
 use borrow.Author.Tests.{eq-eqb, ne-eqb}
 use lib.Dec.{eqb}

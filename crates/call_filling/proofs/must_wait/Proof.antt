@@ -1,3 +1,4 @@
+-- `must_wait`: the aim says whether a stripe fills and a segment opens; each end settles a part: filling, eight, any, any of another group. Assumes nothing.
 use Prim.Native.Nat.{ℕ}
 use Rattle.spec.specs.Lists.{any, isNil}
 use Rattle.spec.specs.Memory.{slotCount, inFlight, hasFilling}

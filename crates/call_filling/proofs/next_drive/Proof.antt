@@ -1,3 +1,4 @@
+-- `next_drive`: the stripe's number and its filled positions, made wide, are the arguments of `driveFor`; `data_drive` gives the bound N. Assumes nothing.
 use Rattle.spec.specs.Layout.{dataDrive}
 use Rattle.call_filling.specs.Entries.{driveFor}
 use mathlib.Core.Path.{ap₂, _∙_}

@@ -1,3 +1,4 @@
+-- `no_serial`: where no segment is opened the and is false; where one is, the test of the serial is what is left of it. Assumes nothing.
 use Rattle.spec.specs.Counts.{lastCount}
 use borrow.Author.Tests.{not-true, not-false}
 use lib.Dec.{eqb}

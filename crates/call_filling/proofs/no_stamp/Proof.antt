@@ -1,3 +1,4 @@
+-- `no_stamp`: the test of the stamp against the last one is `noStamp` unfolded. Assumes nothing.
 use Rattle.spec.specs.Write.{noStamp}
 use mathlib.Core.Path.{refl}
 use Rattle.call_filling.proofs.no_stamp.Statement.{statement}

@@ -1,3 +1,4 @@
+-- `open`: none to open: `opening-none`. Else the lowest empty zone has room (`lowest-room`), and the header stores give `opening-made`. Assumes nothing.
 use Prim.Native.Nat.{ℕ, _+_, _<_}
 use Rattle.spec.specs.Drives.{viewOf, mkDisk, pointerOf, zoneOn, emptyZones}
 use Rattle.spec.specs.Lists.{firstOr}

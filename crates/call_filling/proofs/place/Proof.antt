@@ -1,3 +1,4 @@
+-- `place`: the part copied is the block of the next drive in the eighth; `enter` goes on from that buffer, with the row of `placedRow`. Assumes nothing.
 use Prim.Native.Nat.{ℕ}
 use Rattle.spec.specs.Bytes.{splice}
 use Rattle.spec.specs.Memory.{slotByte, setSlotBlock}

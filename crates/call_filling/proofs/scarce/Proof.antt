@@ -1,3 +1,4 @@
+-- `scarce`: empty zones are counted up to n + 1, and that count is at most n just when all of them are (`scarce-count`). Assumes nothing.
 use Prim.Native.Nat.{ℕ}
 use Rattle.spec.specs.Drives.{viewOf}
 use Rattle.call_filling.specs.Left.{scarce-count}

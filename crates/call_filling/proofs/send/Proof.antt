@@ -1,3 +1,4 @@
+-- `send`: a stripe that begins has 0 filled, so room, and next grows by one; another has room as required; both are `place` in `sentRow`. Assumes nothing.
 use Prim.Native.Nat.{ℕ, suc}
 use Rattle.call_filling.specs.Entries.{begunRow, placedRow, mkSentRow, sentRow}
 use Rattle.law_basic.specs.Geometry.{ranged, data-count-low}

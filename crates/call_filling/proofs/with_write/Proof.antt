@@ -1,3 +1,4 @@
+-- `with_write`: a write adds the bit of k, which is once that bit; without one zero times the bit is added, which changes nothing. Assumes nothing.
 use Prim.Native.Nat.{_*_}
 use Rattle.spec.specs.Lists.{only}
 use borrow.Author.Needs.{needs}

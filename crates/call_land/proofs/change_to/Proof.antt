@@ -1,3 +1,4 @@
+-- `change_to`: both ways through the if give `changeTo` unfolded at that value of closes. Assumes nothing.
 use Rattle.call_land.specs.Marked.{changeTo}
 use mathlib.Core.Path.{sym, ap}
 use Rattle.call_land.proofs.change_to.Statement.{statement}

@@ -1,3 +1,4 @@
+-- `checks`: a failed test closes its end (`waiting-fails` and so on), those passed drop off; `land_fault` gives the lowest zone at fault. Assumes nothing.
 use Prim.Native.Nat.{ℕ, _<_}
 use Rattle.mem_rows.specs.declared.Row.{Row}
 use Rattle.law_views.specs.Views.{seen}

@@ -1,3 +1,4 @@
+-- `complete`: the table is `point`'s, the stores `seal`'s; a cut is `completing-cut`, none `completing-done` with the writes counted. Assumes nothing.
 use Prim.Native.Nat.{ℕ}
 use Rattle.spec.specs.Drives.{Disk, mkDisk}
 use Rattle.spec.specs.declared.Answer.the-variants.{Landed}

@@ -1,3 +1,4 @@
+-- `land`: a refusal is `land-refused`; with none the state is `Chosen`: looked at, not refused, its arrays of their lengths, as `plan` asks. Assumes nothing.
 use Rattle.mem_calls.specs.Left.{checked}
 use Rattle.spec.specs.Drives.{Disk, mkDisk}
 use Rattle.spec.specs.Lists.Opt.{some}

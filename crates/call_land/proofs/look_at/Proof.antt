@@ -1,3 +1,4 @@
+-- `look_at`: each field is what its call gives; the row is the stripe's where its eighth is below 8, since `within` keeps such an eighth. Assumes nothing.
 use Prim.Native.Nat.{ℕ, _<_}
 use Rattle.mem_rows.specs.Rows.{rowOf}
 use borrow.Author.Needs.{needs}

@@ -1,3 +1,4 @@
+-- `plan`: three ends: no store left is `ends-none`, the chunk stored but others missing `ends-part`, the stripe completed `ends-whole`. Assumes nothing.
 use Prim.Native.Nat.{ℕ, _-_, _≤_, _<_}
 use Rattle.spec.specs.Drives.{Disk, mkDisk, pointerAt, pointerOf, zoneOn}
 use Rattle.spec.specs.Landing.{slotOf, completes}

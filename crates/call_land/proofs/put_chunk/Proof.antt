@@ -1,3 +1,4 @@
+-- `put_chunk`: the part lent is the block of the drive in the eighth, the spare its record's 20 bytes; `put` stores the two. Assumes nothing.
 use Prim.Native.Nat.{ℕ}
 use Rattle.spec.specs.Bytes.{part}
 use Rattle.spec.specs.Drives.{Disk, mkDisk, storeDisk}

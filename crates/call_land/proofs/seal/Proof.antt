@@ -1,3 +1,4 @@
+-- `seal`: without sealing there is no store (`seals-none`); with it there are those of `seal_stores`, whose room is required (`seals-some`). Assumes nothing.
 use Rattle.spec.specs.Drives.{Disk, mkDisk}
 use Rattle.call_land.specs.Plan.{seals-none, seals-some}
 use borrow.Author.Needs.{needs}

@@ -1,3 +1,4 @@
+-- `show_chunk`: index and value are `compactAt` and `compactEntry`, and the index is within the table; the write is `set`. Assumes nothing.
 use Rattle.spec.specs.Layout.{compactEntry}
 use Rattle.spec.specs.Memory.{compactAt}
 use borrow.Author.Needs.{needs}

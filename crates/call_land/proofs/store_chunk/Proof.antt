@@ -1,3 +1,4 @@
+-- `store_chunk`: the pointer is 1 to S, so the offset below it is below S and the zone has room; store, table entry and mark follow in turn. Assumes nothing.
 use Prim.Native.Nat.{ℕ, _-_, _<_}
 use Rattle.spec.specs.Drives.{Disk, mkDisk, pointerOf, storeDisk, zoneOn}
 use Rattle.spec.specs.Drives.Store.{put}

@@ -1,3 +1,4 @@
+-- `completes`: the bits of the mask with drive d are counted and compared with N, as `completes` unfolded does. Assumes nothing.
 use Prim.Native.Nat.{ℕ}
 use Rattle.spec.specs.Landing.{completes}
 use Rattle.spec.specs.Memory.{landedIn, landedMask}

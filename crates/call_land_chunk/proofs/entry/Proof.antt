@@ -1,3 +1,4 @@
+-- `entry`: the elements at k of the row are those of its state with one stripe (`alone-entry`). Assumes nothing.
 use Rattle.call_land_chunk.specs.Alone.{alone-entry}
 use borrow.Author.Needs.{needs}
 use mathlib.Core.Path.{sym}

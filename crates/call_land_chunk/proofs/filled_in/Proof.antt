@@ -1,3 +1,4 @@
+-- `filled_in`: the row's number of filled positions, made wide, is `filledIn` unfolded. Assumes nothing.
 use Rattle.spec.specs.Memory.{filledIn}
 use Rattle.call_land_chunk.specs.Alone.{alone}
 use borrow.Author.Needs.{needs}

@@ -1,3 +1,4 @@
+-- `flight_record`: on a data drive it is `entry` at the drive's position, which is below 8; on the parity's it is `parity_entry`. Assumes nothing.
 use Prim.Native.Nat.{ℕ}
 use Rattle.spec.specs.Landing.{flightRec}
 use Rattle.spec.specs.Layout.{dataPosition, isData}

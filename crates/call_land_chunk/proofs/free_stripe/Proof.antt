@@ -1,3 +1,4 @@
+-- `free_stripe`: the row with filled set to 0 is `freeRow` unfolded. Assumes nothing.
 use Rattle.call_land_chunk.specs.Alone.{freeRow}
 use mathlib.Core.Path.{refl}
 use Rattle.call_land_chunk.proofs.free_stripe.Statement.{statement}

@@ -1,3 +1,4 @@
+-- `is_last`: each test that fails makes its part of the and false; once both hold, what is left is the test of flying against 1. Assumes nothing.
 use borrow.Author.Tests.{eq-eqb, ne-eqb, not-true, not-false}
 use lib.Dec.{eqb}
 use mathlib.Core.Bool.{Bool, true, false, _&&_}

@@ -1,3 +1,4 @@
+-- `mark_landed`: field by field: landed is the mask with drive d, the offsets have o set at d, and o fits 32 bits. Assumes nothing.
 use Rattle.call_land_chunk.specs.Alone.{markRow}
 use borrow.Author.Needs.{needs}
 use lib.ListN.{set}

@@ -1,3 +1,4 @@
+-- `offset_in`: the element at the drive, made wide, is the offset in the state with one stripe (`alone-offset`). Assumes nothing.
 use Rattle.call_land_chunk.specs.Alone.{alone-offset}
 use borrow.Author.Needs.{needs}
 use mathlib.Core.Path.{sym, _∙_}

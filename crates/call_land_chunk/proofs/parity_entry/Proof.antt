@@ -1,3 +1,4 @@
+-- `parity_entry`: a and t are the xor of the addresses and stamps of the first k positions; a turn adds position k. Assumes nothing.
 use Prim.Native.Nat.{ℕ, _-_, _≤_}
 use Rattle.spec.specs.Bytes.{xorAll}
 use Rattle.spec.specs.Layout.{Rec, mkRec}

@@ -1,3 +1,4 @@
+-- `ready`: a drive that has landed gives false; else a data drive asks its position against the filled ones, the parity's the data count. Assumes nothing.
 use Prim.Native.Nat.{ℕ}
 use Rattle.spec.specs.Landing.{ready}
 use Rattle.spec.specs.Layout.{dataPosition, isData}

@@ -1,3 +1,4 @@
+-- `waiting`: d at N or above makes the first part of the and false, slot at 8 or above the second; else `ready` is what is left. Assumes nothing.
 use Rattle.spec.specs.Landing.{ready}
 use Rattle.spec.specs.Memory.{slotCount}
 use Rattle.call_land_chunk.specs.Alone.{alone}

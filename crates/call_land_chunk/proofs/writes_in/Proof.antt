@@ -1,3 +1,4 @@
+-- `writes_in`: n plus the writes among positions k on is the number of all; n is at most k, and a turn counts position k or passes it. Assumes nothing.
 use Prim.Native.Nat.{ℕ, _+_, _-_, _≤_}
 use Rattle.spec.specs.Landing.{writesIn}
 use Rattle.spec.specs.Lists.{upFrom, keep, tally}

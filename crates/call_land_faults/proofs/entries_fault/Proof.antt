@@ -1,3 +1,4 @@
+-- `entries_fault`: the lowest of worst and the faults of entries k on is the answer; a turn takes entry k's if it is lower (`faults-lower`). Assumes nothing.
 use Prim.Native.Nat.{ℕ, _+_, _-_, _≤_, _<_}
 use Rattle.spec.specs.Drives.{viewOf}
 use Rattle.spec.specs.Landing.{entryFaults}

@@ -1,3 +1,4 @@
+-- `entry_fault`: `entry-outside` for an address not below L, `entry-never` for one never written; else its place's fault (`entry-placed`). Assumes nothing.
 use Rattle.spec.specs.Counts.{neverPlace}
 use Rattle.spec.specs.Drives.{View, viewOf}
 use Rattle.spec.specs.Memory.{placeAt}

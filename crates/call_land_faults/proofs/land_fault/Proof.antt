@@ -1,3 +1,4 @@
+-- `land_fault`: a stripe left incomplete has only the segment's faults (`faults-part`), a completed one also its entries' (`faults-whole`). Assumes nothing.
 use Prim.Native.Nat.{ℕ}
 use Rattle.spec.specs.Drives.{View, viewOf}
 use Rattle.spec.specs.Landing.{entryFaults}

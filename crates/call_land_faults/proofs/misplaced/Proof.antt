@@ -1,3 +1,4 @@
+-- `misplaced`: a pointer of 0 is `misplaced-low`, above S `misplaced-high`; between them the groups are compared (`misplaced-else`). Assumes nothing.
 use Prim.Native.Nat.{ℕ, _-_}
 use Rattle.spec.specs.Drives.{pointerOf}
 use Rattle.spec.specs.Layout.{group}

@@ -1,3 +1,4 @@
+-- `no_room`: pointer, footers and capacity are those of `overBy`, whose one block more is added just where e is d. Assumes nothing.
 use Prim.Native.Nat.{_+_}
 use Rattle.spec.specs.Drives.{pointerOf, zoneOn}
 use Rattle.spec.specs.Params.{footers, capacity}

@@ -1,3 +1,4 @@
+-- `overfull`: some zone from drive e on is overfull just when any drive's is; a found one ends it, one passed drops off. Assumes nothing.
 use Prim.Native.Nat.{_-_, _≤_}
 use Rattle.spec.specs.Lists.{upFrom, below, any}
 use Rattle.call_land_faults.specs.Lowest.{overBy, over-view}

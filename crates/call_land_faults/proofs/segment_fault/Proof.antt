@@ -1,3 +1,4 @@
+-- `segment_fault`: `segment-bad` for a misplaced chunk, `segment-full` for footers without room, else `segment-fine`; all are at most Z. Assumes nothing.
 use Prim.Native.Nat.{ℕ}
 use Rattle.spec.specs.Drives.{View, viewOf, zoneOn}
 use Rattle.spec.specs.Landing.{misplaced, overfull}

@@ -1,3 +1,4 @@
+-- `seal_stores`: after d drives their footers are stored and left is the count less these; the next zone is untouched, so its room is there. Assumes nothing.
 use Prim.Native.Nat.{ℕ, _+_, _-_, _≤_}
 use Rattle.spec.specs.Drives.{Disk, mkDisk, zoneAt, zoneOn, pointerOf, footerStores}
 use Rattle.spec.specs.Params.{footers, capacity}

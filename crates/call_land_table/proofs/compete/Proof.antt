@@ -1,3 +1,4 @@
+-- `compete`: a record of another address is dropped (`other-address`); one of this address is the first to compete (`same-address`). Assumes nothing.
 use Rattle.spec.specs.Landing.{landedCand}
 use Rattle.spec.specs.Layout.{Rec}
 use Rattle.spec.specs.Rank.{better}

@@ -1,3 +1,4 @@
+-- `held`: the place is within the table; never written gives none, any other is data as required and gives `held_cand`. Assumes nothing.
 use Prim.Native.Nat.{ℕ}
 use Rattle.spec.specs.Counts.{neverPlace}
 use Rattle.spec.specs.Drives.{View, viewOf}

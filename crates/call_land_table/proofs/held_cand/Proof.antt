@@ -1,3 +1,4 @@
+-- `held_cand`: field by field: drive, zone and block of the place name the record, which gives the stamp; the header gives the serial. Assumes nothing.
 use Prim.Native.Nat.{ℕ, _-_}
 use Rattle.spec.specs.Drives.{View, viewOf, placeSegment, recordAt}
 use Rattle.spec.specs.Landing.{serialAt, heldCand}

@@ -1,3 +1,4 @@
+-- `landed_cand`: field by field: entry k, its data drive, and the offset there, which is below S and so a place of the segment. Assumes nothing.
 use Prim.Native.Nat.{ℕ, _+_, _<_}
 use Rattle.spec.specs.Drives.{zoneOn}
 use Rattle.spec.specs.Landing.{landedCand}

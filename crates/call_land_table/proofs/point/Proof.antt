@@ -1,3 +1,4 @@
+-- `point`: the winners are worked out on the table as it came, then put; that is `pointed` (`puts-are`). Assumes nothing.
 use Rattle.spec.specs.Drives.{View, viewOf}
 use Rattle.call_land_table.specs.Winners.{puts-are}
 use Rattle.call_land_chunk.specs.Alone.{alone}

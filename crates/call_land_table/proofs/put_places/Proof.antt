@@ -1,3 +1,4 @@
+-- `put_places`: putting positions k on into the table so far gives what putting all gives; a turn puts k (`put-one`) or not (`put-none`). Assumes nothing.
 use Rattle.call_land_chunk.specs.Alone.{alone}
 use Prim.Native.Nat.{ℕ, _+_, _-_, _≤_, _<_}
 use Rattle.spec.specs.Layout.{Rec}

@@ -1,3 +1,4 @@
+-- `serial_at`: the part lent is the first block of drive 0's zone as the view has it; a block has the 41 bytes that the serial needs. Assumes nothing.
 use Prim.Native.Nat.{ℕ, _≤_}
 use Rattle.spec.specs.Drives.{mkDisk, zoneOn}
 use Rattle.spec.specs.Landing.{serialAt}

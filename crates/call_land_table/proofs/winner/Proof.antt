@@ -1,3 +1,4 @@
+-- `winner`: the best of b and positions k on is the best of the table's and all; a turn lets position k compete (`rest-turn`). Assumes nothing.
 use Prim.Native.Nat.{_-_, _≤_}
 use Rattle.spec.specs.Drives.{View, viewOf}
 use Rattle.spec.specs.Landing.{held, landedCand, landedCands}

@@ -1,3 +1,4 @@
+-- `winners`: the first k places are the winners of addresses below L; a turn sets the next one (`set-winner`) or leaves one not below L. Assumes nothing.
 use Rattle.call_land_chunk.specs.Alone.{alone}
 use Prim.Native.Nat.{ℕ, _+_, _-_, _≤_, _<_}
 use Rattle.spec.specs.Drives.{View, viewOf}

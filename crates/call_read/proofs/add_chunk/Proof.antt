@@ -1,3 +1,4 @@
+-- `add_chunk`: a missing drive adds nothing; else the offset shown is in the zone (`block-low`) and its bytes are the chunk's (`shown-bytes`). Assumes nothing.
 use Prim.Native.Nat.{ℕ, _+_, _<_}
 use Rattle.spec.specs.Bytes.{part, xors}
 use Rattle.spec.specs.Drives.{viewOf, mkDisk}

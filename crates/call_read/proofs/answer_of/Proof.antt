@@ -1,3 +1,4 @@
+-- `answer_of`: each variant of f gives its answer of `readAnswer`; the part's byte offset is that of the place. Assumes nothing.
 use Rattle.spec.specs.Read.{readAnswer}
 use Rattle.spec.specs.declared.Answer.the-variants.{Part}
 use Rattle.mem_lookup.specs.Lies.{foundOf}

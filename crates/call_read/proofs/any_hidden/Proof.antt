@@ -1,3 +1,4 @@
+-- `any_hidden`: some drive from d on hides the stripe just when any drive does; a found one ends it, one passed drops off (`hidden-any`). Assumes nothing.
 use Prim.Native.Nat.{ℕ, _-_, _≤_}
 use Rattle.spec.specs.Drives.{viewOf}
 use Rattle.spec.specs.Lists.{upFrom, below, any}

@@ -1,3 +1,4 @@
+-- `decode`: the block is the exclusive or of the chunks on the present drives below d; a turn adds drive d's (`decode-more`). Assumes nothing.
 use Prim.Native.Nat.{ℕ, _+_, _-_, _≤_, _<_}
 use Rattle.spec.specs.Bytes.{parity}
 use Rattle.spec.specs.Drives.{viewOf, mkDisk}

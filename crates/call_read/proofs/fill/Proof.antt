@@ -1,3 +1,4 @@
+-- `fill`: a refusal is `fill-refused`; with none the place has no fault, so it holds data (`found-placed`), and `fill-done` closes. Assumes nothing.
 use Rattle.spec.specs.Drives.{Disk, mkDisk, viewOf}
 use Rattle.spec.specs.Lists.Opt.{none}
 use Rattle.spec.specs.Memory.{Memory, mkMemory, stateOf}

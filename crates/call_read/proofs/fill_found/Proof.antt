@@ -1,3 +1,4 @@
+-- `fill_found`: nowhere gives zeros (`fill-zeros`), here a copy (`fill-copied`), away what `fill_lost` gives. Assumes nothing.
 use Rattle.spec.specs.Drives.{viewOf, mkDisk}
 use Rattle.mem_lookup.specs.Lies.{foundOf}
 use Rattle.mem_lookup.specs.declared.Found.{Found}

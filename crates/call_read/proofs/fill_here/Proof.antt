@@ -1,3 +1,4 @@
+-- `fill_here`: the block at q ends within the image (`place-in`), and the part lent is the place's bytes. Assumes nothing.
 use Prim.Native.Nat.{ℕ}
 use Rattle.spec.specs.Bytes.{part}
 use Rattle.spec.specs.Params.{unitLen}

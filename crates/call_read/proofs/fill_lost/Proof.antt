@@ -1,3 +1,4 @@
+-- `fill_lost`: place q names its zone and stripe, which is below S; a hidden chunk is `fill-hidden`, none `fill-decoded`. Assumes nothing.
 use Prim.Native.Nat.{ℕ, _-_, _<_}
 use Rattle.spec.specs.Drives.{viewOf}
 use Rattle.call_read.specs.Fill.{fill-hidden, fill-decoded}

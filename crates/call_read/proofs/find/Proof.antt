@@ -1,3 +1,4 @@
+-- `find`: a refusal is `read-refused`; with none the address lies where `seek` says, and `read-done` closes with its answer. Assumes nothing.
 use Rattle.spec.specs.Drives.{Disk, mkDisk}
 use Rattle.spec.specs.Lists.Opt.{none}
 use Rattle.spec.specs.Memory.{Memory, mkMemory, stateOf}

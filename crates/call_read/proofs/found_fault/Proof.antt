@@ -1,3 +1,4 @@
+-- `found_fault`: nowhere has no fault, and Z is not below Z; here and away have the fault of their place. Assumes nothing.
 use Rattle.spec.specs.Drives.{viewOf}
 use Rattle.spec.specs.Lists.{consIf}
 use Rattle.spec.specs.Read.{foundFaults}

@@ -1,3 +1,4 @@
+-- `is_hidden`: a missing drive makes the first part false; on a present one S says that the table shows no chunk. Assumes nothing.
 use Rattle.spec.specs.Drives.{viewOf}
 use Rattle.spec.specs.Lists.{isNil}
 use Rattle.spec.specs.Memory.{shownAt}

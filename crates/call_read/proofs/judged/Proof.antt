@@ -1,3 +1,4 @@
+-- `judged`: a zone below Z is refused (`zone-fails`); any other is no fault (`zones-pass`) and f lies where it lay. Assumes nothing.
 use Rattle.spec.specs.Calls.{firstRefusal}
 use Rattle.spec.specs.Calls.Check.{zones}
 use Rattle.spec.specs.Lists.{consIf}

@@ -1,3 +1,4 @@
+-- `part`: an answer of kind 8 names a block within the image (`part-within`); any other has length 0 (`part-none`), by its variants. Assumes nothing.
 use Prim.Native.Nat.{ℕ, _+_, _≤_}
 use Rattle.spec.specs.Answers.{kind}
 use Rattle.spec.specs.Bytes.{part}

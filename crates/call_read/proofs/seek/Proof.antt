@@ -1,3 +1,4 @@
+-- `seek`: a failed test closes its end (`range-fails` and so on), those passed drop off; `judged` settles the fault of the place found. Assumes nothing.
 use Prim.Native.Nat.{ℕ}
 use Rattle.spec.specs.Drives.{Disk, mkDisk, viewOf}
 use Rattle.spec.specs.Engine.{lentOk}

@@ -1,3 +1,4 @@
+-- `bad_numbers`: parameters out of range are `numbers-bad`; else what is left is whether the drive is the one named missing (`numbers-named`). Assumes nothing.
 use mathlib.Core.Path.{sym, ap, _∙_}
 use mathlib.Core.Bool.{not}
 use borrow.Author.Tests.{not-true, not-false}

@@ -1,3 +1,4 @@
+-- `checks`: `numbers-fail`, `lengths-fail`, `pointers-fail` close the refusals; zone Z says that no pointer is at fault (`pointers-pass`). Assumes nothing.
 use mathlib.Core.Path.{_≡_, sym, ap, _∙_}
 use Prim.Native.Nat.{ℕ}
 use borrow.Author.Tests.{not-true, not-false}

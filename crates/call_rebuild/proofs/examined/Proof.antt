@@ -1,3 +1,4 @@
+-- `examined`: a zone below Z is the one that the faults name (`names-zone`); else it is Z, the segments have no fault, and `restore` goes on. Assumes nothing.
 use mathlib.Core.Path.{_≡_, _∙_, subst}
 use mathlib.Core.List.{[]}
 use Prim.Native.Nat.{ℕ}

@@ -1,3 +1,4 @@
+-- `names_missing`: a drive not below N makes the first part false; else its mask is what `named` gives (`only-named`), compared with missing. Assumes nothing.
 use mathlib.Core.Path.{sym, ap, _∙_}
 use mathlib.Core.Bool.{Bool, _&&_}
 use Prim.Native.Nat.{ℕ}

@@ -1,3 +1,4 @@
+-- `rebuild`: a check that fails refuses the whole call (`front-refused`); with none `examined` gives the rest. Assumes nothing.
 use mathlib.Core.Path.{sym, ap, _∙_}
 use borrow.Author.Needs.{needs}
 use Rattle.spec.specs.Drives.{viewOf, mkDisk}

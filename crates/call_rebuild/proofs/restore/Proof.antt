@@ -1,3 +1,4 @@
+-- `restore`: with no fault the records are good and the stores fit (`good-recs`, `stores-fit`); then `ends-cut` or `ends-done`. Assumes nothing.
 use mathlib.Core.Path.{_∙_}
 use Prim.Native.Nat.{_≤_}
 use borrow.Author.Needs.{needs}

@@ -1,3 +1,5 @@
+-- `choose`: a failed test closes its end (`nobody-fails` and so on), passed ones
+-- drop off; live blocks leave `choose_copy`, none `dead-checks`. Assumes nothing.
 use Prim.Native.Nat.{_<_}
 use Rattle.spec.specs.Calls.{firstRefusal}
 use Rattle.spec.specs.Calls.Check.{zones}

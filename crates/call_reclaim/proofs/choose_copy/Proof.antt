@@ -1,3 +1,5 @@
+-- `choose_copy`: no idle block is `idle-fails`; else the rules of a copy, then the
+-- zones at fault (`zones-odd`); none left, the first idle one is it. Assumes nothing.
 use Prim.Native.Nat.{ℕ, _<_}
 use Rattle.mem_calls.specs.Left.{checked}
 use Rattle.spec.specs.Calls.{firstRefusal}

@@ -1,3 +1,4 @@
+-- `clear_rows`: clearing the rows of drives d on in the table so far gives what clearing all gives; a turn clears drive d's (`rows-turn`). Assumes nothing.
 use Prim.Native.Nat.{ℕ, _-_, _≤_}
 use Rattle.spec.specs.Bytes.{splice}
 use Rattle.spec.specs.Drives.{zoneOn}

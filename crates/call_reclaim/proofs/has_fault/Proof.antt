@@ -1,3 +1,4 @@
+-- `has_fault`: a bad state names zone 0 (`fault-state`); with a good one a place outside does, else the zones behind decide (`fault-table`). Assumes nothing.
 use Rattle.call_reclaim.specs.Choosing.{fault-state, fault-table}
 use borrow.Author.Needs.{needs}
 use borrow.Author.Tests.{not-true, not-false}

@@ -1,3 +1,4 @@
+-- `reclaim`: the choice says the rest: refused is `reclaim-refused`, no live block `reclaim-clear`, one to copy `reclaim-copy`. Assumes nothing.
 use Rattle.spec.specs.Drives.{viewOf, Disk, mkDisk}
 use Rattle.spec.specs.Lists.Opt.{some}
 use Rattle.spec.specs.Memory.{Memory, mkMemory}

@@ -1,3 +1,4 @@
+-- `reset_segment`: the stores only reset pointers, so any image will do; cut is `reset-cut`, else the rows are cleared (`reset-done`). Assumes nothing.
 use Rattle.spec.specs.Drives.{mkDisk}
 use Rattle.spec.specs.Memory.{mkMemory}
 use Rattle.spec.specs.declared.Answer.the-variants.{Reset}

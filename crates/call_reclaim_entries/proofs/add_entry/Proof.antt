@@ -1,3 +1,4 @@
+-- `add_entry`: a place outside counts nowhere; another's zone q / cap is numbered and its segment has a count, which one more fits. Assumes nothing.
 use Prim.Native.Nat.{ℕ, _+_, _*_, _/_, _<_}
 use borrow.Author.Needs.{needs}
 use borrow.Author.Tests.{lt-ltb, le-ltb}

@@ -1,3 +1,4 @@
+-- `count_all`: used holds the entries of the first a addresses by segment; a turn adds that of address a (`entered-more`), at most a for each. Assumes nothing.
 use Prim.Native.Nat.{ℕ, _+_, _-_, _*_, _/_, _≤_, _<_}
 use Rattle.spec.specs.Params.{capacity, addressesLen}
 use Rattle.call_reclaim_entries.specs.Entries.{Entered, entered-more, zone-low, zone-told}

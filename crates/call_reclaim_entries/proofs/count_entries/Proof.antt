@@ -1,3 +1,4 @@
+-- `count_entries`: N * Z is at most 8192, so the zones fit the array; numbered, they are what `count_all` asks. Assumes nothing.
 use Prim.Native.Nat.{ℕ, _*_, _≤_}
 use Rattle.law_basic.specs.Geometry.{ranged, zones-all}
 use borrow.Author.Needs.{needs}

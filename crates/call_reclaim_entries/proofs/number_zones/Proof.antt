@@ -1,3 +1,4 @@
+-- `number_zones`: the first t zones have their segments, and z is t modulo Z, as the zone after the last is 0; a turn numbers zone t. Assumes nothing.
 use Prim.Native.Nat.{ℕ, _+_, _-_, _%_, _≤_, _<_}
 use Rattle.call_reclaim_live.specs.Live.{mod-next}
 use Rattle.call_reclaim_entries.specs.Entries.{Zones, zones-more}

@@ -1,3 +1,4 @@
+-- `zone_number`: q * m fits 64 bits (`inverse-fits`), and as m is 2^47 / cap + 1 the quotient by 2^47 is q / cap (`inverse-divides`). Assumes nothing.
 use Rattle.call_reclaim_entries.specs.Inverse.{inverse-fits, inverse-divides}
 use Prim.Native.Nat.{ℕ, _*_, _/_, _<_}
 use mathlib.Core.Path.{sym, ap, _∙_, subst}

@@ -1,3 +1,4 @@
+-- `better`: unsealed keeps best; sealed, `pick-new` where there is none yet, `pick-less` where g has fewer, `pick-old` where it has not. Assumes nothing.
 use Rattle.call_reclaim_live.specs.Fewest.{pickOf, pick-new, pick-less, pick-old}
 use borrow.Author.Needs.{needs}
 use borrow.Author.Tests.{not-true, not-false}

@@ -1,3 +1,4 @@
+-- `count_windows`: live counts each segment's live blocks below first; a turn marks and counts a window. One window of all leaves its marks. Assumes nothing.
 use Prim.Native.Nat.{ℕ, _-_, _*_, _≤_, _<_}
 use Rattle.call_reclaim_live.specs.Live.{liveBelow, Counted, counted-le, only-window, left-marks, window-nearer}
 use Rattle.spec.specs.History.{before, step}

@@ -1,3 +1,4 @@
+-- `count_zones`: at is the first place of zone z, and live counts the live blocks below from; a turn adds the marks of that zone to z's count. Assumes nothing.
 use Prim.Native.Nat.{ℕ, _+_, _-_, min, max, _≤_, _<_}
 use Rattle.call_reclaim_live.specs.Live.{liveBelow, Counted, bounded-more, sum-fits, nearer, zone-first, zone-same, next-starts, zone-next, counted-more}
 use Rattle.spec.specs.Params.{capacity, placeBlock, placeZone}

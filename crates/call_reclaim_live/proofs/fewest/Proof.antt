@@ -1,3 +1,4 @@
+-- `fewest`: choosing on from best over the segments from g on gives the victim, and best is the least of those below g; a turn weighs g. Assumes nothing.
 use Prim.Native.Nat.{ℕ, _-_, _*_, _≤_}
 use Rattle.call_reclaim_live.specs.Fewest.{takenAs, taken-none, turn-best, onward, onward-start, onward-end}
 use Rattle.call_reclaim_live.specs.Least.{Least, least-none, least-turn}

@@ -1,3 +1,4 @@
+-- `next_zone`: at Z the zone is 0, which is below Z; else z + 1 is not Z, and so below it. Assumes nothing.
 use Prim.Native.Nat.{_+_}
 use Rattle.law_basic.specs.Geometry.{ranged}
 use borrow.Author.Needs.{needs}

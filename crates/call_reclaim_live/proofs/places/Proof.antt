@@ -1,3 +1,4 @@
+-- `places`: N * Z is at most 8192 and the capacity at most 87381, so the product is at most 715825152. Assumes nothing.
 use Prim.Native.Nat.{ℕ, _*_}
 use Rattle.spec.specs.Params.{capacity}
 use Rattle.law_basic.specs.Geometry.{prod-le, ranged, zones-all}

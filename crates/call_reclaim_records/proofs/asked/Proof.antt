@@ -1,3 +1,4 @@
+-- `asked`: the product is at most 524280 * 468378646, and a quotient is no more than what it divides. Assumes nothing.
 use Prim.Native.Nat.{ℕ, _+_, _*_, _≤_}
 use Rattle.law_basic.specs.Geometry.{prod-le}
 use borrow.Author.Needs.{needs}

@@ -1,3 +1,4 @@
+-- `is_enough`: best itself and an unsealed segment ask nothing; of another as many as needed are vouched for, and these are live. Assumes nothing.
 use Rattle.law_basic.specs.Ranges.{not-both}
 use borrow.Author.Needs.{needs}
 use borrow.Author.Tests.{leb-true, not-true}

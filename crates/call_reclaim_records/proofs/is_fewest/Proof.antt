@@ -1,3 +1,4 @@
+-- `is_fewest`: all segments below g have enough; a turn adds g (`below-more`), and false promises nothing. Assumes nothing.
 use Prim.Native.Nat.{ℕ, _-_, _≤_, _<_}
 use Rattle.spec.specs.Drives.{viewOf}
 use Rattle.law_basic.specs.Ranges.{not-both}

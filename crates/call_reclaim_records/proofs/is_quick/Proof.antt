@@ -1,3 +1,4 @@
+-- `is_quick`: it promises nothing, only sums must fit: t is at most 245561556524880 * g, and twice the passes times L at most 320370993180. Assumes nothing.
 use Prim.Native.Nat.{_+_, _-_, _*_, _/_, _≤_}
 use Rattle.law_basic.specs.Geometry.{ranged, prod-le, addresses-all}
 use native.Mathlib.Omega.{arith}

@@ -1,3 +1,4 @@
+-- `vouched`: c is at most the live blocks of segment g on drives below d, and at most 65535 * d; a turn adds drive d's (`drive-more`). Assumes nothing.
 use Prim.Native.Nat.{_+_, _-_, _*_, _≤_}
 use Rattle.call_reclaim_live.specs.Live.{liveBelow}
 use Rattle.spec.specs.Params.{placeOf}

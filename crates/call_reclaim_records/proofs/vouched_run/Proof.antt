@@ -1,3 +1,4 @@
+-- `vouched_run`: c is at most the places among the first i that the table points at, and at most i; a turn adds place q + i if it does. Assumes nothing.
 use Prim.Native.Nat.{ℕ, _+_, _-_, _≤_}
 use Rattle.mem_marks.specs.Marks.{isPointed}
 use Rattle.call_reclaim_records.specs.Vouch.{pointedFrom, pointed-bit, run-snoc, run-le}

@@ -1,3 +1,4 @@
+-- `vouched_zone`: c is at most those pointed at of the first o data blocks, and footer block f begins at byte at; a turn adds its run. Assumes nothing.
 use Prim.Native.Nat.{ℕ, _+_, _-_, _*_, _≤_}
 use Rattle.call_reclaim_live.specs.Live.{places-high}
 use Rattle.spec.specs.Params.{perFooter, capacity, unitLen, addressesLen, placeOf, placeByte}

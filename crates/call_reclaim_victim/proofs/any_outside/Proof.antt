@@ -1,3 +1,4 @@
+-- `any_outside`: the places from the image's end up to never written are counted, and there is a fault just when some are (`outside-count`). Assumes nothing.
 use Prim.Native.Nat.{ℕ}
 use Rattle.spec.specs.Counts.{neverPlace}
 use Rattle.spec.specs.Lists.{consIf}

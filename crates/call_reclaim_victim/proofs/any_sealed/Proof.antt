@@ -1,3 +1,4 @@
+-- `any_sealed`: some segment from g on is sealed just when any is; a found one ends it, one passed drops off. Assumes nothing.
 use Prim.Native.Nat.{ℕ, _-_, _≤_}
 use Rattle.spec.specs.Drives.{viewOf, sealedIn}
 use Rattle.spec.specs.Lists.{upFrom, below, any}

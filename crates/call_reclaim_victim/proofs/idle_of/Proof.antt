@@ -1,3 +1,4 @@
+-- `idle_of`: marks of fewer places leave it to `idle_windows`; else they are of all, and `idle_zones` goes over them from nothing found. Assumes nothing.
 use Prim.Native.Nat.{_*_, _≤_}
 use Rattle.spec.specs.Drives.{viewOf}
 use Rattle.spec.specs.Params.{capacity}

@@ -1,3 +1,4 @@
+-- `idle_run`: found is right below q; a turn skips to the next mark (`run-skip`) and takes it (`run-step`); `run-other` if not mine. Assumes nothing.
 use Prim.Native.Nat.{ℕ, _+_, _-_, _≤_, _<_}
 use Rattle.call_reclaim_live.specs.Live.{places-high}
 use Rattle.spec.specs.Drives.{viewOf}

@@ -1,3 +1,4 @@
+-- `idle_step`: `step-odd` for a header or footer block, `step-kept` once one is found, `step-flying` for one in flight, else `step-new`. Assumes nothing.
 use Rattle.spec.specs.Drives.{viewOf}
 use Rattle.spec.specs.Reclaim.{idle}
 use Rattle.call_reclaim_victim.specs.Waiting.{step-odd, step-kept, step-flying, step-new}

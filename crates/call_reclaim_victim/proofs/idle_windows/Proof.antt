@@ -1,3 +1,4 @@
+-- `idle_windows`: found is right for the live blocks below first; a turn marks the next window and goes over its zones. Assumes nothing.
 use Prim.Native.Nat.{_-_, _*_, _≤_}
 use Rattle.call_reclaim_live.specs.Live.{window-nearer}
 use Rattle.spec.specs.Drives.{viewOf}

@@ -1,3 +1,4 @@
+-- `idle_zones`: at is the first place of zone z, and found is right below from; a turn goes over zone z, whose places are all of one segment. Assumes nothing.
 use Prim.Native.Nat.{ℕ, _+_, _-_, min, max, _≤_, _<_}
 use Rattle.call_reclaim_live.specs.Live.{nearer, places-high, zone-first, zone-same, next-starts, zone-next}
 use Rattle.spec.specs.Drives.{viewOf}

@@ -1,3 +1,4 @@
+-- `is_flying`: the record's address and stamp are looked for in the stripes in flight, which for a data block is `flying` (`flying-is`). Assumes nothing.
 use Rattle.spec.specs.Drives.{viewOf}
 use Rattle.spec.specs.Memory.{holds}
 use Rattle.disk_records.specs.Record.{recOf}

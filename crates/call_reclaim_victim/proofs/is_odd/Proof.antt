@@ -1,3 +1,4 @@
+-- `is_odd`: block 0 is a header (`odd-low`); from 1 on the place is odd just when its block is above S (`odd-high`). Assumes nothing.
 use Prim.Native.Nat.{ℕ}
 use Rattle.law_basic.specs.Geometry.{place-block}
 use Rattle.call_reclaim_victim.specs.Waiting.{odd-low, odd-high}

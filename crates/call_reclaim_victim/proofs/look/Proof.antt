@@ -1,3 +1,4 @@
+-- `look`: with none sealed there is no victim (`looked-none`); else it is looked for with marks, or by records where that is sure. Assumes nothing.
 use borrow.Author.Tests.{not-true, not-false}
 use Rattle.spec.specs.Drives.{viewOf}
 use Rattle.call_reclaim_victim.specs.Looked.{looked-none, unsealed}

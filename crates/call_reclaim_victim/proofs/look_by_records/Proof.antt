@@ -1,3 +1,4 @@
+-- `look_by_records`: unsure promises nothing; no entry is no live block (`looked-empty`); all entries live, the others enough: `looked-seen`. Assumes nothing.
 use Prim.Native.Nat.{ℕ, _≤_, _<_}
 use Rattle.spec.specs.Drives.{viewOf}
 use Rattle.call_reclaim_entries.specs.Entries.{entered-none}

@@ -1,3 +1,4 @@
+-- `look_with`: Z is at most 1024, so all segments have a count, 0 at first; none sealed is `looked-none`, g with its idle block `looked-some`. Assumes nothing.
 use Prim.Native.Nat.{ℕ, _≤_, _<_}
 use Rattle.call_reclaim_live.specs.Live.{counted-none}
 use Rattle.spec.specs.Drives.{viewOf}

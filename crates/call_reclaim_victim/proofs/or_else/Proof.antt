@@ -1,3 +1,4 @@
+-- `or_else`: a first place that is none gives the second (`else-first`), any other itself (`else-kept`). Assumes nothing.
 use Rattle.call_reclaim_victim.specs.Waiting.{else-first, else-kept}
 use mathlib.Core.Path.{sym}
 use Rattle.call_reclaim_victim.proofs.or_else.Statement.{statement}

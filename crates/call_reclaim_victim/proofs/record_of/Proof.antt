@@ -1,3 +1,4 @@
+-- `record_of`: a block not odd is 1 to S, so its offset is below S, and a place in the image has its drive below N; `record_at` reads it. Assumes nothing.
 use Prim.Native.Nat.{_-_}
 use Rattle.call_reclaim_live.specs.Live.{drive-low}
 use Rattle.spec.specs.Drives.{viewOf, recordAt}

@@ -1,3 +1,4 @@
+-- `see_block`: a place that the table has is live and not odd (`data-live`, `data-even`), so one more (`vouched-step`); any other is skipped. Assumes nothing.
 use Prim.Native.Nat.{ℕ, _+_, _<_}
 use Rattle.call_reclaim_live.specs.Live.{places-high}
 use Rattle.spec.specs.Drives.{viewOf}

@@ -1,3 +1,4 @@
+-- `see_segment`: what is found vouches for the drives below d, with at most 65535 * d; a turn skips to its zone, sees it and skips on. Assumes nothing.
 use Prim.Native.Nat.{ℕ, _+_, _-_, _*_, _≤_}
 use Rattle.spec.specs.Drives.{viewOf}
 use Rattle.spec.specs.Params.{placeOf}

@@ -1,3 +1,4 @@
+-- `see_zone`: if what came vouches for the places below at, found does for those below at + o, with at most o more; a turn sees block o. Assumes nothing.
 use Prim.Native.Nat.{ℕ, _+_, _-_, _≤_}
 use Rattle.spec.specs.Drives.{viewOf}
 use Rattle.spec.specs.Params.{placeOf}

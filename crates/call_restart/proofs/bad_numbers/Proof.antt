@@ -1,3 +1,4 @@
+-- `bad_numbers`: out of range makes the or true; else a drive below N is named (`names-low`), and above it only 255 is good (`names-high`). Assumes nothing.
 use Rattle.spec.specs.Restart.{namesDrive}
 use Rattle.call_restart.specs.Order.{names-low, names-high}
 use borrow.Author.Needs.{needs}

@@ -1,3 +1,4 @@
+-- `checks`: `numbers-fail`, `lengths-fail`, `pointers-fail` close the refusals; a zone not below Z is no fault (`pointers-pass`). Assumes nothing.
 use Prim.Native.Nat.{ℕ}
 use Rattle.spec.specs.Drives.{mkDisk}
 use Rattle.spec.specs.Engine.{lentOk}

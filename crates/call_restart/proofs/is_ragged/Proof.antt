@@ -1,3 +1,4 @@
+-- `is_ragged`: counted equal to S, or another top, settles `raggedBy`; else what is left is whether part is not 0 (`ragged-last`). Assumes nothing.
 use Rattle.recover_check.specs.Faults.{raggedBy}
 use Rattle.call_restart.specs.Order.{ragged-last}
 use borrow.Author.Tests.{eq-eqb, ne-eqb}

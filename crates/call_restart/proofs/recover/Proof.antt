@@ -1,3 +1,4 @@
+-- `recover`: what `settle` says closes the ends: `ends-refused`, `ends-cut`, and with the tables loaded from good drives `ends-done`. Assumes nothing.
 use Rattle.mem_calls.specs.Left.{checked}
 use Rattle.spec.specs.Drives.{mkDisk}
 use Rattle.spec.specs.Memory.{mkMemory}

@@ -1,3 +1,5 @@
+-- `rest_checks`: a zone below Z is `segments-fail`; a missing drive or none ragged
+-- `plain-pass`; else `serial-fails`, `zones-fail` or `zones-suffice`. Assumes nothing.
 use Prim.Native.Nat.{ℕ, _≤_, _<_}
 use Rattle.spec.specs.Segments.{segments}
 use Rattle.recover_check.specs.Mends.{no-faults}

@@ -1,3 +1,5 @@
+-- `restart`: a failed check is `restart-refused`; passed, they give what `recover`
+-- asks (`front-passed`), which is the call (`restart-recovers`). Assumes nothing.
 use Prim.Native.Nat.{ℕ}
 use Rattle.mem_calls.specs.Left.{checked}
 use Rattle.spec.specs.Drives.{mkDisk}

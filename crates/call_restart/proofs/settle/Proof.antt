@@ -1,3 +1,4 @@
+-- `settle`: serials, kept flags and exam tell the segments; a failed check is `settles-refused`, none leaves them sane: `settles-stored`. Assumes nothing.
 use Rattle.mem_calls.specs.Left.{checked}
 use Rattle.spec.specs.Drives.{mkDisk}
 use Rattle.spec.specs.Segments.{segments}

@@ -1,3 +1,4 @@
+-- `stores`: with a drive missing there is no store (`missing-stores`); else the exam says whole and ragged, and `healthy_stores` has the rest. Assumes nothing.
 use Prim.Native.Nat.{ℕ}
 use Rattle.spec.specs.Drives.{Store, mkDisk}
 use Rattle.spec.specs.Restart.{restartStores}

@@ -1,3 +1,4 @@
+-- `checks`: a failed test closes its end (`stamp-fails` and so on), those passed drop off; front and aim are the state's, as required. Assumes nothing.
 use Rattle.spec.specs.Drives.{Disk, mkDisk}
 use Rattle.spec.specs.Engine.{lentOk}
 use Rattle.spec.specs.Memory.{Memory, mkMemory, stateOk}

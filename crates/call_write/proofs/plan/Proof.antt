@@ -1,3 +1,4 @@
+-- `plan`: the next stamp is the successor; `send` with it gives row, next, drive and buffer, which are the fields of `planned`. Assumes nothing.
 use Prim.Native.Nat.{ℕ, suc}
 use Rattle.call_filling.specs.Entries.{sentRow}
 use Rattle.spec.specs.Counts.{aStamp}

@@ -1,3 +1,5 @@
+-- `add_data`: after the turns up to k the parity's place holds the exclusive or of data blocks 0 to k - 1 as they came, all else stays;
+-- one turn adds data block k, which lies apart from that place. At k = data count it is the parity. Assumes nothing.
 use mathlib.Core.Path.{_≡_, refl, sym, ap, ap₂, _∙_}
 use Prim.Native.Nat.{ℕ, _-_, _≤_, _<_}
 use native.Mathlib.Omega.{arith}

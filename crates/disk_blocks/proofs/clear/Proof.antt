@@ -1,3 +1,4 @@
+-- `clear`: the part from 0 of the whole length is all of dst, and that many zeros replace it. Assumes nothing.
 use mathlib.Core.Path.{_∙_}
 use borrow.Author.Needs.{needs}
 use lib.ListN.{length, replicate, length-replicate}

@@ -1,3 +1,4 @@
+-- `clear_part`: after i turns the first i bytes from at are zero and the rest is as it came; one turn appends one zero. Assumes nothing.
 use mathlib.Core.Path.{_≡_, refl, sym}
 use Prim.Native.Nat.{_+_, _-_, _≤_}
 use native.Mathlib.Omega.{arith}

@@ -1,3 +1,4 @@
+-- `copy`: dst and src are equally long, so that the splice at 0 is all of src. Assumes nothing.
 use mathlib.Core.Path.{_∙_}
 use borrow.Author.Needs.{needs}
 use Rattle.spec.specs.Engine.Call.{close}

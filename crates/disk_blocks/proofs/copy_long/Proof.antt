@@ -1,3 +1,4 @@
+-- `copy_long`: after i turns dst has the first i bytes of src from at on; one turn appends byte i; at the end it is all of src. Assumes nothing.
 use mathlib.Core.Path.{_≡_, refl, sym, ap, _∙_}
 use Prim.Native.Nat.{_+_, _-_, _≤_}
 use native.Mathlib.Omega.{arith}

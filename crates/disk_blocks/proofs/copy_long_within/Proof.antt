@@ -1,3 +1,4 @@
+-- `copy_long_within`: after i turns the first i bytes from b stand at a too; byte b + i is still as it came, since the two parts lie apart. Assumes nothing.
 use mathlib.Core.Path.{_≡_, refl, sym, ap, _∙_}
 use Prim.Native.Nat.{_+_, _-_, _≤_}
 use native.Mathlib.Omega.{arith}

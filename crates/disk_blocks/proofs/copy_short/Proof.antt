@@ -1,3 +1,4 @@
+-- `copy_short`: the first loop takes i bytes of src into the array, the second puts j of them into dst; both end at the length of src. Assumes nothing.
 use mathlib.Core.Path.{_≡_, refl, sym, ap, _∙_}
 use Prim.Native.Nat.{ℕ, _+_, _-_, _≤_}
 use native.Mathlib.Omega.{arith}

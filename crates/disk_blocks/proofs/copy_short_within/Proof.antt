@@ -1,3 +1,4 @@
+-- `copy_short_within`: the first loop takes i bytes from b into the array, the second puts j of the array at a; both end at n. Assumes nothing.
 use mathlib.Core.Path.{_≡_, refl, sym, ap, _∙_}
 use Prim.Native.Nat.{ℕ, _+_, _-_, _≤_}
 use native.Mathlib.Omega.{arith}

@@ -1,3 +1,4 @@
+-- `data_byte`: `slot_byte` of the drive that `data_drive` says; the block there ends inside the in-flight buffer. Assumes nothing.
 use mathlib.Core.Path.{ap, _∙_}
 use borrow.Author.Needs.{needs}
 use Rattle.spec.specs.Engine.Call.{close}

@@ -1,3 +1,4 @@
+-- `is_zero`: a equals the zeros iff what follows i does; a byte that is not 0 ends it with false, a 0 passes on, at the end none is left. Assumes nothing.
 use mathlib.Core.Path.{_≡_, refl, sym, _∙_}
 use mathlib.Core.List.{List}
 use Prim.Native.Nat.{ℕ, _-_, _≤_}

@@ -1,3 +1,4 @@
+-- `same`: off 0: a equals b iff what follows i does; else they differ. One turn adds the bits in which bytes i differ. Unequal lengths end it. Assumes nothing.
 use mathlib.Core.Path.{refl, sym}
 use Prim.Native.Nat.{_-_}
 use native.Mathlib.Omega.{arith}

@@ -1,3 +1,5 @@
+-- `slot_parity`: the first data block, copied to the parity's place, is the parity of one data position, as `add_data` asks;
+-- what stood in that place before does not count, since no data block lies there. Assumes nothing.
 use mathlib.Core.Path.{_≡_, sym, ap, ap₂, _∙_}
 use mathlib.Core.List.{List}
 use Prim.Native.Nat.{ℕ, _<_}

@@ -1,3 +1,4 @@
+-- `xor_bytes`: after i turns the first i bytes from at are those of dst and src exclusive-ored; byte at + i is still as it came. Assumes nothing.
 use mathlib.Core.Path.{_≡_, refl, sym, ap, _∙_}
 use mathlib.Core.List.{List}
 use Prim.Native.Nat.{ℕ, _+_, _-_, _≤_}

@@ -1,3 +1,4 @@
+-- `xor_bytes_within`: the first i bytes from a are exclusive-ored with those from b; bytes a + i and b + i are still as they came. Assumes nothing.
 use mathlib.Core.Path.{_≡_, refl, sym, ap₂, _∙_}
 use Prim.Native.Nat.{ℕ, _+_, _-_, _≤_}
 use native.Mathlib.Omega.{arith}

@@ -1,3 +1,4 @@
+-- `xor_into`: dst and src are equally long, so that the part from 0 is all of dst and so is what replaces it. Assumes nothing.
 use mathlib.Core.Path.{_≡_, ap, _∙_}
 use mathlib.Core.List.{List}
 use Prim.Native.Nat.{ℕ}

@@ -1,3 +1,4 @@
+-- `xor_part`: the first i bytes from at are exclusive-ored and those ahead are as they came; a piece adds 64 bytes, the last call the rest. Assumes nothing.
 use mathlib.Core.Path.{_≡_, refl, sym, ap, _∙_}
 use mathlib.Core.List.{List}
 use Prim.Native.Nat.{ℕ, _+_, _-_, _≤_}

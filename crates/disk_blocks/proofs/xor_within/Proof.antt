@@ -1,3 +1,5 @@
+-- `xor_within`: the first i bytes from a are exclusive-ored with those from b; what lies ahead at a and at b is as it came, since the parts lie apart;
+-- a piece adds 64 bytes, the last call the rest. Assumes nothing.
 use mathlib.Core.Path.{_≡_, refl, sym, ap, _∙_}
 use Prim.Native.Nat.{ℕ, _+_, _-_, _≤_}
 use native.Mathlib.Omega.{arith}

@@ -1,3 +1,4 @@
+-- `allowed`: the branch says which of count and n is less, and that one is the minimum. Assumes nothing.
 use native.Mathlib.Omega.{arith}
 use Rattle.disk_footers.proofs.allowed.Statement.{statement}
 use Rattle.disk_footers.proofs.allowed.Tie as tie

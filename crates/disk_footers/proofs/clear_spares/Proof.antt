@@ -1,3 +1,5 @@
+-- `clear_spares`: after i turns zeroing the spares of the other n - i blocks gives what zeroing all n at the start gives;
+-- one turn zeroes that of block at + i; then none is left. Assumes nothing.
 use mathlib.Core.Path.{sym, ap₂, _∙_}
 use Prim.Native.Nat.{ℕ, _-_}
 use native.Mathlib.Omega.{arith}

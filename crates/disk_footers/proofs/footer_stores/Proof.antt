@@ -1,3 +1,4 @@
+-- `footer_stores`: the first count of n stores are the first m = min(count, n); m = 0 leaves the drives, else `store_footers` makes them. Assumes nothing.
 use mathlib.Core.Path.{sym, ap, _∙_}
 use mathlib.Core.List.{List}
 use native.Mathlib.Omega.{arith}

@@ -1,3 +1,4 @@
+-- `made`: count below n: count - n is 0 and it is cut; else count - n is left and it is not cut. Assumes nothing.
 use mathlib.Core.Path.{_≡_, sym, ap, ap₂}
 use Prim.Native.Nat.{ℕ, _-_}
 use native.Mathlib.Omega.{arith}

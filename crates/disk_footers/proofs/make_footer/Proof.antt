@@ -1,3 +1,5 @@
+-- `make_footer`: after j turns the block holds the first j records of footer i, zeros behind them, and at is the spare of record j;
+-- one turn appends that spare; blocks lie one unit apart. At n the block is the footer. Assumes nothing.
 use mathlib.Core.Path.{_≡_, refl, sym, ap, ap₂, _∙_}
 use mathlib.Core.List.{List, []}
 use Prim.Native.Nat.{ℕ, suc, _+_, _-_, _*_, _≤_, _<_}

@@ -1,3 +1,4 @@
+-- `records_of`: footer i starts inside the S records (`footer-start`); the branch takes the lesser of those left and a full footer. Assumes nothing.
 use mathlib.Core.Path.{_≡_, ap}
 use Prim.Native.Nat.{ℕ, _*_}
 use native.Mathlib.Omega.{arith}

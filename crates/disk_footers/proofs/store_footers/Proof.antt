@@ -1,3 +1,4 @@
+-- `store_footers`: blocks laid, then spares laid as zeros, then the pointer raised by n: as n stores one after the other (`feet-stored`). Assumes nothing.
 use mathlib.Core.Path.{_≡_, ap, ap₂, _∙_}
 use mathlib.Core.List.{map}
 use Prim.Native.Nat.{ℕ, _+_}

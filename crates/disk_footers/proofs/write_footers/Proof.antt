@@ -1,3 +1,4 @@
+-- `write_footers`: a block is at most 4096 bytes, so a prefix of the array is room for one; `write_with` says the rest. Assumes nothing.
 use mathlib.Core.Path.{sym}
 use mathlib.Core.List.{List}
 use Prim.Native.Nat.{ℕ}

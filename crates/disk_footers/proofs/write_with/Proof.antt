@@ -1,3 +1,5 @@
+-- `write_with`: after i turns laying the other n - i footers gives what laying all n at the start gives, and the zone's spares are as they came;
+-- one turn makes footer first + i from them and writes it at block at + i. Assumes nothing.
 use mathlib.Core.Path.{_≡_, refl, sym, ap, _∙_}
 use Prim.Native.Nat.{ℕ, _+_, _-_}
 use native.Mathlib.Omega.{arith}

@@ -1,3 +1,4 @@
+-- `beats`: the first part that differs decides: one law for each of stamp, serial, drive, offset, where those before it are equal. Assumes nothing.
 use Rattle.disk_rank.specs.Ranked.{ranked, by-stamp, by-serial, by-drive, by-offset}
 use Rattle.disk_rank.proofs.beats.Statement.{statement}
 use Rattle.disk_rank.proofs.beats.Tie as tie

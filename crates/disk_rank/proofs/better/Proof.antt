@@ -1,3 +1,4 @@
+-- `better`: none so far: the new one; else `beats` of the two says which end of the definition is taken. Assumes nothing.
 use mathlib.Core.Path.{sym, ap, _∙_}
 use borrow.Author.Needs.{needs}
 use Rattle.spec.specs.Rank.{better}

@@ -1,3 +1,4 @@
+-- `place_or`: none: the definition gives the place of never written; one: its place. Assumes nothing.
 use mathlib.Core.Path.{sym, ap, _∙_}
 use borrow.Author.Needs.{needs}
 use Rattle.spec.specs.Rank.{placeOr}

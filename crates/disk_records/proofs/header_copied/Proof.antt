@@ -1,3 +1,4 @@
+-- `header_copied`: the widths before this field add up to 33 and its own is 8, so `read_be64` reads it. Assumes nothing.
 use borrow.Author.Needs.{needs}
 use Rattle.spec.specs.Bytes.{readField}
 use Rattle.spec.specs.Engine.Call.{close}

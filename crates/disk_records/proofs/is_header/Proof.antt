@@ -1,3 +1,4 @@
+-- `is_header`: a block with its spare is at most 4116 bytes, so the array is room enough for `matches_header`. Assumes nothing.
 use borrow.Author.Needs.{needs}
 use Rattle.spec.specs.Engine.Call.{close}
 use Rattle.law_basic.specs.Geometry.{ranged, unit-high}

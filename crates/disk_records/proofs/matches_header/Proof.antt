@@ -1,3 +1,4 @@
+-- `matches_header`: the prefix of scratch is the header with its spare; src equals it iff block and spare do, each with its own. Assumes nothing.
 use mathlib.Core.Path.{_≡_, sym, ap, _∙_}
 use mathlib.Core.List.{_++_}
 use native.Mathlib.Omega.{arith}

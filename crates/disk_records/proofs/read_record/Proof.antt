@@ -1,3 +1,4 @@
+-- `read_record`: the widths 8, 8, 4 put the three fields at 0, 8, 16, and each read is its field. Assumes nothing.
 use borrow.Author.Needs.{needs}
 use Rattle.spec.specs.Bytes.{readField}
 use Rattle.spec.specs.Engine.Call.{close}

@@ -1,3 +1,4 @@
+-- `write_back`: two fields written one behind the other from 25 are one splice of the bytes of both. Assumes nothing.
 use borrow.Author.Needs.{needs}
 use Rattle.spec.specs.Engine.Call.{close}
 use Rattle.disk_records.specs.Header.{back-written}

@@ -1,3 +1,4 @@
+-- `write_header`: zeros, then front, middle and back one behind the other: the header block padded with zeros, and its spare all zero. Assumes nothing.
 use mathlib.Core.Path.{_≡_, ap, _∙_}
 use mathlib.Core.List.{List}
 use Prim.Native.Nat.{ℕ, _≤_}

@@ -1,3 +1,4 @@
+-- `write_record`: three fields of 8, 8, 4 bytes one behind the other fill all 20 bytes. Assumes nothing.
 use borrow.Author.Needs.{needs}
 use Rattle.spec.specs.Engine.Call.{close}
 use Rattle.disk_records.specs.Record.{recOf, record-written}

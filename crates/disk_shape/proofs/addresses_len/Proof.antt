@@ -1,3 +1,4 @@
+-- `addresses_len`: L is at most 468378645 (`addresses-all`), so that four times that fits. Assumes nothing.
 use mathlib.Core.Path.{refl}
 use native.Mathlib.Omega.{arith}
 use Rattle.spec.specs.Engine.Call.{close}

@@ -1,3 +1,4 @@
+-- `block_byte`: `place_byte` of `place_of`; the block ends inside the image (`block-within`), whose greatest length bounds the byte. Assumes nothing.
 use mathlib.Core.Path.{_≡_, ap, _∙_}
 use Prim.Native.Nat.{_+_, _≤_}
 use native.Mathlib.Omega.{arith}

@@ -1,3 +1,4 @@
+-- `capacity`: `footers` is the count in the sum; S from 1 to 65535 and that count bound the sum from 3 to 87381. Assumes nothing.
 use mathlib.Core.Path.{_≡_, ap}
 use Prim.Native.Nat.{ℕ, _+_}
 use native.Mathlib.Omega.{arith}

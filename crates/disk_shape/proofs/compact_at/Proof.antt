@@ -1,3 +1,4 @@
+-- `compact_at`: drive * Z + zone is below N * Z <= 8192, and the index below the table's length (`compact-within`), so no step overflows. Assumes nothing.
 use mathlib.Core.Path.{refl}
 use Prim.Native.Nat.{_+_, _*_, _≤_, _<_}
 use native.Mathlib.Omega.{arith}

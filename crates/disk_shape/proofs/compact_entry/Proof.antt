@@ -1,3 +1,4 @@
+-- `compact_entry`: G is from 1 to 256, so the remainder is below 256 and fits in a byte. Assumes nothing.
 use mathlib.Core.Path.{refl}
 use Prim.Native.Nat.{_%_, _<_}
 use native.Mathlib.Omega.{arith}

@@ -1,3 +1,4 @@
+-- `compact_len`: N * Z is at most 8192 and the product with S at most 536862720 (`compact-high`). Assumes nothing.
 use mathlib.Core.Path.{refl}
 use native.Mathlib.Omega.{arith}
 use Rattle.spec.specs.Engine.Call.{close}

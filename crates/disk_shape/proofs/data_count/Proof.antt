@@ -1,3 +1,4 @@
+-- `data_count`: N is from 3 to 8, so N - 1 is from 2 to 7. Assumes nothing.
 use mathlib.Core.Path.{refl}
 use native.Mathlib.Omega.{arith}
 use Rattle.spec.specs.Engine.Call.{close}

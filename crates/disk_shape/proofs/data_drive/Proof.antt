@@ -1,3 +1,4 @@
+-- `data_drive`: below the parity's drive it is the position, else one more; a position below N - 1 stays below N. Assumes nothing.
 use mathlib.Core.Path.{_≡_, sym, ap, _∙_}
 use mathlib.Core.Bool.{Bool, true, false, cond}
 use Prim.Native.Nat.{suc}

@@ -1,3 +1,4 @@
+-- `data_position`: below the parity's drive it is the drive, else one less; drive 0 gives 0, as subtraction does in the definition. Assumes nothing.
 use mathlib.Core.Path.{_≡_, sym, ap, _∙_}
 use mathlib.Core.Bool.{Bool, true, false, cond}
 use Prim.Native.Nat.{_-_}

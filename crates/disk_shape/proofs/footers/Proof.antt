@@ -1,3 +1,4 @@
+-- `footers`: `per_footer` is the divisor, at least 3; S from 1 to 65535 gives 1 to 21845 footers. Assumes nothing.
 use mathlib.Core.Path.{_≡_, ap}
 use Prim.Native.Nat.{ℕ, _+_, _-_, _/_}
 use native.Mathlib.Omega.{arith}

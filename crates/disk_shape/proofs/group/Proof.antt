@@ -1,3 +1,4 @@
+-- `group`: G is at least 1, so the division has a value, and a quotient is not above the number divided. Assumes nothing.
 use mathlib.Core.Path.{refl}
 use native.Mathlib.Omega.{arith}
 use native.Mathlib.Nat.{div-le-self}

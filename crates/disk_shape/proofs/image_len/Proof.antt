@@ -1,3 +1,4 @@
+-- `image_len`: capacity <= 87381, unit <= 4116, Z <= 1024, N <= 8: each product is at most that of the bounds. Assumes nothing.
 use mathlib.Core.Path.{ap₂}
 use Prim.Native.Nat.{ℕ, _*_, _≤_}
 use native.Mathlib.Omega.{arith}

@@ -1,3 +1,4 @@
+-- `in_range`: each test is one conjunct of the definition, in its order; the ranges of Z, S and N bound the product of the last by 468378645. Assumes nothing.
 use mathlib.Core.Path.{_≡_, sym, _∙_}
 use mathlib.Core.Bool.{true, false}
 use Prim.Native.Nat.{_-_, _*_, _≤_}

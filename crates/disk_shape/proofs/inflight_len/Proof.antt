@@ -1,3 +1,4 @@
+-- `inflight_len`: N is at most 8 and B at most 4096, so the product is at most 262144 (`inflight-high`). Assumes nothing.
 use mathlib.Core.Path.{refl}
 use native.Mathlib.Omega.{arith}
 use Rattle.spec.specs.Engine.Call.{close}

@@ -1,3 +1,4 @@
+-- `is_between`: each test is one of the two comparisons of the definition. Assumes nothing.
 use borrow.Author.Tests.{le-leb, lt-leb}
 use Rattle.spec.specs.Engine.Call.{close}
 use Rattle.spec.specs.Params.{between}

@@ -1,3 +1,4 @@
+-- `is_block_size`: the seven tests are membership in the list of seven sizes, element by element; the last end is that of none. Assumes nothing.
 use borrow.Author.Tests.{eq-eqb, ne-eqb}
 use Rattle.spec.specs.Engine.Call.{close}
 use Rattle.spec.specs.Lists.{any, isMember}

@@ -1,3 +1,4 @@
+-- `is_data`: `parity_drive` is the parity's drive, and the definition compares with it. Assumes nothing.
 use mathlib.Core.Path.{ap}
 use mathlib.Core.Bool.{not}
 use Prim.Native.Nat.{ℕ}

@@ -1,3 +1,4 @@
+-- `parity_drive`: stripe % N is below N, so that nothing is taken from too little and the result is below N. Assumes nothing.
 use mathlib.Core.Path.{refl}
 use Prim.Native.Nat.{_%_, _<_}
 use native.Mathlib.Omega.{arith}

@@ -1,3 +1,4 @@
+-- `per_footer`: a spare has 8 + 8 + 4 = 20 bytes; B from 64 to 4096 gives 3 to 204. Assumes nothing.
 use mathlib.Core.Path.{refl}
 use Rattle.spec.specs.Engine.Call.{close}
 use Rattle.spec.specs.Lists.{total}

@@ -1,3 +1,4 @@
+-- `place_block`: `capacity` is the divisor, 3 to 87381, and a remainder is below it. Assumes nothing.
 use mathlib.Core.Path.{ap}
 use Prim.Native.Nat.{ℕ, _%_, _<_}
 use native.Mathlib.Omega.{arith}

@@ -1,3 +1,4 @@
+-- `place_byte`: the place is below 2 ^ 32 and a unit at most 4116 bytes, which bounds the product. Assumes nothing.
 use mathlib.Core.Path.{ap}
 use Prim.Native.Nat.{ℕ, _*_, _≤_, _<_}
 use native.Mathlib.Omega.{arith}

@@ -1,3 +1,4 @@
+-- `place_drive`: the divisors are above 0; two quotients are not above the place, which is below 2 ^ 32. Assumes nothing.
 use mathlib.Core.Path.{ap}
 use Prim.Native.Nat.{ℕ, _/_, _<_}
 use native.Mathlib.Omega.{arith}

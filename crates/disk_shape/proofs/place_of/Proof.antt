@@ -1,3 +1,4 @@
+-- `place_of`: drive * Z + zone is below N * Z <= 8192 and capacity at most 87381, so that the place fits in 32 bits. Assumes nothing.
 use mathlib.Core.Path.{ap}
 use Prim.Native.Nat.{ℕ, _+_, _*_, _≤_, _<_}
 use native.Mathlib.Omega.{arith}

@@ -1,3 +1,4 @@
+-- `place_zone`: `capacity` is the divisor; Z is at least 4, and a remainder is below it. Assumes nothing.
 use mathlib.Core.Path.{ap}
 use Prim.Native.Nat.{ℕ, _/_, _%_}
 use native.Mathlib.Omega.{arith}

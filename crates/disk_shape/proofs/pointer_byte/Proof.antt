@@ -1,3 +1,4 @@
+-- `pointer_byte`: drive * Z + zone is below N * Z <= 8192; the four bytes end inside the pointers (`pointer-within`). Assumes nothing.
 use mathlib.Core.Path.{refl}
 use Prim.Native.Nat.{_+_, _*_, _≤_, _<_}
 use native.Mathlib.Omega.{arith}

@@ -1,3 +1,4 @@
+-- `pointers_len`: N * Z is at most 8192, so four times that is at most 32768. Assumes nothing.
 use mathlib.Core.Path.{refl}
 use native.Mathlib.Omega.{arith}
 use Rattle.spec.specs.Engine.Call.{close}

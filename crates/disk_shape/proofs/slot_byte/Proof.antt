@@ -1,3 +1,4 @@
+-- `slot_byte`: slot * N + drive is below 8 * N; the block ends inside the in-flight buffer (`slot-within`), at most 262144 bytes. Assumes nothing.
 use mathlib.Core.Path.{refl}
 use Prim.Native.Nat.{_+_, _*_, _≤_, _<_}
 use native.Mathlib.Omega.{arith}

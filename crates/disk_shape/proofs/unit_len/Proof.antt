@@ -1,3 +1,4 @@
+-- `unit_len`: a spare has 20 bytes; B from 64 to 4096 gives 84 to 4116. Assumes nothing.
 use mathlib.Core.Path.{refl}
 use native.Mathlib.Omega.{arith}
 use Rattle.spec.specs.Engine.Call.{close}

@@ -1,3 +1,4 @@
+-- `zone_on`: in the definition too the zone is the segment, on every drive. Assumes nothing.
 use mathlib.Core.Path.{refl}
 use Rattle.spec.specs.Drives.{zoneOn}
 use Rattle.spec.specs.Engine.Call.{close}

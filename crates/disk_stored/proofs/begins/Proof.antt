@@ -1,3 +1,4 @@
+-- `begins`: per is the records of a footer block, so the numbers are footers, place and byte of the definitions; `begun` bounds each. Assumes nothing.
 use native.Mathlib.Omega.{arith}
 use Rattle.law_basic.specs.Geometry.{ranged, capacity-high}
 use Rattle.disk_stored.specs.Stored.{begun}

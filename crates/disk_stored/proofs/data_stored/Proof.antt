@@ -1,3 +1,4 @@
+-- `data_stored`: the definition is the lesser of pointer - 1 and S: the three ends are pointer 0, more than S, and between. Assumes nothing.
 use mathlib.Core.Path.{_≡_}
 use native.Mathlib.Omega.{arith}
 use borrow.Author.Needs.{needs}

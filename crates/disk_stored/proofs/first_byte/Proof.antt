@@ -1,3 +1,4 @@
+-- `first_byte`: full: the start of block 1 + S, the first footer; else B bytes behind that of block 1. Both blocks are below the capacity. Assumes nothing.
 use mathlib.Core.Path.{_≡_, sym, ap, _∙_}
 use mathlib.Core.Bool.{Bool, false}
 use Prim.Native.Nat.{ℕ, _+_}

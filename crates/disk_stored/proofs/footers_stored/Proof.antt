@@ -1,3 +1,4 @@
+-- `footers_stored`: the definition is the lesser of pointer - 1 - S and the footers: the three ends are none, more than these, and between. Assumes nothing.
 use mathlib.Core.Path.{_≡_}
 use native.Mathlib.Omega.{arith}
 use borrow.Author.Needs.{needs}

@@ -1,3 +1,4 @@
+-- `record_at`: `is_sealed` is the flag and `zone_on` the zone that the definition hands to `recordIn`. Assumes nothing.
 use mathlib.Core.Path.{ap₂, _∙_}
 use mathlib.Core.Bool.{Bool}
 use Prim.Native.Nat.{ℕ}

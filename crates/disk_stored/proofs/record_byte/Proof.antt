@@ -1,3 +1,4 @@
+-- `record_byte`: the offset's quotient steps over units, its remainder over records of 20 bytes; `stepping` says this is the record's byte. Assumes nothing.
 use native.Mathlib.Omega.{arith}
 use borrow.Author.Needs.{needs}
 use Rattle.law_basic.specs.Geometry.{ranged}

@@ -1,3 +1,4 @@
+-- `record_in`: the 20 bytes at `record_byte` are, by `record-by`, those that the view takes for the record, whatever the pointers are. Assumes nothing.
 use mathlib.Core.Path.{ap, _∙_}
 use Prim.Native.Nat.{ℕ}
 use borrow.Author.Needs.{needs}

@@ -1,3 +1,4 @@
+-- `spare_byte`: the spare is B bytes behind the start of its block; the unit of B + 20 bytes ends inside the image. Assumes nothing.
 use mathlib.Core.Path.{ap}
 use Prim.Native.Nat.{ℕ, _+_}
 use native.Mathlib.Omega.{arith}

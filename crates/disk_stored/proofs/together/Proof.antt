@@ -1,3 +1,4 @@
+-- `together`: full: the records of a footer block, at least 3; else 1. Assumes nothing.
 use mathlib.Core.Path.{sym, ap, _∙_}
 use mathlib.Core.Bool.{Bool}
 use native.Mathlib.Omega.{arith}

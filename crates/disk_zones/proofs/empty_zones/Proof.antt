@@ -1,3 +1,5 @@
+-- `empty_zones`: min(most, n + the empty zones below z) is min(most, all empty zones); an empty zone z - 1 moves to n in its turn.
+-- The loop ends at n = most or at z = 0, and then that minimum is n. Assumes nothing.
 use mathlib.Core.Path.{_≡_, sym, ap, _∙_}
 use mathlib.Core.List.{List}
 use Prim.Native.Nat.{ℕ, _+_, _-_, min, _≤_}

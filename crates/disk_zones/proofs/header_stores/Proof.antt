@@ -1,3 +1,5 @@
+-- `header_stores`: d headers are stored and left + d = count: the rest under left comes to what all come to under count; drives from d on have room.
+-- One turn stores header d, which leaves the pointers of the other drives. left 0 is the cut end, d = N the end of all. Assumes nothing.
 use mathlib.Core.Path.{_≡_, refl, ap, _∙_}
 use Prim.Native.Nat.{ℕ, suc, _-_, _≤_, _<_}
 use native.Mathlib.Omega.{arith}

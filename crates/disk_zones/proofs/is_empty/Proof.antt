@@ -1,3 +1,4 @@
+-- `is_empty`: all drives have pointer 0 iff those from d on have; another pointer ends it with false, a 0 passes on, none left is true. Assumes nothing.
 use mathlib.Core.Path.{_≡_, sym, ap, _∙_}
 use mathlib.Core.Bool.{Bool}
 use Prim.Native.Nat.{ℕ, _-_, _≤_}

@@ -1,3 +1,4 @@
+-- `is_full`: a missing drive makes the or true; else it is the comparison of pointer and capacity. Assumes nothing.
 use mathlib.Core.Path.{sym, ap, ap₂, _∙_}
 use mathlib.Core.Bool.{Bool, _||_}
 use borrow.Author.Needs.{needs}

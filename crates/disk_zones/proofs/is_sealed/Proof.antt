@@ -1,3 +1,4 @@
+-- `is_sealed`: all drives are missing or full iff those from d on are; one that is not ends it; `sealed-list` says this of the view. Assumes nothing.
 use mathlib.Core.Path.{_≡_, sym, _∙_}
 use mathlib.Core.Bool.{Bool, _||_}
 use Prim.Native.Nat.{ℕ, _-_, _≤_}

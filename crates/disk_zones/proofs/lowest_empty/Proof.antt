@@ -1,3 +1,4 @@
+-- `lowest_empty`: the first empty zone from z on is the first of all; an empty zone z is it, another passes on; at Z there is none: 0. Assumes nothing.
 use mathlib.Core.Path.{_≡_, sym, ap, _∙_}
 use Prim.Native.Nat.{_-_, _≤_}
 use native.Mathlib.Omega.{arith}

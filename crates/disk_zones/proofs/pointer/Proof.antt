@@ -1,3 +1,4 @@
+-- `pointer`: the four bytes at `pointer_byte` are what the definition reads. Assumes nothing.
 use mathlib.Core.Path.{ap, _∙_}
 use Prim.Native.Nat.{ℕ}
 use borrow.Author.Needs.{needs}

@@ -1,3 +1,4 @@
+-- `put`: block and spare one behind the other are one splice of both (`splice-next`) at the place of the pointer, which is raised by 1. Assumes nothing.
 use mathlib.Core.Path.{_≡_, sym, ap, ap₂, _∙_}
 use mathlib.Core.List.{List, _++_}
 use Prim.Native.Nat.{ℕ, suc, _+_, _≤_}

@@ -1,3 +1,4 @@
+-- `put_header`: the part lent to `write_header` lies at the place of the pointer, so the image is spliced there; the pointer is raised by 1. Assumes nothing.
 use mathlib.Core.Path.{_≡_, sym, ap, ap₂, _∙_}
 use mathlib.Core.List.{_++_}
 use Prim.Native.Nat.{ℕ, suc, _+_, _-_}

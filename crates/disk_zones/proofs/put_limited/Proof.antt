@@ -1,3 +1,4 @@
+-- `put_limited`: count 0: none of one store, cut; else the one store is made and count - 1 is left. Assumes nothing.
 use native.Mathlib.Omega.{arith}
 use borrow.Author.Needs.{needs}
 use Rattle.spec.specs.Drives.{mkDisk}

@@ -1,3 +1,5 @@
+-- `reset_stores`: d zones are reset and left + d = count: the rest under left comes to what all come to under count, whatever the image.
+-- One turn resets the zone on drive d. left 0 is the cut end, d = N the end of all. Assumes nothing.
 use mathlib.Core.Path.{_≡_, refl, ap, _∙_}
 use mathlib.Core.List.{List}
 use Prim.Native.Nat.{ℕ, _-_}

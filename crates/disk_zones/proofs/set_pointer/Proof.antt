@@ -1,3 +1,4 @@
+-- `set_pointer`: the four bytes written at `pointer_byte` are the definition's splice. Assumes nothing.
 use mathlib.Core.Path.{ap, _∙_}
 use Prim.Native.Nat.{ℕ}
 use borrow.Author.Needs.{needs}

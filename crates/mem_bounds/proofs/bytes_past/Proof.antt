@@ -1,3 +1,4 @@
+-- `bytes_past`: bad is how many of the first i bytes are out of range, at most i; one turn adds byte at + i, which is its own number. Assumes nothing.
 use mathlib.Core.Path.{_≡_, ap, _∙_}
 use native.Mathlib.Omega.{arith}
 use Prim.Native.Nat.{ℕ, _+_, _*_, _-_, _≤_}

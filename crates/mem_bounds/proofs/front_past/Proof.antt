@@ -1,3 +1,4 @@
+-- `front_past`: the bytes 0 and 1 are their own numbers, the words at 18 and 22 as read; the five tests are the five terms of the definition. Assumes nothing.
 use mathlib.Core.Path.{_≡_, ap, ap₂, _∙_}
 use native.Mathlib.Omega.{arith}
 use Prim.Native.Nat.{_+_, _<_}

@@ -1,3 +1,4 @@
+-- `missing`: byte 1 is its own number, and the state reads its mask of missing drives there (`state-read`). Assumes nothing.
 use mathlib.Core.Path.{sym, ap, _∙_}
 use native.Mathlib.Omega.{arith}
 use Prim.Native.Nat.{_<_}

@@ -1,3 +1,4 @@
+-- `other`: the branch is the definition's test with 1. Assumes nothing.
 use mathlib.Core.Path.{sym, ap}
 use native.Mathlib.Omega.{arith}
 use mathlib.Core.Bool.{Bool, cond}

@@ -1,3 +1,4 @@
+-- `past`: the branch is the definition's test with the limit. Assumes nothing.
 use mathlib.Core.Path.{sym, ap}
 use native.Mathlib.Omega.{arith}
 use mathlib.Core.Bool.{Bool, cond}

@@ -1,3 +1,4 @@
+-- `power`: 2 ^ k is at most 2 ^ 8, so that the shift loses nothing. Assumes nothing.
 use mathlib.Core.Path.{_∙_}
 use native.Mathlib.Omega.{arith}
 use Prim.Native.Nat.{_^_, _≤_}

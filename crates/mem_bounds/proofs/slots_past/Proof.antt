@@ -1,3 +1,4 @@
+-- `slots_past`: the four sections at 26, 58, 66 and 74, each with its limit, are the four terms; `power` is the limit of the masks. Assumes nothing.
 use mathlib.Core.Path.{_≡_, refl, ap, _∙_}
 use native.Mathlib.Omega.{arith}
 use Prim.Native.Nat.{ℕ, _+_, _-_, _^_}

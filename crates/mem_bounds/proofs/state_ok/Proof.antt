@@ -1,3 +1,4 @@
+-- `state_ok`: the sum of the three counts is 0 iff each number is in its range (`state-in`). Assumes nothing.
 use mathlib.Core.Path.{_∙_}
 use native.Mathlib.Omega.{arith}
 use Prim.Native.Nat.{_+_}

@@ -1,3 +1,4 @@
+-- `words_past`: bad is how many of the first i words are out of range, at most i; one turn adds the word at at + 4 * i. Assumes nothing.
 use mathlib.Core.Path.{_≡_, ap, _∙_}
 use native.Mathlib.Omega.{arith}
 use Prim.Native.Nat.{ℕ, _+_, _-_, _≤_}

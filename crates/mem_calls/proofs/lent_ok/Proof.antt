@@ -1,3 +1,4 @@
+-- `lent_ok`: the five tests are the five conjuncts of the definition, in its order; the first that fails makes it false. Assumes nothing.
 use Rattle.spec.specs.Engine.{lentOk}
 use Rattle.spec.specs.Params.{imageLen, pointersLen, addressesLen, compactLen, inflightLen}
 use borrow.Author.Tests.{eq-eqb, ne-eqb}

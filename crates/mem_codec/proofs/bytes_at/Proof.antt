@@ -1,3 +1,4 @@
+-- `bytes_at`: out is the first i numbers, then zeros; one turn puts byte at + i, which is its own number. Assumes nothing.
 use mathlib.Core.Path.{_≡_, refl}
 use mathlib.Core.List.{_++_}
 use Prim.Native.Nat.{_+_, _-_, _*_, _≤_}

@@ -1,3 +1,4 @@
+-- `decode`: each section is read at its offset, inside 1362 bytes; `state-read` says that these are the fields of the state. Assumes nothing.
 use Prim.Native.Nat.{_<_}
 use native.Mathlib.Omega.{arith}
 use lib.ListN.{length}

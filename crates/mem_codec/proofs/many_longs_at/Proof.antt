@@ -1,3 +1,4 @@
+-- `many_longs_at`: out is the first i numbers, then zeros; one turn puts number i as `read_le64` reads it; at 64 no zero is left. Assumes nothing.
 use mathlib.Core.Path.{_≡_, refl}
 use mathlib.Core.List.{_++_}
 use Prim.Native.Nat.{_-_, _≤_}

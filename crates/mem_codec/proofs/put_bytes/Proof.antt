@@ -1,3 +1,4 @@
+-- `put_bytes`: a number below 256 is its own single byte, so the bytes of the section are ns (`bytes-same`). Assumes nothing.
 use native.Mathlib.Omega.{arith}
 use mathlib.Core.Path.{sym, ap, _∙_}
 use Rattle.spec.specs.Bytes.{splice}

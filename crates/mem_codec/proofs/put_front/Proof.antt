@@ -1,3 +1,4 @@
+-- `put_front`: six fields written one behind the other from 0 are the first six sections (`front-written`). Assumes nothing.
 use mathlib.Core.Path.{_≡_, ap, _∙_}
 use mathlib.Core.List.{List}
 use Prim.Native.Nat.{ℕ, _<_}

@@ -1,3 +1,4 @@
+-- `put_longs`: after i turns the bytes of the first i numbers stand from at on; one turn appends the 8 of number i. Assumes nothing.
 use mathlib.Core.Path.{_≡_, refl, _∙_}
 use Prim.Native.Nat.{_-_, _≤_}
 use native.Mathlib.Omega.{arith}

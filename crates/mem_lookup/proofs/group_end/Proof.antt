@@ -1,3 +1,4 @@
+-- `group_end`: pointer 0: no offset is below it; else `lower` of first + G and S, then of that and pointer - 1, is the three tests in one. Assumes nothing.
 use Prim.Native.Nat.{_+_}
 use Rattle.law_basic.specs.Geometry.{ranged}
 use Rattle.mem_lookup.specs.Shown.{none-below, below-pointer}

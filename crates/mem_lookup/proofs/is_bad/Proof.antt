@@ -1,3 +1,4 @@
+-- `is_bad`: block 0 and a block above S are bad; a data block on a missing drive is not; on a present one the pointer decides. Assumes nothing.
 use Prim.Native.Nat.{ℕ}
 use Rattle.spec.specs.Drives.{pointerOf}
 use Rattle.mem_lookup.specs.Places.{bad-header, bad-footer, bad-data}

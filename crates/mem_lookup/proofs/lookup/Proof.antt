@@ -1,3 +1,4 @@
+-- `lookup`: one law for each end: an entry of all ones lies nowhere, one on a missing drive is away, another is here. Assumes nothing.
 use Rattle.spec.specs.Lists.{isIn}
 use Rattle.mem_lookup.specs.Lies.{found-nowhere, found-away, found-here, entry-within}
 use borrow.Author.Needs.{needs}

@@ -1,3 +1,4 @@
+-- `lower`: a number is below the lesser bound iff it is below both: one law for each branch. Assumes nothing.
 use Rattle.mem_lookup.specs.Shown.{lower-right, lower-left}
 use native.Mathlib.Omega.{arith}
 use Rattle.mem_lookup.proofs.lower.Statement.{statement}

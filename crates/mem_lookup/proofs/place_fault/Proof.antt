@@ -1,3 +1,4 @@
+-- `place_fault`: one law for each end: a drive from N on makes zone 0 bad, `is_bad` the zone of the place, else there is none: Z. Assumes nothing.
 use Rattle.law_basic.specs.Geometry.{ranged}
 use Rattle.mem_lookup.specs.Places.{fault-outside, fault-bad, fault-none}
 use borrow.Author.Needs.{needs}

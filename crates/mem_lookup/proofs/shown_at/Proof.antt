@@ -1,3 +1,5 @@
+-- `shown_at`: the offsets from o on at which the table shows the stripe are all of them: a hit at o is the lowest, a miss passes on;
+-- from `group_end` on no offset of the group shows it, and it is S. Assumes nothing.
 use Prim.Native.Nat.{ℕ, _+_, _-_, _*_, _≤_, _<_}
 use Rattle.spec.specs.Drives.{viewOf}
 use Rattle.spec.specs.Layout.{group}

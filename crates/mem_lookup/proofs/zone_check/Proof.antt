@@ -1,3 +1,4 @@
+-- `zone_check`: below Z the list has that zone and refuses with it (`zone-fails`); else it is empty and passes. Assumes nothing.
 use Rattle.spec.specs.Calls.{firstRefusal}
 use Rattle.spec.specs.Calls.Check.{zones}
 use Rattle.spec.specs.Lists.{consIf}

@@ -1,3 +1,4 @@
+-- `add_mark`: `with_drive` puts bit k % 8 into byte k / 8, as the definition does. Assumes nothing.
 use Prim.Native.Nat.{_/_}
 use Rattle.mem_marks.specs.Marks.{withMark}
 use borrow.Author.Needs.{needs}

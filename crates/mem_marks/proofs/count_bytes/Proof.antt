@@ -1,3 +1,4 @@
+-- `count_bytes`: n is how many numbers of the bytes a to i - 1 are marked; one turn adds the ones of byte i (`byte-more`). Assumes nothing.
 use Prim.Native.Nat.{ℕ, _+_, _-_, _*_, _≤_}
 use Rattle.spec.specs.Lists.{upFrom, keep}
 use Rattle.mem_marks.specs.Marks.{marked, kept-nothing, byte-more}

@@ -1,3 +1,4 @@
+-- `count_few`: n plus those marked from k on is all that are marked from lo on; a marked k moves to n in its turn. Assumes nothing.
 use Prim.Native.Nat.{ℕ, _+_, _-_, _≤_}
 use Rattle.spec.specs.Lists.{upFrom, keep}
 use Rattle.mem_marks.specs.Marks.{marked}

@@ -1,3 +1,4 @@
+-- `count_marks`: no whole byte: one count; else the range is split at 8 * a and 8 * b and the three counts add up (`kept-split`). Assumes nothing.
 use Prim.Native.Nat.{ℕ, _+_, _*_, _/_}
 use Rattle.mem_marks.specs.Marks.{marked, kept-split}
 use borrow.Author.Needs.{needs}

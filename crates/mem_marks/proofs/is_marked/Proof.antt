@@ -1,3 +1,4 @@
+-- `is_marked`: `has_drive` looks at bit k % 8 of byte k / 8, as the definition does. Assumes nothing.
 use Rattle.mem_marks.specs.Marks.{marked}
 use borrow.Author.Needs.{needs}
 use Rattle.mem_marks.proofs.is_marked.Statement.{statement}

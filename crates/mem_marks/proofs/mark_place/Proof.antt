@@ -1,3 +1,4 @@
+-- `mark_place`: below first or from end on q is not within and the marks stay; else `add_mark`; end - first numbers have their bytes. Assumes nothing.
 use Prim.Native.Nat.{_-_}
 use Rattle.mem_marks.specs.Marks.{withMark, within-above}
 use Rattle.mem_tables.specs.Tables.{isWithin}

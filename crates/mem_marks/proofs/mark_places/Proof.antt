@@ -1,3 +1,4 @@
+-- `mark_places`: after a turns a place within is marked iff it was or one of the first a addresses has it; one turn adds that of address a. Assumes nothing.
 use Prim.Native.Nat.{ℕ, _-_, _≤_, _<_}
 use Rattle.mem_marks.specs.Marks.{marked, withMark, isPointed, pointed-none, turned}
 use Rattle.mem_tables.specs.Tables.{isWithin}

@@ -1,3 +1,4 @@
+-- `mark_window`: cleared marks mark nothing, so that after `mark_places` just the places of the addresses are marked. Assumes nothing.
 use Prim.Native.Nat.{ℕ, _-_}
 use Rattle.mem_marks.specs.Marks.{marked, isPointed, marked-none}
 use borrow.Author.Needs.{needs}

@@ -1,3 +1,4 @@
+-- `next_marked`: no number from k to i - 1 is marked; a marked i is the answer, else `step_over` passes unmarked ones; at end there is none. Assumes nothing.
 use Prim.Native.Nat.{ℕ, _+_, _-_, _≤_, _<_}
 use Rattle.mem_marks.specs.Marks.{marked}
 use mathlib.Core.Bool.{false}

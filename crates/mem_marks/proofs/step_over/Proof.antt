@@ -1,3 +1,4 @@
+-- `step_over`: a step of 1 passes only k, which is not marked; a step of 8 passes a byte that is 0, so that it has no marks. Assumes nothing.
 use Rattle.mem_marks.specs.Marks.{byte-empty, alone}
 use borrow.Author.Needs.{needs}
 use native.Mathlib.Omega.{arith}

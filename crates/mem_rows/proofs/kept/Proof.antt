@@ -1,3 +1,4 @@
+-- `kept`: `no_row` is the eighth of zeros; the answer and the front are copied, the slot is 8. Assumes nothing.
 use borrow.Author.Needs.{needs}
 use Rattle.mem_rows.proofs.kept.Statement.{statement}
 use Rattle.mem_rows.proofs.kept.Tie as tie

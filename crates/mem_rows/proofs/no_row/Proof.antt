@@ -1,3 +1,4 @@
+-- `no_row`: each field is the zero, or the array of zeros, of the definition. Assumes nothing.
 use Rattle.mem_rows.specs.Rows.{noRow}
 use mathlib.Core.Path.{refl}
 use Rattle.mem_rows.proofs.no_row.Statement.{statement}

@@ -1,3 +1,4 @@
+-- `below_power`: n is below 256, so below 2 ^ k where 8 <= k; else 2 ^ k is below 256 and the shift loses nothing. Assumes nothing.
 use Prim.Native.Nat.{ℕ, _*_, _%_, _^_, _≤_, _<_}
 use borrow.Author.Needs.{needs}
 use borrow.Author.Tests.{lt-ltb}

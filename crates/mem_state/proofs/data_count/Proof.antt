@@ -1,3 +1,4 @@
+-- `data_count`: N = 0 gives 0, as subtraction does in the definition; else it is N - 1. Assumes nothing.
 use Rattle.spec.specs.Params.{dataCount}
 use borrow.Author.Needs.{needs}
 use mathlib.Core.Path.{refl}

@@ -1,3 +1,4 @@
+-- `holds`: some cell holds it iff some cell from j on does; one that does ends it with true, another passes on, none left is false. Assumes nothing.
 use Prim.Native.Nat.{_-_, _≤_}
 use Rattle.spec.specs.Lists.{upFrom, any}
 use Rattle.spec.specs.Memory.{holdsAt, holds}

@@ -1,3 +1,4 @@
+-- `idle_state`: each field is the argument, or the array of zeros, of the definition. Assumes nothing.
 use Rattle.spec.specs.Memory.{idleState}
 use mathlib.Core.Path.{refl}
 use Rattle.mem_state.proofs.idle_state.Statement.{statement}

@@ -1,3 +1,4 @@
+-- `in_flight`: n plus the taken eighths from i on is all of them; a taken eighth i moves to n in its turn. Assumes nothing.
 use Prim.Native.Nat.{ℕ, _+_, _-_, _≤_}
 use Rattle.spec.specs.Lists.{upFrom, keep}
 use Rattle.spec.specs.Memory.{slotCount, slots, isFree, inFlight}

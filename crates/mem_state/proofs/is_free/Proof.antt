@@ -1,3 +1,4 @@
+-- `is_free`: the test with 0 is the definition's. Assumes nothing.
 use Rattle.spec.specs.Memory.{filledIn, isFree}
 use borrow.Author.Needs.{needs}
 use mathlib.Core.Path.{refl}

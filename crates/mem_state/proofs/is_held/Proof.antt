@@ -1,3 +1,4 @@
+-- `is_held`: the three tests are the three conjuncts: the position is filled, the address is there, the stamp is there. Assumes nothing.
 use Prim.Native.Nat.{_/_, _%_}
 use Rattle.spec.specs.Memory.{filledIn, holdsAt}
 use borrow.Author.Needs.{needs}

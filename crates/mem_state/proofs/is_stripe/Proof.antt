@@ -1,3 +1,4 @@
+-- `is_stripe`: a free eighth makes the conjunction false; else it is the comparison of the number. Assumes nothing.
 use Prim.Native.Nat.{ℕ}
 use Rattle.spec.specs.Memory.{stripeIn}
 use borrow.Author.Needs.{needs}

@@ -1,3 +1,4 @@
+-- `offsets_ok`: all offsets are below S iff those from j on are; another ends it with false, one below passes on, none left is true. Assumes nothing.
 use Prim.Native.Nat.{_-_, _≤_}
 use Rattle.spec.specs.Lists.{all}
 use Rattle.law_scans.specs.Scans.{all-broken-in, all-passed-in, all-ended-in}

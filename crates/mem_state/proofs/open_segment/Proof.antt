@@ -1,3 +1,4 @@
+-- `open_segment`: 0 gives 0, as subtraction does in the definition; else it is one less. Assumes nothing.
 use Prim.Native.Nat.{ℕ, _-_}
 use Rattle.spec.specs.Memory.{openSegment}
 use borrow.Author.Needs.{needs}

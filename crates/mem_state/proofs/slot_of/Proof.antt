@@ -1,3 +1,4 @@
+-- `slot_of`: i plus the index of the first hit from i on is the answer; a hit at i is it, a miss passes on, at 8 there is none: 8. Assumes nothing.
 use Prim.Native.Nat.{_+_, _-_, _≤_}
 use Rattle.spec.specs.Landing.{slotOf}
 use Rattle.spec.specs.Lists.{upFrom, indexOf}

@@ -1,3 +1,4 @@
+-- `slot_ok`: the four tests are the four conjuncts of the definition, in its order; the first that fails makes it false. Assumes nothing.
 use Prim.Native.Nat.{ℕ, _^_}
 use Rattle.spec.specs.Memory.{stripeIn, filledIn, landedIn, slotOk}
 use Rattle.spec.specs.Params.{dataCount}

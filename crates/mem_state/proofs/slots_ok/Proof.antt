@@ -1,3 +1,4 @@
+-- `slots_ok`: all eighths are ok iff those from i on are; one that is not ends it with false, another passes on, none left is true. Assumes nothing.
 use Prim.Native.Nat.{_-_, _≤_}
 use Rattle.spec.specs.Lists.{upFrom, all}
 use Rattle.spec.specs.Memory.{slotCount, slots, slotOk}

@@ -1,3 +1,4 @@
+-- `state_ok`: the seven tests are the seven conjuncts of the definition, in its order; the first that fails makes it false. Assumes nothing.
 use Prim.Native.Nat.{_^_}
 use Rattle.spec.specs.Lists.{all}
 use Rattle.spec.specs.Memory.{slots, slotOk, stateOk}

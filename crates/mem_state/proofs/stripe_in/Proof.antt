@@ -1,3 +1,4 @@
+-- `stripe_in`: `whole` is the number at index i, which the definition takes. Assumes nothing.
 use Rattle.spec.specs.Memory.{stripeIn}
 use borrow.Author.Needs.{needs}
 use Rattle.mem_state.proofs.stripe_in.Statement.{statement}

@@ -1,3 +1,4 @@
+-- `zero_state`: the definition is the idle state of six zeros. Assumes nothing.
 use Rattle.spec.specs.Memory.{zeroState}
 use borrow.Author.Needs.{needs}
 use Rattle.mem_state.proofs.zero_state.Statement.{statement}

@@ -1,3 +1,4 @@
+-- `count_places`: k is how many of the first a addresses lie from lo up to hi, at most a; one turn adds `is_near` of the place of address a. Assumes nothing.
 use mathlib.Core.Path.{_≡_, ap, ap₂, _∙_}
 use Prim.Native.Nat.{ℕ, _+_, _-_, _≤_}
 use native.Mathlib.Omega.{arith}

@@ -1,3 +1,4 @@
+-- `find_place`: the search from a on finds what the search of all finds; a hit is the lowest, a miss passes on, at n there is none. Assumes nothing.
 use mathlib.Core.Path.{_≡_, sym, _∙_}
 use Prim.Native.Nat.{_-_, _≤_}
 use native.Mathlib.Omega.{arith}

@@ -1,3 +1,4 @@
+-- `is_near`: q - lo modulo 2 ^ 32 is below hi - lo iff q lies from lo up to hi (`within-near`), since all three are below 2 ^ 32. Assumes nothing.
 use mathlib.Core.Path.{ap, _∙_}
 use Prim.Native.Nat.{ℕ, _<_}
 use lib.Dec.{ltb}

@@ -1,3 +1,4 @@
+-- `place_at`: the four bytes at 4 * a are what the definition reads. Assumes nothing.
 use Rattle.spec.specs.Memory.{placeAt}
 use borrow.Author.Needs.{needs}
 use Rattle.mem_tables.proofs.place_at.Statement.{statement}

@@ -1,3 +1,4 @@
+-- `set_place`: the four bytes written at 4 * a are the definition's splice. Assumes nothing.
 use Rattle.spec.specs.Memory.{setPlace}
 use borrow.Author.Needs.{needs}
 use Rattle.mem_tables.proofs.set_place.Statement.{statement}

@@ -1,3 +1,4 @@
+-- `demand_three_values`: `demand-3`: `Holds` is true of empty drives, each allowed event keeps it, and it gives what a restart there claims. Assumes nothing.
 use Rattle.proof_crash.specs.Demand.{demand-3}
 use Rattle.proof_crash.proofs.demand_three_values.Statement.{statement}
 use Rattle.proof_crash.proofs.demand_three_values.Tie as tie

@@ -1,3 +1,4 @@
+-- `add_stamp`: a missing drive leaves t; on a present one the compact table shows the stripe's offset, and the record there is the stored one. Assumes nothing.
 use borrow.Author.Needs.{needs}
 use mathlib.Core.Path.{_≡_, sym, ap, _∙_, subst}
 use mathlib.Core.Bool.{false}

@@ -1,3 +1,4 @@
+-- `cand_at`: the place's drive, segment and offset are those of a counted record; its stamp and the segment's serial make it the one found. Assumes nothing.
 use mathlib.Core.Path.{_≡_, ap, ap₂, _∙_, subst}
 use Prim.Native.Nat.{ℕ, _-_, _≤_}
 use native.Mathlib.Omega.{arith}

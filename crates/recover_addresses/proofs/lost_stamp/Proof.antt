@@ -1,3 +1,4 @@
+-- `lost_stamp`: t is the exclusive or of the stamps of the present drives below d; one turn adds that of d, and at N they are all. Assumes nothing.
 use mathlib.Core.Path.{_≡_, ap, _∙_}
 use mathlib.Core.Bool.{not}
 use mathlib.Core.List.{map}

@@ -1,3 +1,4 @@
+-- `offer`: `told-high` where the address is not below L, `told-fresh` where it has no place, then `told-won` or `told-lost` by who beats whom. Assumes nothing.
 use borrow.Author.Needs.{needs}
 use mathlib.Core.Path.{sym, _∙_, subst}
 use mathlib.Core.List.{List, [], _∷_, _++_}

@@ -1,3 +1,4 @@
+-- `stamp_at`: on a missing drive offset is the stripe, and the stamp the exclusive or of the others; on a present one its record lies there. Assumes nothing.
 use borrow.Author.Needs.{needs}
 use mathlib.Core.Path.{_≡_, sym, ap, _∙_, subst}
 use mathlib.Core.Bool.{false}

@@ -1,3 +1,4 @@
+-- `exam_good`: each sum of two numbers below 2 ^ 32 fits; sealed or not picks which of them `added` takes. Assumes nothing.
 use mathlib.Core.Path.{sym}
 use Rattle.recover_check.specs.Faults.{added-full, added-open}
 use borrow.Author.Needs.{needs}

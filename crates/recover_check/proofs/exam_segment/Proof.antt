@@ -1,3 +1,4 @@
+-- `exam_segment`: one not kept has no fault and adds nothing; a fault in front or in the survey names g; else the tally is added, and fits. Assumes nothing.
 use mathlib.Core.Path.{_≡_, sym, ap, _∙_, subst}
 use mathlib.Core.Bool.{Bool, true, false, _||_}
 use Prim.Native.Nat.{_+_}

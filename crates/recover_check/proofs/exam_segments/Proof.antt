@@ -1,3 +1,4 @@
+-- `exam_segments`: e is what was seen of the segments below g, none at fault; the first at fault ends it by its number, and at Z all are seen. Assumes nothing.
 use mathlib.Core.Path.{_≡_, sym, ap, _∙_, subst}
 use Prim.Native.Nat.{ℕ, _-_, _≤_}
 use native.Mathlib.Omega.{arith}

@@ -1,3 +1,4 @@
+-- `examine`: two or more unsealed segments are what `many` says, and the examination of all segments is the answer. Assumes nothing.
 use mathlib.Core.Path.{ap}
 use native.Mathlib.Omega.{arith}
 use lib.Dec.{leb}

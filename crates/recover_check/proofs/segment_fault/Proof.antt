@@ -1,3 +1,4 @@
+-- `segment_fault`: a fault in front decides; then a sealed segment has no other, two unsealed ones are one, and else the footers decide. Assumes nothing.
 use mathlib.Core.Path.{sym, _∙_}
 use native.Mathlib.Omega.{arith}
 use Rattle.spec.specs.Drives.{viewOf}

@@ -1,3 +1,4 @@
+-- `base_at`: o less than G behind base keeps base; else base + G is at or below o, and a multiple of G again. Assumes nothing.
 use native.Mathlib.Omega.{arith}
 use borrow.Author.Needs.{needs}
 use Rattle.recover_compact.specs.Compacts.{next-base}

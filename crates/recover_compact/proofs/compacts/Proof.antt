@@ -1,3 +1,4 @@
+-- `compacts`: the rows of the first d drives are as the drives say; one turn puts those of d behind them, and at N that is the whole table. Assumes nothing.
 use mathlib.Core.Path.{_≡_, refl, ap, _∙_}
 use Prim.Native.Nat.{ℕ, _-_, _≤_}
 use native.Mathlib.Omega.{arith}

@@ -1,3 +1,4 @@
+-- `entries`: the first o entries of the row are those of the zone's records, and base is a multiple of G at or below o; one turn sets entry o. Assumes nothing.
 use mathlib.Core.Path.{_≡_, refl, ap, _∙_}
 use mathlib.Core.List.{List, map}
 use Prim.Native.Nat.{ℕ, _+_, _-_, _%_, _≤_}

@@ -1,3 +1,4 @@
+-- `entry_near`: for s less than G behind base, a multiple of G, s - base is the entry, by `near`, and below 256; else it is worked out. Assumes nothing.
 use Prim.Native.Nat.{_-_}
 use native.Mathlib.Omega.{arith}
 use borrow.Author.Needs.{needs}

@@ -1,3 +1,4 @@
+-- `row`: zeros where the segment is dropped or the drive missing; else the entries of the stored data and zeros up to S, by `row-both`. Assumes nothing.
 use mathlib.Core.Path.{_≡_, sym, ap₂, _∙_}
 use mathlib.Core.Bool.{Bool}
 use mathlib.Core.List.{List, map, _++_}

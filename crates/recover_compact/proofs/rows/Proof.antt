@@ -1,3 +1,4 @@
+-- `rows`: the first z rows of the drive are as the drives say; one turn puts row z behind them, and the flag of z says whether z remains. Assumes nothing.
 use mathlib.Core.Path.{_≡_, refl, ap, _∙_}
 use mathlib.Core.Bool.{false}
 use Prim.Native.Nat.{ℕ, _-_, _≤_}

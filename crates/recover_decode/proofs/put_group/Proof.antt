@@ -1,3 +1,4 @@
+-- `put_group`: what is owed are the lost chunks of the stripes from base + k on; the present drives stay, and with them the index. Assumes nothing.
 use mathlib.Core.Path.{sym, _∙_}
 use Prim.Native.Nat.{_-_, _<_}
 use native.Mathlib.Omega.{arith}

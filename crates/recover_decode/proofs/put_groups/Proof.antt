@@ -1,3 +1,4 @@
+-- `put_groups`: an index has 2048 numbers, for which there is room. Assumes nothing.
 use mathlib.Core.Path.{refl}
 use borrow.Author.Needs.{needs}
 use Rattle.spec.specs.Engine.Call.{close}

@@ -1,3 +1,4 @@
+-- `put_groups_with`: what is owed are the lost chunks from stripe base on; one turn pays a group, or is cut, and at S nothing is owed. Assumes nothing.
 use mathlib.Core.Path.{_≡_, refl, sym, _∙_}
 use Prim.Native.Nat.{_-_}
 use native.Mathlib.Omega.{arith}

@@ -1,3 +1,4 @@
+-- `put_if`: a stripe that does not count gives no store and the count stays; one that counts gives its lost chunk, for which there is room. Assumes nothing.
 use mathlib.Core.Path.{_≡_, sym, _∙_, subst}
 use mathlib.Core.List.{List}
 use mathlib.Core.Bool.{true, false}

@@ -1,3 +1,4 @@
+-- `put_lost`: a block is at most 4096 bytes, so there is room for it. Assumes nothing.
 use mathlib.Core.Path.{sym}
 use mathlib.Core.List.{List}
 use Prim.Native.Nat.{ℕ}

@@ -1,3 +1,4 @@
+-- `put_lost_with`: the stripe counts, so every present drive has its chunk; block and record are the lost ones, and make the one store. Assumes nothing.
 use Rattle.disk_records.specs.Record.{recOf as recVal}
 use mathlib.Core.Path.{sym, _∙_, subst}
 use mathlib.Core.List.{List, [], _∷_}

@@ -1,3 +1,4 @@
+-- `drop_one`: a kept segment gives no stores and the count stays; one that is not kept gives its resets. Assumes nothing.
 use Rattle.spec.specs.Drives.{Store, mkDisk}
 use Rattle.spec.specs.Engine.Call.{close}
 use Rattle.recover_drop.specs.Dropped.{one-kept, one-dropped}

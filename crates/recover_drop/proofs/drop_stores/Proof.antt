@@ -1,3 +1,4 @@
+-- `drop_stores`: what is owed are the resets of the segments from g on; one turn pays those of g, a cut ends it, and at Z nothing is owed. Assumes nothing.
 use Prim.Native.Nat.{ℕ, _+_, _-_, _≤_}
 use Rattle.spec.specs.Drives.{Store, mkDisk}
 use Rattle.spec.specs.Engine.Call.{close}

@@ -1,3 +1,4 @@
+-- `missing_footers`: what is owed are the footers of the drives from d on, whose zones are as found; a turn pays those of d, or is cut. Assumes nothing.
 use Prim.Native.Nat.{ℕ, _-_}
 use Rattle.spec.specs.Drives.{mkDisk, zoneOn}
 use Rattle.law_basic.specs.Geometry.{ranged}

@@ -1,3 +1,4 @@
+-- `missing_on`: the footers from the first lacking one on fit below capacity, as the pointer is right behind the stored ones. Assumes nothing.
 use Rattle.spec.specs.Drives.{zoneAt, mkDisk}
 use Rattle.law_basic.specs.Geometry.{ranged}
 use Rattle.recover_footers.specs.Feet.{lack-fits, lack-stores}

@@ -1,3 +1,4 @@
+-- `add_block`: a missing drive leaves the block; a present one has the chunk, and its block is added. Assumes nothing.
 use mathlib.Core.Path.{sym, _∙_}
 use Prim.Native.Nat.{_+_}
 use Rattle.spec.specs.Bytes.{xors}

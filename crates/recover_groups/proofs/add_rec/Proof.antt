@@ -1,3 +1,4 @@
+-- `add_rec`: a missing drive leaves r; a present one has the chunk, and address and stamp of its record are added. Assumes nothing.
 use mathlib.Core.Path.{sym, ap, _∙_}
 use Prim.Native.Nat.{_+_}
 use Rattle.spec.specs.History.{before}

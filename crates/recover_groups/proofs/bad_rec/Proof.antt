@@ -1,3 +1,4 @@
+-- `bad_rec`: below L the stamp decides, by `bad-low`; else whether the address is padding, by `bad-high`. Assumes nothing.
 use mathlib.Core.Path.{sym}
 use native.Mathlib.Omega.{arith}
 use Rattle.spec.specs.History.{before}

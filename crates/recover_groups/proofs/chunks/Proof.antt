@@ -1,3 +1,4 @@
+-- `chunks`: n and the number of drives with the chunk from d on are that of all; a drive that has it adds 1 to n, and n is at most d. Assumes nothing.
 use mathlib.Core.Path.{_≡_, sym, ap, _∙_}
 use mathlib.Core.Logic.{⊎-elim}
 use Prim.Native.Nat.{ℕ, _+_, _-_, _≤_, _<_}

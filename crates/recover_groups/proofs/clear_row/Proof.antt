@@ -1,3 +1,4 @@
+-- `clear_row`: the first k numbers of the drive's row are 0, those below the row as before; one turn sets number k to 0. Assumes nothing.
 use mathlib.Core.Path.{_≡_, refl, sym, _∙_}
 use Prim.Native.Nat.{ℕ, _+_, _-_, _*_, _≤_, _<_}
 use native.Mathlib.Omega.{arith}

@@ -1,3 +1,4 @@
+-- `copy_block`: an entered chunk's block lies below capacity, within the image, and is the stripe's, by `block-read`; it is copied. Assumes nothing.
 use mathlib.Core.Path.{sym, ap, _∙_}
 use Prim.Native.Nat.{ℕ, _+_}
 use native.Mathlib.Omega.{arith}

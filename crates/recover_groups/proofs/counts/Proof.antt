@@ -1,3 +1,4 @@
+-- `counts`: all drives from d on are missing or have the chunk just if all are; one without ends it, and `all-keep` leaves the present ones. Assumes nothing.
 use mathlib.Core.Path.{_≡_, sym, ap, _∙_}
 use mathlib.Core.Bool.{Bool, _||_}
 use Prim.Native.Nat.{ℕ, _+_, _-_, _≤_, _<_}

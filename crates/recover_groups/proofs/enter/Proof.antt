@@ -1,3 +1,4 @@
+-- `enter`: each of the three tests is a part of `isNew`, and the first false one returns at once; all true, the number of s is set to v. Assumes nothing.
 use mathlib.Core.Path.{refl, sym}
 use mathlib.Core.Bool.{_&&_}
 use Prim.Native.Nat.{_+_, _-_, _*_}

@@ -1,3 +1,4 @@
+-- `group_len`: G or what is left from base on, whichever is less; base below S and G at least 1 give the lower bound, G at most 256 the upper. Assumes nothing.
 use native.Mathlib.Omega.{arith}
 use Rattle.spec.specs.History.{before}
 use Rattle.law_basic.specs.Geometry.{ranged}

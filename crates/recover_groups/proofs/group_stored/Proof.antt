@@ -1,3 +1,4 @@
+-- `group_stored`: the data stored on the zone less base, at least 0 and at most the group's length, as `group-stored-is` says. Assumes nothing.
 use mathlib.Core.Path.{ap, _∙_}
 use Prim.Native.Nat.{ℕ}
 use native.Mathlib.Omega.{arith}

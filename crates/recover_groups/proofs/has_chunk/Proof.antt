@@ -1,3 +1,4 @@
+-- `has_chunk`: the number in the index is not 0 just where the segment has the chunk, by `chunk-is`. Assumes nothing.
 use mathlib.Core.Path.{refl}
 use Rattle.spec.specs.History.{before}
 use Rattle.recover_groups.specs.Chunks.{chunk-is}

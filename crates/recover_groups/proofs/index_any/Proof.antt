@@ -1,3 +1,4 @@
+-- `index_any`: the row is clear; that is the row of a missing drive, which has no chunks, and a present drive's row is made from its records. Assumes nothing.
 use mathlib.Core.Path.{sym, ap, _∙_}
 use mathlib.Core.Bool.{Bool, not, _||_}
 use Prim.Native.Nat.{_+_}

@@ -1,3 +1,4 @@
+-- `index_drive`: the first i records are entered and none is bad; a bad address or number ends it, else record i is entered as i + 1. Assumes nothing.
 use mathlib.Core.Path.{_≡_, refl, sym, ap, _∙_, subst}
 use mathlib.Core.List.{List}
 use mathlib.Core.Bool.{true, false, not}

@@ -1,3 +1,4 @@
+-- `index_group`: the drives below d have their rows and none is bad; row d leaves those below it, a bad drive ends it, at N all rows stand. Assumes nothing.
 use mathlib.Core.Path.{_≡_, sym, ap, _∙_}
 use mathlib.Core.Bool.{true, false, not}
 use Prim.Native.Nat.{ℕ, _-_, _≤_, _<_}

@@ -1,3 +1,4 @@
+-- `is_there`: a missing drive makes the first part true; else it is false, and the index decides. Assumes nothing.
 use mathlib.Core.Path.{sym, ap, _∙_}
 use mathlib.Core.Bool.{Bool, not, _||_}
 use Prim.Native.Nat.{_+_, _*_}

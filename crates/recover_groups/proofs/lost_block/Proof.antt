@@ -1,3 +1,4 @@
+-- `lost_block`: the block is the exclusive or of the present drives' blocks below d, at first zeros; one turn adds that of d, at N all are in. Assumes nothing.
 use mathlib.Core.Path.{_≡_, sym, ap, _∙_}
 use mathlib.Core.List.{List}
 use mathlib.Core.Bool.{cond}

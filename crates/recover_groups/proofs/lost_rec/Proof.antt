@@ -1,3 +1,4 @@
+-- `lost_rec`: r is the exclusive or of the records of the present drives below d; one turn adds that of d, and at N they are all. Assumes nothing.
 use mathlib.Core.Path.{_≡_, sym, ap, _∙_}
 use mathlib.Core.List.{List, map}
 use mathlib.Core.Bool.{cond}

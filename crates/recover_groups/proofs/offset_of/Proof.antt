@@ -1,3 +1,4 @@
+-- `offset_of`: a missing drive takes the first branch of `offsetOf`, base + k; a present one is entered, and its offset is that of the index. Assumes nothing.
 use mathlib.Core.Path.{sym, _∙_}
 use Prim.Native.Nat.{_+_}
 use Rattle.spec.specs.History.{before}

@@ -1,3 +1,4 @@
+-- `offset_on`: base and the number in the index, less 1; a number of 16 bits does not overflow there, and `entered-chunk` makes it the offset. Assumes nothing.
 use mathlib.Core.Path.{refl}
 use Prim.Native.Nat.{_+_, _*_}
 use native.Mathlib.Omega.{arith}

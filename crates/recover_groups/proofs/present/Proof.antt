@@ -1,3 +1,4 @@
+-- `present`: n and the number of present drives from d on are that of all; a present one adds 1 to n, and n is at most d. Assumes nothing.
 use mathlib.Core.Path.{_≡_, sym, ap, _∙_}
 use mathlib.Core.Bool.{not}
 use mathlib.Core.Logic.{⊎-elim}

@@ -1,3 +1,4 @@
+-- `rec_of`: a missing drive takes the first branch of `recOf`, the exclusive or of the others; a present one has the chunk and its record. Assumes nothing.
 use mathlib.Core.Path.{sym, _∙_}
 use mathlib.Core.List.{map}
 use Prim.Native.Nat.{_+_}

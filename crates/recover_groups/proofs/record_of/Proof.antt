@@ -1,3 +1,4 @@
+-- `record_of`: the record's 20 bytes are those of the record at that offset, from the footers where sealed, else from the spare. Assumes nothing.
 use mathlib.Core.Path.{ap, _∙_}
 use Prim.Native.Nat.{ℕ}
 use borrow.Author.Needs.{needs}

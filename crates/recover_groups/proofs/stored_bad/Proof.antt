@@ -1,3 +1,4 @@
+-- `stored_bad`: a good record makes the second part false; with a bad one only whether it is data stands. Assumes nothing.
 use mathlib.Core.Path.{_≡_, refl, sym, ap, _∙_}
 use mathlib.Core.Bool.{Bool, true, false, _&&_}
 use borrow.Author.Tests.{not-true, not-false}

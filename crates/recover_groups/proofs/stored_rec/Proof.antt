@@ -1,3 +1,4 @@
+-- `stored_rec`: an entered chunk's offset lies in the group, below S, and the record read at it is the stripe's, by `record-read`. Assumes nothing.
 use mathlib.Core.Path.{_∙_}
 use native.Mathlib.Omega.{arith}
 use Rattle.spec.specs.Drives.{zoneAt, viewOf, recordIn}

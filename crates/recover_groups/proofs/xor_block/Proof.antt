@@ -1,3 +1,4 @@
+-- `xor_block`: an entered chunk's block lies below capacity, within the image, and is the stripe's, by `block-read`; it is added. Assumes nothing.
 use mathlib.Core.Path.{sym, ap, _∙_}
 use Prim.Native.Nat.{ℕ, _+_}
 use native.Mathlib.Omega.{arith}

@@ -1,3 +1,4 @@
+-- `any_above`: some drive from d on is above just if some drive is; one above ends it, and at N none is left. Assumes nothing.
 use mathlib.Core.Path.{_≡_, sym, _∙_}
 use mathlib.Core.Bool.{Bool, not, _&&_}
 use Prim.Native.Nat.{ℕ, _-_, _≤_}

@@ -1,3 +1,4 @@
+-- `drive_footer_fault`: a missing drive makes the first part false; else it is true, and the segment's zone there decides. Assumes nothing.
 use mathlib.Core.Path.{sym, ap, _∙_}
 use mathlib.Core.Bool.{Bool, not, _&&_}
 use Prim.Native.Nat.{ℕ}

@@ -1,3 +1,4 @@
+-- `footer_differs`: a block is at most 4096 bytes, so scratch has room for it. Assumes nothing.
 use Rattle.law_basic.specs.Geometry.{ranged}
 use borrow.Author.Needs.{needs}
 use Rattle.recover_headers.proofs.footer_differs.Statement.{statement}

@@ -1,3 +1,4 @@
+-- `footer_fault`: some present drive's zone from d on has a footer fault just if one has; one found ends it; `footer-list` names the zones. Assumes nothing.
 use mathlib.Core.Path.{_≡_, sym, _∙_}
 use mathlib.Core.Bool.{Bool, not, _&&_}
 use Prim.Native.Nat.{ℕ, _-_, _≤_}

@@ -1,3 +1,4 @@
+-- `footer_unlike`: scratch holds the footer block made from the spares, and the image's part there is the stored block; the two are compared. Assumes nothing.
 use mathlib.Core.Path.{_≡_, sym, ap, ap₂, _∙_}
 use mathlib.Core.Bool.{not}
 use mathlib.Core.List.{_++_}

@@ -1,3 +1,4 @@
+-- `front_fault`: where the header is at fault `front-header`, where serial is not above copied `front-serial`, else `front-other`. Assumes nothing.
 use mathlib.Core.Path.{_≡_, sym, ap, _∙_}
 use Prim.Native.Nat.{ℕ}
 use native.Mathlib.Omega.{arith}

@@ -1,3 +1,4 @@
+-- `header_differs`: a missing drive makes the first part false; else the image's part is the zone's first chunk, compared with the header. Assumes nothing.
 use mathlib.Core.Path.{_≡_, sym, ap, ap₂, _∙_}
 use mathlib.Core.Bool.{Bool, not, _&&_}
 use Prim.Native.Nat.{ℕ, _+_, _-_}

@@ -1,3 +1,4 @@
+-- `header_fault`: some present drive's header from d on is off just if one is; one off ends it, and `header-list` makes that the fault. Assumes nothing.
 use mathlib.Core.Path.{_≡_, sym, _∙_}
 use mathlib.Core.Bool.{Bool, not, _&&_}
 use Prim.Native.Nat.{ℕ, _-_, _≤_}

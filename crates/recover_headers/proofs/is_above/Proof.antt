@@ -1,3 +1,4 @@
+-- `is_above`: a missing drive makes the first part false; else it is true, and capacity and pointer are compared. Assumes nothing.
 use mathlib.Core.Path.{sym, ap, ap₂, _∙_}
 use mathlib.Core.Bool.{Bool, not, _&&_}
 use borrow.Author.Needs.{needs}

@@ -1,3 +1,4 @@
+-- `pointer_fault`: the lowest zone with a pointer above from z on is the lowest of all; one found ends it, and at Z there is none. Assumes nothing.
 use mathlib.Core.Path.{_≡_, sym, ap, _∙_}
 use Prim.Native.Nat.{_-_, _≤_}
 use native.Mathlib.Omega.{arith}

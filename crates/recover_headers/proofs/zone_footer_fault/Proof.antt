@@ -1,3 +1,4 @@
+-- `zone_footer_fault`: some footer from i on is unlike just if one of the stored n is; one found ends it, and `footer-any` makes it the fault. Assumes nothing.
 use mathlib.Core.Path.{_≡_, sym, ap, _∙_}
 use Prim.Native.Nat.{ℕ, _-_, _≤_}
 use native.Mathlib.Omega.{arith}

@@ -1,3 +1,4 @@
+-- `move_chunk`: a block is at most 4096 bytes, so there is room for it. Assumes nothing.
 use Prim.Native.Nat.{ℕ}
 use Rattle.law_basic.specs.Geometry.{ranged}
 use borrow.Author.Needs.{needs}

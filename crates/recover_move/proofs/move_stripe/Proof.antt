@@ -1,3 +1,4 @@
+-- `move_stripe`: what is owed are the chunks of the drives from d on; to is not the segment, which stays as it is; one turn pays d, or is cut. Assumes nothing.
 use Prim.Native.Nat.{_+_, _-_}
 use Rattle.spec.specs.Drives.{mkDisk}
 use Rattle.spec.specs.Lists.{upFrom}

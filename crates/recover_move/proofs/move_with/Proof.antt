@@ -1,3 +1,4 @@
+-- `move_with`: block and record of the moved chunk, the record as 20 bytes of spare, make the one store, by `put-moved`. Assumes nothing.
 use Prim.Native.Nat.{_+_}
 use Rattle.spec.specs.Drives.{mkDisk, zoneOn}
 use Rattle.recover_groups.specs.Groups.{segmentIn}

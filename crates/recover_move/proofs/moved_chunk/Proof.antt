@@ -1,3 +1,4 @@
+-- `moved_chunk`: a data drive of s gets the chunk of its position, by `moved-data`; the parity drive the new parity, by `moved-parity`. Assumes nothing.
 use Prim.Native.Nat.{ℕ, _+_, _<_}
 use Rattle.spec.specs.Layout.{dataDrive}
 use Rattle.spec.specs.Params.{dataCount}

@@ -1,3 +1,4 @@
+-- `moved_data`: data position i of the stripe is on a drive that has it; its block and record under stripe s are the renumbered chunk. Assumes nothing.
 use Rattle.spec.specs.Layout.{mkRec}
 use Rattle.law_basic.specs.Geometry.{ranged}
 use Rattle.law_basic.specs.Mask.{isIn-empty}

@@ -1,3 +1,4 @@
+-- `moved_parity`: block and record are the exclusive or of the first i data chunks, the block at first zeros; one turn adds chunk i. Assumes nothing.
 use Prim.Native.Nat.{ℕ, _+_, _-_, _≤_}
 use Rattle.spec.specs.Layout.{mkRec}
 use Rattle.spec.specs.Params.{dataCount}

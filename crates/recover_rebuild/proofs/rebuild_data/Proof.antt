@@ -1,3 +1,4 @@
+-- `rebuild_data`: the chunks are cut or made; not sealed, they are all; sealed, S of them count, so the footers fit and come of their spares. Assumes nothing.
 use mathlib.Core.Path.{_≡_, sym, ap, _∙_, subst}
 use mathlib.Core.Bool.{true}
 use Prim.Native.Nat.{ℕ, _+_, _≤_, _<_}

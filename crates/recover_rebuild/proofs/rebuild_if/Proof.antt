@@ -1,3 +1,4 @@
+-- `rebuild_if`: a segment not kept gives no stores and the count stays; a kept one gives its zone. Assumes nothing.
 use mathlib.Core.Path.{_≡_, sym, subst}
 use mathlib.Core.List.{List, []}
 use mathlib.Core.Bool.{true, false}

@@ -1,3 +1,4 @@
+-- `rebuild_stores`: the resets are cut or made; then the drive is empty, the others as they were, and the zones' stores are the rest. Assumes nothing.
 use borrow.Author.Needs.{needs}
 use Rattle.spec.specs.Drives.{mkDisk}
 use Rattle.spec.specs.Engine.Call.{close}

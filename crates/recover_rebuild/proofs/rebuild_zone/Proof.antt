@@ -1,3 +1,4 @@
+-- `rebuild_zone`: the header has the serials of the lowest present drive; cut, or the rest is made: the header changes no present drive. Assumes nothing.
 use mathlib.Core.Path.{sym, ap, _∙_, subst}
 use mathlib.Core.List.{[], _∷_}
 use Prim.Native.Nat.{ℕ, _<_}

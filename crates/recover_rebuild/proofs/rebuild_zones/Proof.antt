@@ -1,3 +1,4 @@
+-- `rebuild_zones`: what is owed are the zones from g on, still empty on the drive; the present drives stay; one turn pays g, or is cut. Assumes nothing.
 use mathlib.Core.Path.{refl, sym, _∙_}
 use mathlib.Core.Bool.{false}
 use Prim.Native.Nat.{_-_}

@@ -1,3 +1,4 @@
+-- `put_header`: a unit is at most 4116 bytes, so there is room for it, and 20 zero bytes are the zero spare. Assumes nothing.
 use mathlib.Core.Path.{_≡_, refl, sym, _∙_}
 use mathlib.Core.List.{List}
 use Prim.Native.Nat.{ℕ}

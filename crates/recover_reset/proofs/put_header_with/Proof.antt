@@ -1,3 +1,4 @@
+-- `put_header_with`: the first B bytes of the unit are the header block, of that length; with a spare of zeros it is the one store. Assumes nothing.
 use mathlib.Core.Path.{_≡_, sym, ap, _∙_, subst}
 use mathlib.Core.List.{List, [], _∷_}
 use Prim.Native.Nat.{ℕ}

@@ -1,3 +1,4 @@
+-- `reset_drive`: what is left to do are the resets of the zones from z on, for left stores; one turn does one, at 0 it is cut, at Z done. Assumes nothing.
 use mathlib.Core.Path.{_≡_, refl, _∙_}
 use mathlib.Core.List.{List}
 use Prim.Native.Nat.{ℕ, _-_}

@@ -1,3 +1,4 @@
+-- `move_group`: what is left to move are the counted stripes from base + k on; seg stays, and with it the index; a turn moves k or is cut. Assumes nothing.
 use Prim.Native.Nat.{_+_, _-_, _≤_}
 use Rattle.spec.specs.Drives.{mkDisk}
 use Rattle.spec.specs.Segments.{Segment}

@@ -1,3 +1,4 @@
+-- `move_stripes`: what is left to move are the counted stripes from base on, and next is at most base; one turn moves a group, or is cut. Assumes nothing.
 use Prim.Native.Nat.{_+_, _-_, _%_, _≤_}
 use Rattle.spec.specs.Drives.{viewOf, mkDisk}
 use Rattle.spec.specs.Segments.{Segment, segmentOf, counted}

@@ -1,3 +1,4 @@
+-- `rewrite`: headers, stripes, resets, each cut or made; the headers leave seg as it is, so what was asked of it still holds for the stripes. Assumes nothing.
 use Rattle.spec.specs.Drives.{mkDisk}
 use Rattle.law_basic.specs.Geometry.{ranged}
 use Rattle.recover_rewrite.specs.Rewrite.{rewrite-heads, rewrite-whole, rewrite-sealed, rewrite-good, rewrite-fits, rewrite-moves, rewrite-resets, head-room}

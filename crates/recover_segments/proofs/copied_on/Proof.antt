@@ -1,3 +1,4 @@
+-- `copied_on`: the segment's header block lies at that byte of the image, within its length, and the copied serial read there is the header's. Assumes nothing.
 use mathlib.Core.Path.{sym, ap, _∙_}
 use Prim.Native.Nat.{ℕ}
 use native.Mathlib.Omega.{arith}

@@ -1,3 +1,4 @@
+-- `first_unsealed`: the first unsealed segment from g on is the first of all; one found ends it, and at Z there is none. Assumes nothing.
 use mathlib.Core.Path.{_≡_, sym, ap, _∙_}
 use mathlib.Core.List.{List}
 use mathlib.Core.Bool.{Bool, false, not, _&&_}

@@ -1,3 +1,4 @@
+-- `greater_if`: unflagged the first stays; flagged, the greater is the second where the first is below it, else the first. Assumes nothing.
 use mathlib.Core.Path.{_≡_, sym, _∙_}
 use Prim.Native.Nat.{max}
 use borrow.Author.Tests.{not-true, not-false}

@@ -1,3 +1,4 @@
+-- `greatest_serial`: after g turns it is the greatest serial of the kept among the first g; at Z that is the greatest of the segments. Assumes nothing.
 use mathlib.Core.Path.{_≡_, sym, ap, _∙_}
 use mathlib.Core.Bool.{false, cond}
 use Prim.Native.Nat.{ℕ, _-_, max, _≤_}

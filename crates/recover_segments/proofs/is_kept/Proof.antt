@@ -1,3 +1,4 @@
+-- `is_kept`: `remains-is` splits it into flag and copy: no flag is false, copied serial 0 is no copy, else another segment's serial decides. Assumes nothing.
 use mathlib.Core.Path.{_≡_, refl, sym, ap, _∙_}
 use mathlib.Core.Bool.{Bool, false, not, _&&_}
 use Prim.Native.Nat.{ℕ}

@@ -1,3 +1,4 @@
+-- `is_left`: what holds of all drives from d on holds of all; an empty zone breaks it, a used one passes, and at N nothing is left to ask. Assumes nothing.
 use mathlib.Core.Path.{_≡_, sym, _∙_}
 use mathlib.Core.Bool.{Bool, not, _||_}
 use Prim.Native.Nat.{ℕ, _-_, _≤_}

@@ -1,3 +1,4 @@
+-- `is_other`: no flag or the same segment makes one part false; else both are true, and the serials' comparison is all that stands. Assumes nothing.
 use mathlib.Core.Path.{sym, ap}
 use mathlib.Core.Bool.{Bool, not, _&&_}
 use borrow.Author.Tests.{not-true, not-false, eq-eqb, ne-eqb}

@@ -1,3 +1,4 @@
+-- `is_serial_of_other`: some segment from h on is another with serial c just if some segment is; one found ends it, and at Z none is left. Assumes nothing.
 use mathlib.Core.Path.{_≡_, sym, _∙_}
 use mathlib.Core.Bool.{Bool, false, not, _&&_}
 use Prim.Native.Nat.{ℕ, _-_, _≤_}

@@ -1,3 +1,4 @@
+-- `is_unsealed`: not kept makes the first part false; kept, it is true, and the second is the seal's negation. Assumes nothing.
 use mathlib.Core.Path.{sym, ap, _∙_}
 use mathlib.Core.Bool.{Bool, false, not, _&&_}
 use borrow.Author.Tests.{not-true, not-false}

@@ -1,3 +1,4 @@
+-- `is_used`: a missing drive makes the first part true; else it is false, and the pointer of the segment's zone there decides. Assumes nothing.
 use mathlib.Core.Path.{sym, ap, _∙_}
 use mathlib.Core.Bool.{Bool, not, _||_}
 use Prim.Native.Nat.{ℕ}

@@ -1,3 +1,4 @@
+-- `kept`: after g turns the first g flags say which segments remain; one turn sets flag g, by the left flags and the given serials. Assumes nothing.
 use mathlib.Core.Path.{_≡_, _∙_}
 use mathlib.Core.Bool.{Bool, false}
 use Prim.Native.Nat.{ℕ, _-_, _≤_, _<_}

@@ -1,3 +1,4 @@
+-- `left`: after g turns the first g flags say which segments are left; one turn sets flag g. Assumes nothing.
 use mathlib.Core.Path.{_≡_, _∙_}
 use mathlib.Core.List.{List}
 use mathlib.Core.Bool.{Bool, false}

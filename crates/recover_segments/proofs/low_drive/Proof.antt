@@ -1,3 +1,4 @@
+-- `low_drive`: the first present drive from d on is the first of all; a present one ends the search, and at N there is none and it is 0. Assumes nothing.
 use mathlib.Core.Path.{_≡_, sym, ap, _∙_}
 use mathlib.Core.Bool.{not}
 use Prim.Native.Nat.{_-_, _≤_}

@@ -1,3 +1,4 @@
+-- `lowest_free`: the first zone not kept from z on is the first of all; with Z where there is none, it is the first of the free zones. Assumes nothing.
 use mathlib.Core.Path.{_≡_, sym, ap, _∙_}
 use mathlib.Core.Bool.{Bool, false, not}
 use Prim.Native.Nat.{ℕ, _-_, _≤_}

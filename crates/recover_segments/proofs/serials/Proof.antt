@@ -1,3 +1,4 @@
+-- `serials`: after g turns the first g numbers are the serials on the lowest present drive; one turn sets number g. Assumes nothing.
 use mathlib.Core.Path.{_≡_, ap, _∙_}
 use mathlib.Core.List.{List}
 use Prim.Native.Nat.{ℕ, _-_, _≤_, _<_}

@@ -1,3 +1,4 @@
+-- `unsealed_count`: n and the number of unsealed segments from g on are that of all; an unsealed one adds 1 to n, and n is at most g. Assumes nothing.
 use mathlib.Core.Path.{_≡_, sym, ap, _∙_}
 use mathlib.Core.List.{List}
 use mathlib.Core.Bool.{Bool, false, not, _&&_}

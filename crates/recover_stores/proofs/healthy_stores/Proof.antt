@@ -1,3 +1,5 @@
+-- `healthy_stores`: the resets are cut or made, and leave the kept segments; then none is unsealed, or one: whole (footers), plain (nothing)
+-- or ragged: rewritten into the lowest free zone, empty by then, under the greatest serial + 1, which is not the last. Assumes nothing.
 use Prim.Native.Nat.{suc, _+_, _<_}
 use Rattle.spec.specs.Counts.{lastCount}
 use Rattle.spec.specs.Drives.{mkDisk}

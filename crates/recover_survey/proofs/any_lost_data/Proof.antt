@@ -1,3 +1,4 @@
+-- `any_lost_data`: no drive missing, none has data; else some missing drive from d on has data just if one has, and one found ends it. Assumes nothing.
 use mathlib.Core.Path.{_≡_, sym, _∙_}
 use mathlib.Core.Bool.{Bool, _&&_}
 use Prim.Native.Nat.{ℕ, _-_, _≤_}

@@ -1,3 +1,4 @@
+-- `is_all_entered`: each present drive below d is entered; one that is not refutes it and ends it, and at N all are. Assumes nothing.
 use mathlib.Core.Path.{_≡_, refl, sym, subst}
 use mathlib.Core.Bool.{false}
 use Prim.Native.Nat.{ℕ, _+_, _-_, _≤_, _<_}

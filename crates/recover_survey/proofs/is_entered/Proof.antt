@@ -1,3 +1,4 @@
+-- `is_entered`: a missing drive asks nothing; an entry of 0 is none; of any other the group's length decides, in both directions. Assumes nothing.
 use mathlib.Core.Path.{_≡_, refl, sym, _∙_, subst}
 use mathlib.Core.Bool.{false}
 use Prim.Native.Nat.{ℕ, _+_, _*_, _≤_}

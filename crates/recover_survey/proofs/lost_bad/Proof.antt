@@ -1,3 +1,4 @@
+-- `lost_bad`: with no lost data nothing is bad; a counted stripe is entered on every present drive, so true comes only of the lost record. Assumes nothing.
 use mathlib.Core.Path.{sym, _∙_}
 use Prim.Native.Nat.{_+_}
 use native.Mathlib.Omega.{arith}

@@ -1,3 +1,4 @@
+-- `lost_data`: a present drive makes the first part false; with a missing one only whether it is data stands. Assumes nothing.
 use mathlib.Core.Path.{sym, ap, _∙_}
 use mathlib.Core.Bool.{Bool, _&&_}
 use borrow.Author.Tests.{not-true, not-false}

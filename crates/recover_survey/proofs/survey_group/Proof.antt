@@ -1,3 +1,4 @@
+-- `survey_group`: a group whose index fails makes the segment bad, as its fault says; else the tally of its stripes holds. Assumes nothing.
 use mathlib.Core.Path.{_≡_, refl, sym, _∙_, subst}
 use mathlib.Core.Bool.{true, false}
 use Prim.Native.Nat.{_+_, _≤_}

@@ -1,3 +1,4 @@
+-- `survey_groups`: the tally is of the stripes below base and, unless bad, no group there has a fault; one turn adds a group, at S all are in. Assumes nothing.
 use mathlib.Core.Path.{_≡_, sym, _∙_, subst}
 use mathlib.Core.Bool.{false}
 use Prim.Native.Nat.{ℕ, _+_, _-_, _%_, min, _≤_, _<_}

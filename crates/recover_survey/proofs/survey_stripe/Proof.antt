@@ -1,3 +1,4 @@
+-- `survey_stripe`: one that counts is bad or adds 1 to counted, one without a chunk adds nothing, any other 1 to loose; each at most s + 1. Assumes nothing.
 use mathlib.Core.Path.{_≡_, refl, sym, _∙_, subst}
 use mathlib.Core.Bool.{true, false}
 use mathlib.Core.List.{List}

@@ -1,3 +1,4 @@
+-- `survey_stripes`: the tally is of the stripes below base + k; one turn adds stripe k, and counted and loose are at most base + k. Assumes nothing.
 use mathlib.Core.Path.{_≡_, sym, subst}
 use mathlib.Core.Bool.{false}
 use mathlib.Core.List.{List}

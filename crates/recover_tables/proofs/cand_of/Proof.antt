@@ -1,3 +1,4 @@
+-- `cand_of`: a counted stripe is entered where the drive is present; record, offset below S and place are then those of `candOf`. Assumes nothing.
 use borrow.Author.Needs.{needs}
 use mathlib.Core.Path.{sym, ap, _∙_, subst}
 use Prim.Native.Nat.{ℕ, _+_, _<_}

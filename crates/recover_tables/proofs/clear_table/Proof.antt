@@ -1,3 +1,4 @@
+-- `clear_table`: the first i bytes are 255; one turn sets byte i, and at n they are all. Assumes nothing.
 use mathlib.Core.Path.{_≡_, refl}
 use Prim.Native.Nat.{_-_, _≤_}
 use native.Mathlib.Omega.{arith}

@@ -1,3 +1,4 @@
+-- `greater`: the test says which of the two is the maximum. Assumes nothing.
 use native.Mathlib.Omega.{arith}
 use Rattle.recover_tables.proofs.greater.Statement.{statement}
 use Rattle.recover_tables.proofs.greater.Tie as tie

@@ -1,3 +1,4 @@
+-- `load`: serials, flags, open segment and greatest serial are the segments'; with both tables and the state they are the restart's memory. Assumes nothing.
 use borrow.Author.Needs.{needs}
 use native.Mathlib.Omega.{arith}
 use Rattle.spec.specs.Drives.{View, viewOf}

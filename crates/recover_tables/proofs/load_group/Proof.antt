@@ -1,3 +1,4 @@
+-- `load_group`: the k stripes from base on are walked; the segment is clean, so the index stands, and one turn walks stripe k. Assumes nothing.
 use mathlib.Core.Path.{_≡_, refl, _∙_, subst}
 use mathlib.Core.Bool.{false}
 use Prim.Native.Nat.{ℕ, _-_, _≤_, _<_}

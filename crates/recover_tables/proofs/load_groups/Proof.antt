@@ -1,3 +1,4 @@
+-- `load_groups`: walking the stripes from base on ends as walking all does; one turn walks a group, and at S nothing is left to walk. Assumes nothing.
 use mathlib.Core.Path.{_≡_, refl, sym, _∙_, subst}
 use mathlib.Core.List.{List}
 use Prim.Native.Nat.{ℕ, _+_, _-_, _%_, _≤_}

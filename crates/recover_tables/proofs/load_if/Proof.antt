@@ -1,3 +1,4 @@
+-- `load_if`: a stripe that does not count tells nothing, by `walked-miss`; one that counts is told whole, by `walked-hit`, and adds 1. Assumes nothing.
 use mathlib.Core.Path.{_≡_, sym, _∙_}
 use mathlib.Core.Bool.{true}
 use Prim.Native.Nat.{_+_}

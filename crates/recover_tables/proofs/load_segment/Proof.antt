@@ -1,3 +1,4 @@
+-- `load_segment`: one not kept tells nothing, by `toured-miss`; a kept one is walked whole, by `toured-hit`; the open one's count is next. Assumes nothing.
 use mathlib.Core.Path.{_≡_, sym, _∙_}
 use mathlib.Core.Bool.{true, false, _&&_}
 use borrow.Author.Tests.{not-true, not-false, eq-eqb, ne-eqb}

@@ -1,3 +1,4 @@
+-- `load_segments`: the segments below g are toured, and next is the open one's count where it is below g and remains; one turn tours g. Assumes nothing.
 use mathlib.Core.Path.{_≡_, refl, sym, ap, _∙_, subst}
 use mathlib.Core.Bool.{Bool, true, false}
 use Prim.Native.Nat.{ℕ, _-_, _≤_, _<_}

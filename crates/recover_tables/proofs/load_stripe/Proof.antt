@@ -1,3 +1,4 @@
+-- `load_stripe`: the first i data records are told to the table, and most is the greatest of stamp and theirs; one turn offers record i. Assumes nothing.
 use borrow.Author.Needs.{needs}
 use mathlib.Core.Path.{_≡_, refl, sym, ap, _∙_, subst}
 use mathlib.Core.List.{List}

@@ -1,3 +1,4 @@
+-- `load_tables`: the compact table is as said, the cleared address table is that of no record, and the tour of all segments tells the rest. Assumes nothing.
 use borrow.Author.Needs.{needs}
 use mathlib.Core.Path.{_≡_, ap, _∙_}
 use mathlib.Core.List.{[]}

@@ -1,3 +1,4 @@
+-- `state_of`: a missing drive or no unsealed segment makes the test of `cond` false, and both numbers are 0; else it is true. Assumes nothing.
 use borrow.Author.Needs.{needs}
 use mathlib.Core.Path.{_≡_, sym, ap₂, _∙_}
 use mathlib.Core.Bool.{true, false, _&&_}

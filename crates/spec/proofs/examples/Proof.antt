@@ -1,3 +1,4 @@
+-- `examples`: M1 to M8 evaluated: each side computes to the same numbers in `examples-hold`. Assumes nothing.
 use Rattle.spec.specs.Examples.{examples-hold}
 use Rattle.spec.proofs.examples.Statement.{statement}
 use Rattle.spec.proofs.examples.Tie as tie
