@@ -30,9 +30,8 @@ returns-2 c =
     let clear = c .before .before .clear in
     let if2 = c .before .before .before .before .if2 in
     let if1 = c .before .before .before .before .before .before .if1 in
-    let told-of = c .before .before .before .before .before .before .before .before .told-of in
+    let t = c .before .before .before .before .before .before .before .before .told-of in
     let a = s .args in
-    let t = told-of in
     let k : t .result .kind ≡ kind (a .change .answer) = ap (λ (x : Told). x .kind) (t .ensures) in
     (t .ensures, applied-cut (a .state .now) (a .change) (omega (arith, if1 .left, k)) (clear .last .0) (sym k ∙ if2 .taken) (s .pre) (clear .ensures))
 
@@ -50,9 +49,8 @@ returns-3 c =
     let put-change = c .before .before .put-change in
     let if2 = c .before .before .before .before .if2 in
     let if1 = c .before .before .before .before .before .before .if1 in
-    let told-of = c .before .before .before .before .before .before .before .before .told-of in
+    let t = c .before .before .before .before .before .before .before .before .told-of in
     let a = s .args in
-    let t = told-of in
     let k : t .result .kind ≡ kind (a .change .answer) = ap (λ (x : Told). x .kind) (t .ensures) in
     (t .ensures, applied-done (a .state .now) (a .change) (omega (arith, if1 .left, k)) (put-change .last .0) (λ e. if2 .left (k ∙ e)) (put-change .ensures))
 

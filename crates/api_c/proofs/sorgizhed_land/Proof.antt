@@ -69,20 +69,15 @@ same-length-5 c = search needs
 returns-2 : tie.Need-returns-2
 unfolding lentDisk lentMemory
 returns-2 c =
-    let apply′ = c .before .before .apply in
-    let land′′ = c .before .before .before .before .before .before .before .before .before .before .before .before .land in
+    let apply = c .before .before .apply in
+    let land′ = c .before .before .before .before .before .before .before .before .before .before .before .before .land in
     let at = c .before .before .before .before .before .before .before .before .before .before .before .before .before .before .before .before .before in
-    let decode′ = c .before .before .before .before .before .before .before .before .before .before .before .before .before .before .before .before .before .decode in
-    let if1′ = c .before .before .before .before .before .before .before .before .before .before .before .before .before .before .before .before .before .before .before .if1 in
-    let state-len′ = c .before .before .before .before .before .before .before .before .before .before .before .before .before .before .before .before .before .before .before .before .state-len in
+    let decode = c .before .before .before .before .before .before .before .before .before .before .before .before .before .before .before .before .before .decode in
+    let if1 = c .before .before .before .before .before .before .before .before .before .before .before .before .before .before .before .before .before .before .before .if1 in
+    let state-len = c .before .before .before .before .before .before .before .before .before .before .before .before .before .before .before .before .before .before .before .before .state-len in
     let a =
     at
     .before .before .before .before .before .before .before .before .before .before .args in
-    let apply = apply′ in
-    let land′ = land′′ in
-    let decode = decode′ in
-    let if1 = if1′ in
-    let state-len = state-len′ in
     let p : Params = mkParams (a .n) (a .b) (a .z) (a .s) (a .g) (a .l) in
     let l : Lent = lending (a .image .now) (a .pointers .now) (a .addresses .now) (a .compact .now) (a .inflight .now) (a .state .now) in
     let w = land′ .last in

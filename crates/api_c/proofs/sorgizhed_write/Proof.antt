@@ -71,18 +71,14 @@ same-length-6 c = search needs
 returns-2 : tie.Need-returns-2
 unfolding lentDisk lentMemory
 returns-2 c =
-    let apply′ = c .before .before .apply in
-    let write′′ = c .before .before .before .before .before .before .before .before .before .before .before .before .before .before .write in
+    let apply = c .before .before .apply in
+    let write′ = c .before .before .before .before .before .before .before .before .before .before .before .before .before .before .write in
     let at = c .before .before .before .before .before .before .before .before .before .before .before .before .before .before .before .before .before in
-    let decode′ = c .before .before .before .before .before .before .before .before .before .before .before .before .before .before .before .before .before .before .before .before .decode in
-    let if1′ = c .before .before .before .before .before .before .before .before .before .before .before .before .before .before .before .before .before .before .before .before .before .before .if1 in
+    let decode = c .before .before .before .before .before .before .before .before .before .before .before .before .before .before .before .before .before .before .before .before .decode in
+    let if1 = c .before .before .before .before .before .before .before .before .before .before .before .before .before .before .before .before .before .before .before .before .before .before .if1 in
     let a =
     at
     .before .before .before .before .before .before .before .before .before .before .before .before .before .before .args in
-    let apply = apply′ in
-    let write′ = write′′ in
-    let decode = decode′ in
-    let if1 = if1′ in
     let state-len =
     at
     .before .before .before .before .before .before .state-len in

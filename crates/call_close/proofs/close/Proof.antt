@@ -108,20 +108,17 @@ same-length-2 c = search needs
 returns-2 : tie.Need-returns-2
 returns-2 c =
     let s = c .before .before .before .before .before .before .before .before .before .before .before .before .before .before .before .before .before .before .before in
-    let pad-all = c .before .before .before .before .before .pad-all in
+    let q = c .before .before .before .before .before .pad-all in
     let row-of = c .before .before .before .before .before .before .before .row-of in
     let enum-told = c .before .before .before .before .before .before .before .before .enum-told in
     let checks = c .before .before .before .before .before .before .before .before .before .before .checks in
     let at′ = c .before .before .before .before .before .before .before .before .before .before .before .before in
-    let filling-slot = c .before .before .before .before .before .before .before .before .before .before .before .before .filling-slot in
-    let front-of = c .before .before .before .before .before .before .before .before .before .before .before .before .before .front-of in
+    let g = c .before .before .before .before .before .before .before .before .before .before .before .before .filling-slot in
+    let f = c .before .before .before .before .before .before .before .before .before .before .before .before .before .front-of in
     let a = s .args in
     let none! : refusal (a .p) (disk s) (memory s) ≡ none = sym (checks .ensures) ∙ ap checked (enum-told .given .1) in
     let r = ready (a .p) (disk s) (memory s) none! in
     let at = fillingSlot (a .p) (a .state) in
-    let f = front-of in
-    let g = filling-slot in
-    let q = pad-all in
     let few : dataCount (a .p) ≤ 8 = omega (arith, data-count-high (a .p) (ranged (a .p) (r .ranged))) in
     λ n. close-done (a .p) (disk s) (memory s) none! (sized s) (slot-low (a .p) (a .state) at refl (r .filling)) few (slot-open (a .p) (a .state) at refl (r .filling)) (f .result) (f .ensures)
     (g .result) (slot-of (at′)) (row-of .result) (row-of .ensures) (q .result) (q .last .1 .0) (q .ensures .0) (q .ensures .1) n

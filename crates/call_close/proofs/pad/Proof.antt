@@ -28,14 +28,13 @@ returns : tie.Need-returns
 unfolding placedRow setSlotBlock
 returns c =
     let a = c .before .before .before .before .before .before .before .before .before .before .before .args in
-    let enter = c .before .before .enter in
+    let q = c .before .before .enter in
     let clear-part = c .before .before .before .before .before .before .clear-part in
     let slot-byte = c .before .before .before .before .before .before .before .before .slot-byte in
     let next-drive = c .before .before .before .before .before .before .before .before .before .next-drive in
     let d : next-drive .result ≡ driveFor (a .p) (a .row) = next-drive .ensures .0 in
     let b : clear-part .last .0 ≡ setSlotBlock (a .p) (a .inflight .now) (a .i) (driveFor (a .p) (a .row)) (replicate (a .p .B) 0) =
     clear-part .ensures ∙ ap (λ (x : ℕ). splice (a .inflight .now) x (replicate (a .p .B) 0)) (slot-byte .ensures .0 ∙ ap (slotByte (a .p) (a .i)) d) in
-    let q = enter in
     (q .ensures .0, q .ensures .1 ∙ ap (entered (a .p) (a .row) (a .i)) b)
 
 pub pad-spec : {M : Type 1} → statement M

@@ -33,10 +33,9 @@ slice-aggregate-take-block c = search needs
 take-block-requires : tie.Need-take-block-requires
 take-block-requires c κs =
     let entry = c .before .before .before .before .before .before .before .before .before .before .before .before in
-    let args = entry .args in
+    let a = entry .args in
     let pre = entry .pre in
     let w = pre .0 in
-    let a = args in
     (w .in-range, (w .whole .image-long, pre .1 .0, subst (λ (x : ℕ). a .p .B ≤ x) (sym buffer-long) (ranged (a .p) (w .in-range) .block-high)))
 
 array-share-prefix-block : tie.Need-array-share-prefix-block
@@ -78,15 +77,13 @@ same-length-5 c = search needs
 returns : tie.Need-returns
 unfolding part
 returns c =
-    let send-copy′ = c .before .before .before .before .before .before .before .before .before .before .send-copy in
+    let send-copy = c .before .before .before .before .before .before .before .before .before .before .send-copy in
     let at = c .before .before .before .before .before .before .before .before .before .before .before .before .before .before .before .before .before in
-    let take-block′ = c .before .before .before .before .before .before .before .before .before .before .before .before .before .before .before .before .before .before .take-block in
+    let t = c .before .before .before .before .before .before .before .before .before .before .before .before .before .before .before .before .before .before .take-block in
     let a =
     at
     .before .before .before .before .before .before .before .before .before .before .before .before .before .before .args in
-    let send-copy = send-copy′ in
-    let take-block = take-block′ in
-    let record-of =
+    let r =
     at
     .before .before .before .before .before .before .record-of in
     let pre =
@@ -96,8 +93,6 @@ returns c =
     let m : Memory = mkMemory (a .state) (a .addresses .now) (a .compact .now) (a .inflight .now) in
     let v = viewOf (a .p) (a .image .now) (a .pointers .now) in
     let w = pre .0 in
-    let r = record-of in
-    let t = take-block in
     let e =
     copy-sent (a .p) v m (a .q .0) (r .result .address .0) (r .result .stamp .0) (take (a .p .B) (t .last .1 .1 .1 .0))
     (ap (λ (x : Rec). x .address) (r .ensures)) (ap (λ (x : Rec). x .stamp) (r .ensures))

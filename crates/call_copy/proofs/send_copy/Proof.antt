@@ -95,7 +95,7 @@ same-length-4 c = search needs
 returns : tie.Need-returns
 returns c =
     let s = c .before .before .before .before .before .before .before .before .before .before .before .before .before .before .before .before .before .before .before .before .before .before .before in
-    let cut = c .before .before .before .before .cut in
+    let u = c .before .before .before .before .cut in
     let if1 = c .before .before .before .before .before .before .before .if1 in
     let at = c .before .before .before .before .before .before .before .before .before .before .before .before in
     let front-of = c .before .before .before .before .before .before .before .before .before .before .before .before .before .before .before .before .front-of in
@@ -105,7 +105,6 @@ returns c =
     let h : Opening (a .p) (a .state) (a .count) (disk s) (o .result) k′ =
     opening-front (a .p) (a .state) (a .count) (disk s) (o .result) k′
     (subst (λ (x : Front). Opening (a .p) (behind x) (a .count) (disk s) (o .result) k′) (front-of .ensures) (o .ensures)) in
-    let u = cut in
     sent-cut (a .p) (disk s) (memory s) (a .address .0) (a .stamp .0) (a .block .now) (a .count) (s .pre .0) (o .result) k′ h (if1 .taken) (u .result) (u .last .0) (u .last .1 .0)
     (ap (λ (x : Change). x .answer) (u .ensures .0)) (u .ensures .1 .0) (u .ensures .1 .1)
 
@@ -121,11 +120,10 @@ send-requires c κs =
     let at-7 = c .before .before .before .before .before .before .before in
     let at-10 = c .before .before .before .before .before .before .before .before .before .before in
     let aim-of = c .before .before .before .before .before .before .before .before .before .before .aim-of in
-    let front-of = c .before .before .before .before .before .before .before .before .before .before .before .front-of in
+    let f = c .before .before .before .before .before .before .before .before .before .before .before .front-of in
     let a = s .args in
     let r = s .pre .0 in
     let o = at-7 .«open» in
-    let f = front-of in
     let k′ : Disk = mkDisk (o .last .1 .0) (o .last .1 .1 .0) in
     let h : Opening (a .p) (a .state) (a .count) (disk s) (o .result) k′ =
     opening-front (a .p) (a .state) (a .count) (disk s) (o .result) k′
@@ -148,32 +146,23 @@ same-length-7 c = search needs
 
 returns-2 : tie.Need-returns-2
 returns-2 c =
-    let send′ = c .before .before .before .before .before .before .send in
-    let row-of′ = c .before .before .before .before .before .before .before .before .row-of in
-    let if1′ = c .before .before .before .before .before .before .before .before .before .if1 in
-    let at-14′ = c .before .before .before .before .before .before .before .before .before .before .before .before .before .before in
-    let at-17′ = c .before .before .before .before .before .before .before .before .before .before .before .before .before .before .before .before .before in
-    let aim-of′ = c .before .before .before .before .before .before .before .before .before .before .before .before .before .before .before .before .before .aim-of in
-    let front-of′ = c .before .before .before .before .before .before .before .before .before .before .before .before .before .before .before .before .before .before .front-of in
+    let q = c .before .before .before .before .before .before .send in
+    let row-of = c .before .before .before .before .before .before .before .before .row-of in
+    let if1 = c .before .before .before .before .before .before .before .before .before .if1 in
+    let at-14 = c .before .before .before .before .before .before .before .before .before .before .before .before .before .before in
+    let at-17 = c .before .before .before .before .before .before .before .before .before .before .before .before .before .before .before .before .before in
+    let aim-of = c .before .before .before .before .before .before .before .before .before .before .before .before .before .before .before .before .before .aim-of in
+    let f = c .before .before .before .before .before .before .before .before .before .before .before .before .before .before .before .before .before .before .front-of in
     let s =
-    at-17′
+    at-17
     .before .before .before .before .before .before .before .before in
-    let send = send′ in
-    let row-of = row-of′ in
-    let if1 = if1′ in
-    let at-14 = at-14′ in
-    let at-17 = at-17′ in
-    let aim-of = aim-of′ in
-    let front-of = front-of′ in
     let a = s .args in
     let o = at-14 .«open» in
-    let f = front-of in
     let g = aim-of .result in
     let k′ : Disk = mkDisk (o .last .1 .0) (o .last .1 .1 .0) in
     let h : Opening (a .p) (a .state) (a .count) (disk s) (o .result) k′ =
     opening-front (a .p) (a .state) (a .count) (disk s) (o .result) k′
     (subst (λ (x : Front). Opening (a .p) (behind x) (a .count) (disk s) (o .result) k′) (f .ensures) (o .ensures)) in
-    let q = send in
     sent-done (a .p) (disk s) (memory s) (a .address .0) (a .stamp .0) (a .block .now) (a .count) (s .pre .0) (o .result) k′ h (f .result) (f .ensures) g (aimed (at-17))
     (row-of .result) (row-of .ensures) (sized s) (if1 .left) _ (q .last .1 .0) (λ j. copiedAs (f .result) g (o .result) (a .stamp .0) (q .ensures j)) (λ j. q .ensures j .inflight)
 

@@ -68,13 +68,11 @@ same-length-2 c = search needs
 returns-2 : tie.Need-returns-2
 returns-2 c =
     let s = c .before .before .before .before .before .before .before .before .before .before .before .before .before .before .before in
-    let header-stores = c .before .before .before .before .header-stores in
-    let lowest-empty = c .before .before .before .before .before .before .before .before .lowest-empty in
+    let m = c .before .before .before .before .header-stores in
+    let l = c .before .before .before .before .before .before .before .before .lowest-empty in
     let if1 = c .before .before .before .before .before .before .before .before .before .before .if1 in
     let a = s .args in
     let k = mkDisk (a .image .now) (a .pointers .now) in
-    let l = lowest-empty in
-    let m = header-stores in
     let g : l .result ≡ firstOr 0 (emptyZones (a .p) (seen (a .p) k)) = l .ensures .0 (a .image .now) (s .pre .1 .0 .image-long) in
     opening-made (a .p) (behind (a .f)) (a .count) k (sym (s .pre .1 .1 .0) ∙ not-false (a .a .opens) (if1 .left)) (l .result) (a .f .serial .0 + 1) g (add-one (a .f .serial .0))
     (m .result) (mkDisk (m .last .1 .0) (m .last .1 .1 .0)) (m .ensures)

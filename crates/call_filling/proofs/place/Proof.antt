@@ -27,14 +27,13 @@ returns : tie.Need-returns
 unfolding placedRow setSlotBlock
 returns c =
     let a = c .before .before .before .before .before .before .before .before .before .before .before .before .args in
-    let enter = c .before .before .enter in
+    let q = c .before .before .enter in
     let copy-part = c .before .before .before .before .before .before .copy-part in
     let slot-byte = c .before .before .before .before .before .before .before .before .slot-byte in
     let next-drive = c .before .before .before .before .before .before .before .before .before .next-drive in
     let d : next-drive .result ≡ driveFor (a .p) (a .row) = next-drive .ensures .0 in
     let b : copy-part .last .0 ≡ setSlotBlock (a .p) (a .inflight .now) (a .i) (driveFor (a .p) (a .row)) (a .block .now) =
     copy-part .ensures ∙ ap (λ (x : ℕ). splice (a .inflight .now) x (a .block .now)) (slot-byte .ensures .0 ∙ ap (slotByte (a .p) (a .i)) d) in
-    let q = enter in
     let f = q .ensures .1 ∙ ap (entered (a .p) (a .row) (a .i)) b in
     λ j. record { row = q .ensures .0 j; inflight = f j; drive = d j }
 

@@ -140,7 +140,7 @@ land-fault-requires c κs =
     let lent-ok = c .before .before .before .before .before .before .before .before .lent-ok in
     let if1 = c .before .before .before .before .before .before .before .before .before .if1 in
     let in-range = c .before .before .before .before .before .before .before .before .before .before .in-range in
-    let pre = c .before .before .before .before .before .before .before .before .before .before .before .before .before .before .before .before .pre in
+    let sn = c .before .before .before .before .before .before .before .before .before .before .before .before .before .before .before .before .pre in
     let st = a .state in
     let k : Disk = mkDisk (a .image .now) (a .pointers .now) in
     let m : Memory = mkMemory st (a .addresses .now) (a .compact .now) (a .inflight .now) in
@@ -152,7 +152,6 @@ land-fault-requires c κs =
     let long = lent-long (a .p) k m el in
     let w = waits-low (a .p) st (a .drive) (a .stripe) ew in
     let f = filled-low (a .p) st eo (slotOf st (a .stripe)) (w .1) in
-    let sn = pre in
     let g = segment-low (a .p) st eo (omega (arith, r .zones-low)) in
     let e : filledIn (alone (a .seen .row)) 0 ≡ filledIn st (slotOf st (a .stripe)) = ap (λ (x : Row). filledIn (alone x) 0) (sn .row (w .1)) ∙ row-filled st (slotOf st (a .stripe)) in
     (er, ((long .1, long .2, w .0), (subst (λ (x : ℕ). x < a .p .Z) (sym (sn .segment)) g, omega (arith, e, f, data-count-high (a .p) r))))

@@ -37,18 +37,14 @@ same-length-4 c = search needs
 
 returns : tie.Need-returns
 returns c =
-    let cut′ = c .before .before .before .before .cut in
-    let if1′ = c .before .before .before .before .before .before .before .if1 in
-    let seal′ = c .before .before .before .before .before .before .before .before .before .before .before .before .seal in
+    let cut = c .before .before .before .before .cut in
+    let if1 = c .before .before .before .before .before .before .before .if1 in
+    let seal = c .before .before .before .before .before .before .before .before .before .before .before .before .seal in
     let at = c .before .before .before .before .before .before .before .before .before .before .before .before .before .before .before .before .before in
-    let point′ = c .before .before .before .before .before .before .before .before .before .before .before .before .before .before .before .before .before .point in
+    let point = c .before .before .before .before .before .before .before .before .before .before .before .before .before .before .before .before .before .point in
     let a =
     at
     .before .before .before .before .before .before .before .before .args in
-    let cut = cut′ in
-    let if1 = if1′ in
-    let seal = seal′ in
-    let point = point′ in
     let k : Disk = mkDisk (a .image .now) (a .pointers .now) in
     let k′ : Disk = mkDisk (seal .last .1 .0) (seal .last .1 .1 .0) in
     let u = cut .ensures in

@@ -49,11 +49,10 @@ returns c st ch =
 store-chunk-requires : tie.Need-store-chunk-requires
 store-chunk-requires c κs =
     let entry = c .before .before .before .before .before .before .before .before .before .before in
-    let args = entry .args in
+    let a = entry .args in
     let pre = entry .pre in
     let st = pre .0 in
     let ch = pre .1 in
-    let a = args in
     let p = a .p in
     let d = a .drive in
     let s = a .stripe in
@@ -109,17 +108,12 @@ complete-requires : tie.Need-complete-requires
 complete-requires c κs =
     let if2 = c .before .before .before .before .if2 in
     let store-chunk = c .before .before .before .before .before .before .before .before .before .before .before .before .store-chunk in
-    let at′ =
-    c .before .before .before .before .before .before .before .before .before .before .before .before .before .before .before .before .before .before .before .before .before .before .before in
-    let at =
-    at′ in
     let entry =
-    at in
-    let args = entry .args in
+    c .before .before .before .before .before .before .before .before .before .before .before .before .before .before .before .before .before .before .before .before .before .before .before in
+    let a = entry .args in
     let pre = entry .pre in
     let st = pre .0 in
     let ch = pre .1 in
-    let a = args in
     let p = a .p in
     let d = a .drive in
     let s = a .stripe in
@@ -174,15 +168,13 @@ same-length-9 c =
 
 returns-3 : tie.Need-returns-3
 returns-3 c st ch =
-    let complete′ = c .before .before .before .before .before .before .before .before .before .before .complete in
-    let if2′ = c .before .before .before .before .before .before .before .before .before .before .before .before .before .before .before .if2 in
+    let complete = c .before .before .before .before .before .before .before .before .before .before .complete in
+    let if2 = c .before .before .before .before .before .before .before .before .before .before .before .before .before .before .before .if2 in
     let at = c .before .before .before .before .before .before .before .before .before .before .before .before .before .before .before .before .before in
     let a =
     at
     .before .before .before .before .before .before .before .before .before .before .before .before .before .before .before .before .before
     .args in
-    let complete = complete′ in
-    let if2 = if2′ in
     let store-chunk =
     at
     .before .before .before .before .before .before .store-chunk in

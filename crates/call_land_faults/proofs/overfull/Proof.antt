@@ -28,10 +28,9 @@ returns : tie.Need-returns Inv-loop μ-loop
 returns c im h =
     let a = c .before .before .before .before .before .before .args in
     let if1 = c .before .before .if1 in
-    let loop = c .before .before .before .before .loop in
+    let l = c .before .before .before .before .loop in
     let pre = c .before .before .before .before .before .before .pre in
     let q = pre .1 in
-    let l = loop in
     sym (any-found (overBy (a .p) (a .pointers .now) (a .d) (a .segment)) (l .e) (a .p .N) (omega (arith, if1 .taken)) (sym (c .before .no-room .ensures) ∙ c .if2 .taken))
     ∙ l .inv .1 ∙ over-view (a .p) im (a .pointers .now) h (q .0) (a .d) (a .segment) (q .1)
 

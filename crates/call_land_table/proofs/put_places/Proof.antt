@@ -69,12 +69,11 @@ loop-again : tie.Need-loop-again Inv-loop μ-loop
 loop-again c =
     let a = c .before .before .before .before .before .before .args in
     let loop-test = c .before .before .loop-test in
-    let loop = c .before .before .before .loop in
+    let l = c .before .before .before .loop in
     let filled-in = c .before .before .before .before .filled-in in
     let p = a .p in
     let st = alone (a .row) in
     let i : ℕ = 0 in
-    let l = loop in
     let n = filled-in .result in
     let k = l .k in
     let qs = a .t4 in

@@ -100,18 +100,14 @@ slice-aggregate-restore c = search needs
 
 restore-requires : tie.Need-restore-requires
 restore-requires c κs =
-    let if1′ = c .before .before .before .before .before .if1 in
-    let examine′ = c .before .before .before .before .before .before .before .before .examine in
-    let kept′ = c .before .before .before .before .before .before .before .before .before .before .before .before .before .kept in
+    let if1 = c .before .before .before .before .before .if1 in
+    let examine = c .before .before .before .before .before .before .before .before .examine in
+    let kept = c .before .before .before .before .before .before .before .before .before .before .before .before .before .kept in
     let at = c .before .before .before .before .before .before .before .before .before .before .before .before .before .before .before .before .before in
-    let only-drive′ = c .before .before .before .before .before .before .before .before .before .before .before .before .before .before .before .before .before .before .before .only-drive in
+    let only-drive = c .before .before .before .before .before .before .before .before .before .before .before .before .before .before .before .before .before .before .before .only-drive in
     let a =
     at
     .before .before .before .before .before .before .before .before .args in
-    let if1 = if1′ in
-    let examine = examine′ in
-    let kept = kept′ in
-    let only-drive = only-drive′ in
     let pre =
     at
     .before .before .before .before .before .before .before .before .pre in

@@ -24,12 +24,11 @@ rebuild-stores-requires c κs =
     let a = c .before .before .before .before .before .before .before .before .before .args in
     let only-drive = c .before .before .only-drive in
     let slice-known = c .before .before .before .before .before .before .before .before .slice-known in
-    let pre = c .before .before .before .before .before .before .before .before .before .pre in
+    let q = c .before .before .before .before .before .before .before .before .before .pre in
     let p = a .p in
     let d = a .drive in
     let k = mkDisk (a .image .now) (a .pointers .now) in
     let m = mkMemory (a .state) (a .addresses .now) (a .compact .now) (a .inflight .now) in
-    let q = pre in
     let rd = ready p k m d (q .0) in
     let l : p .Z ≤ length (a .kept .now) = omega (arith, q .1 .1 .0, ranged p (rd .in-range) .zones-high) in (
       rd .in-range,
@@ -66,12 +65,11 @@ returns c =
     let cut = c .before .before .before .before .cut in
     let if1 = c .before .before .before .before .before .before .before .if1 in
     let rebuild-stores = c .before .before .before .before .before .before .before .before .before .before .before .before .rebuild-stores in
-    let pre = c .before .before .before .before .before .before .before .before .before .before .before .before .before .before .before .before .before .before .before .before .before .before .pre in
+    let q = c .before .before .before .before .before .before .before .before .before .before .before .before .before .before .before .before .before .before .before .before .before .before .pre in
     let p = a .p in
     let d = a .drive in
     let k = mkDisk (a .image .now) (a .pointers .now) in
     let m = mkMemory (a .state) (a .addresses .now) (a .compact .now) (a .inflight .now) in
-    let q = pre in
     let rd = ready p k m d (q .0) in
     let k′ = mkDisk (rebuild-stores .last .1 .0) (rebuild-stores .last .1 .1 .0) in
     ends-cut p k m d (a .count) (all-passed p k m d (q .0) (q .1 .0)) (rebuild-stores .result) k′ (a .kept .now) (q .1 .1) (rebuild-stores .ensures) (if1 .taken) (rd .lent)
@@ -87,12 +85,11 @@ returns-2 : tie.Need-returns-2
 returns-2 c =
     let a = c .before .before .before .before .before .before .before .before .before .before .before .before .before .before .before .args in
     let rebuild-stores = c .before .before .before .before .before .rebuild-stores in
-    let pre = c .before .before .before .before .before .before .before .before .before .before .before .before .before .before .before .pre in
+    let q = c .before .before .before .before .before .before .before .before .before .before .before .before .before .before .before .pre in
     let p = a .p in
     let d = a .drive in
     let k = mkDisk (a .image .now) (a .pointers .now) in
     let m = mkMemory (a .state) (a .addresses .now) (a .compact .now) (a .inflight .now) in
-    let q = pre in
     let k′ = mkDisk (rebuild-stores .last .1 .0) (rebuild-stores .last .1 .1 .0) in
     ends-done p k m d (a .count) (all-passed p k m d (q .0) (q .1 .0)) (rebuild-stores .result) k′ (a .kept .now) (q .1 .1) (rebuild-stores .ensures) (c .if1 .left)
 

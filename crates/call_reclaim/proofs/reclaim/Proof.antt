@@ -99,16 +99,13 @@ same-length-10 c = search needs
 
 returns-2 : tie.Need-returns-2
 returns-2 c =
-    let reset-segment′ = c .before .before .before .before .before .before .reset-segment in
-    let c2′ = c .before .before .before .before .before .before .before .before .before .before .before .c2 in
-    let choose′ = c .before .before .before .before .before .before .before .before .before .before .before .before .before .choose in
+    let reset-segment = c .before .before .before .before .before .before .reset-segment in
+    let c2 = c .before .before .before .before .before .before .before .before .before .before .before .c2 in
+    let choose = c .before .before .before .before .before .before .before .before .before .before .before .before .before .choose in
     let at = c .before .before .before .before .before .before .before .before .before .before .before .before .before .before .before .before .before in
     let a =
     at
     .before .before .before .before .before .before .before .args in
-    let reset-segment = reset-segment′ in
-    let c2 = c2′ in
-    let choose = choose′ in
     let k : Disk = mkDisk (a .image .now) (a .pointers .now) in
     let m : Memory = mkMemory (a .state) (a .addresses .now) (a .compact .now) (a .inflight .now) in
     let v = viewOf (a .p) (a .image .now) (a .pointers .now) in
@@ -133,16 +130,13 @@ same-length-15 c = search needs
 
 returns-3 : tie.Need-returns-3
 returns-3 c =
-    let copy-block′ = c .before .before .before .before .before .before .before .before .before .before .copy-block in
+    let copy-block = c .before .before .before .before .before .before .before .before .before .before .copy-block in
     let at = c .before .before .before .before .before .before .before .before .before .before .before .before .before .before .before .before .before in
-    let c3′ = c .before .before .before .before .before .before .before .before .before .before .before .before .before .before .before .before .before .c3 in
-    let choose′ = c .before .before .before .before .before .before .before .before .before .before .before .before .before .before .before .before .before .before .before .choose in
+    let c3 = c .before .before .before .before .before .before .before .before .before .before .before .before .before .before .before .before .before .c3 in
+    let choose = c .before .before .before .before .before .before .before .before .before .before .before .before .before .before .before .before .before .before .before .choose in
     let a =
     at
     .before .before .before .before .before .before .before .before .before .before .before .before .before .args in
-    let copy-block = copy-block′ in
-    let c3 = c3′ in
-    let choose = choose′ in
     let k : Disk = mkDisk (a .image .now) (a .pointers .now) in
     let m : Memory = mkMemory (a .state) (a .addresses .now) (a .compact .now) (a .inflight .now) in
     let v = viewOf (a .p) (a .image .now) (a .pointers .now) in

@@ -31,12 +31,10 @@ same-length-3 c = search needs
 returns : tie.Need-returns
 returns c =
     let s = c .before .before .before .before .before .before .before .before .before .before .before .before .before .before .before .before in
-    let cut = c .before .before .before .before .cut in
+    let o = c .before .before .before .before .cut in
     let if1 = c .before .before .before .before .before .before .before .if1 in
-    let reset-stores = c .before .before .before .before .before .before .before .before .before .before .reset-stores in
+    let r = c .before .before .before .before .before .before .before .before .before .before .reset-stores in
     let a = s .args in
-    let r = reset-stores in
-    let o = cut in
     λ im fl. reset-cut (a .p) (a .count) (a .g) (mkDisk im (a .pointers .now)) (mkDisk im (r .last .1 .0))
     (mkMemory (a .state) (a .addresses .now) (a .compact .now) fl) (r .result) (r .ensures im) (s .pre .1 .1) (s .pre .1 .2) (if1 .taken)
     (o .result) (o .last .0) (o .last .1 .0) (ap (λ (x : Change). x .answer) (o .ensures .0)) (o .ensures .1 .0) (o .ensures .1 .1)

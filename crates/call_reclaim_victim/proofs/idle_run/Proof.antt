@@ -90,11 +90,10 @@ loop-again : tie.Need-loop-again Inv-loop μ-loop
 loop-again c =
     let a = c .before .before .before .before .before .before .before .before .before .args in
     let next-marked = c .before .before .next-marked in
-    let loop = c .before .before .before .before .loop in
+    let l = c .before .before .before .before .loop in
     let if1 = c .before .before .before .before .before .if1 in
     let pre = c .before .before .before .before .before .before .before .before .before .pre in
     let v = viewOf (a .p) (a .image .now) (a .pointers .now) in
-    let l = loop in
     let h = pre .1 .1 in
     let n = next-marked .ensures in
     let k = next-marked .result in

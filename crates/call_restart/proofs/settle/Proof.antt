@@ -98,15 +98,9 @@ stores-requires c κs =
     let examine = c .before .before .before .before .before .before .before .before .before .examine in
     let kept = c .before .before .before .before .before .before .before .before .before .before .before .before .before .before .kept in
     let serials = c .before .before .before .before .before .before .before .before .before .before .before .before .before .before .before .before .before .before .serials in
-    let slice-known′′ =
-    c .before .before .before .before .before .before .before .before .before .before .before .before .before .before .before .before .before .before .before .before .before .slice-known in
-    let at′ = c .before .before .before .before .before .before .before .before .before .before .before .before .before .before .before .before .before .before .before .before .before .before in
-    let slice-known′ =
-    slice-known′′ in
-    let at = at′ in
     let slice-known =
-    slice-known′ in
-    let entry = at in
+    c .before .before .before .before .before .before .before .before .before .before .before .before .before .before .before .before .before .before .before .before .before .slice-known in
+    let entry = c .before .before .before .before .before .before .before .before .before .before .before .before .before .before .before .before .before .before .before .before .before .before in
     let args = entry .args in
     let pre = entry .pre in (
       pre .0,

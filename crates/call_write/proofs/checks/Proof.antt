@@ -195,18 +195,14 @@ reserve-requires c κs = search needs
 
 scarce-requires : tie.Need-scarce-requires
 scarce-requires c κs =
-    let if2′ = c .before .before .before .before .before .before .before .before .before .before .before .before .before .if2 in
-    let lent-ok′ = c .before .before .before .before .before .before .before .before .before .before .before .before .before .before .lent-ok in
-    let if1′ = c .before .before .before .before .before .before .before .before .before .before .before .before .before .before .before .if1 in
-    let in-range′ = c .before .before .before .before .before .before .before .before .before .before .before .before .before .before .before .before .in-range in
+    let if2 = c .before .before .before .before .before .before .before .before .before .before .before .before .before .if2 in
+    let lent-ok = c .before .before .before .before .before .before .before .before .before .before .before .before .before .before .lent-ok in
+    let if1 = c .before .before .before .before .before .before .before .before .before .before .before .before .before .before .before .if1 in
+    let in-range = c .before .before .before .before .before .before .before .before .before .before .before .before .before .before .before .before .in-range in
     let at = c .before .before .before .before .before .before .before .before .before .before .before .before .before .before .before .before .before in
     let a =
     at
     .before .before .before .before .before .before .args in
-    let if2 = if2′ in
-    let lent-ok = lent-ok′ in
-    let if1 = if1′ in
-    let in-range = in-range′ in
     let st = a .state in
     let k : Disk = mkDisk (a .image .now) (a .pointers .now) in
     let m : Memory = mkMemory st (a .addresses .now) (a .compact .now) (a .inflight .now) in
@@ -216,38 +212,24 @@ scarce-requires c κs =
 
 returns-9 : tie.Need-returns-9
 returns-9 c =
-    let reserve′ = c .before .before .reserve in
-    let if8′ = c .before .before .before .if8 in
-    let must-wait′ = c .before .before .before .before .must-wait in
-    let if7′ = c .before .before .before .before .before .if7 in
-    let no-serial′ = c .before .before .before .before .before .before .no-serial in
-    let if6′ = c .before .before .before .before .before .before .before .if6 in
-    let no-stamp′ = c .before .before .before .before .before .before .before .before .no-stamp in
-    let if5′ = c .before .before .before .before .before .before .before .before .before .if5 in
-    let if4′ = c .before .before .before .before .before .before .before .before .before .before .before .if4 in
-    let if3′ = c .before .before .before .before .before .before .before .before .before .before .before .before .before .if3 in
-    let if2′ = c .before .before .before .before .before .before .before .before .before .before .before .before .before .before .before .if2 in
-    let lent-ok′ = c .before .before .before .before .before .before .before .before .before .before .before .before .before .before .before .before .lent-ok in
+    let reserve = c .before .before .reserve in
+    let if8 = c .before .before .before .if8 in
+    let must-wait = c .before .before .before .before .must-wait in
+    let if7 = c .before .before .before .before .before .if7 in
+    let no-serial = c .before .before .before .before .before .before .no-serial in
+    let if6 = c .before .before .before .before .before .before .before .if6 in
+    let no-stamp = c .before .before .before .before .before .before .before .before .no-stamp in
+    let if5 = c .before .before .before .before .before .before .before .before .before .if5 in
+    let if4 = c .before .before .before .before .before .before .before .before .before .before .before .if4 in
+    let if3 = c .before .before .before .before .before .before .before .before .before .before .before .before .before .if3 in
+    let if2 = c .before .before .before .before .before .before .before .before .before .before .before .before .before .before .before .if2 in
+    let lent-ok = c .before .before .before .before .before .before .before .before .before .before .before .before .before .before .before .before .lent-ok in
     let at = c .before .before .before .before .before .before .before .before .before .before .before .before .before .before .before .before .before in
-    let if1′ = c .before .before .before .before .before .before .before .before .before .before .before .before .before .before .before .before .before .if1 in
-    let in-range′ = c .before .before .before .before .before .before .before .before .before .before .before .before .before .before .before .before .before .before .in-range in
+    let if1 = c .before .before .before .before .before .before .before .before .before .before .before .before .before .before .before .before .before .if1 in
+    let in-range = c .before .before .before .before .before .before .before .before .before .before .before .before .before .before .before .before .before .before .in-range in
     let a =
     at
     .before .before .before .before .before .before .before .before .args in
-    let reserve = reserve′ in
-    let if8 = if8′ in
-    let must-wait = must-wait′ in
-    let if7 = if7′ in
-    let no-serial = no-serial′ in
-    let if6 = if6′ in
-    let no-stamp = no-stamp′ in
-    let if5 = if5′ in
-    let if4 = if4′ in
-    let if3 = if3′ in
-    let if2 = if2′ in
-    let lent-ok = lent-ok′ in
-    let if1 = if1′ in
-    let in-range = in-range′ in
     let pre =
     at
     .before .before .before .before .before .before .before .before .pre in
@@ -277,42 +259,26 @@ state-ok-requires c κs = search needs
 
 returns-10 : tie.Need-returns-10
 returns-10 c =
-    let if9′ = c .before .before .if9 in
-    let scarce′′ = c .before .before .before .scarce in
-    let reserve′ = c .before .before .before .before .reserve in
-    let if8′ = c .before .before .before .before .before .if8 in
-    let must-wait′ = c .before .before .before .before .before .before .must-wait in
-    let if7′ = c .before .before .before .before .before .before .before .if7 in
-    let no-serial′ = c .before .before .before .before .before .before .before .before .no-serial in
-    let if6′ = c .before .before .before .before .before .before .before .before .before .if6 in
-    let no-stamp′ = c .before .before .before .before .before .before .before .before .before .before .no-stamp in
-    let if5′ = c .before .before .before .before .before .before .before .before .before .before .before .if5 in
-    let if4′ = c .before .before .before .before .before .before .before .before .before .before .before .before .before .if4 in
-    let if3′ = c .before .before .before .before .before .before .before .before .before .before .before .before .before .before .before .if3 in
+    let if9 = c .before .before .if9 in
+    let scarce′ = c .before .before .before .scarce in
+    let reserve = c .before .before .before .before .reserve in
+    let if8 = c .before .before .before .before .before .if8 in
+    let must-wait = c .before .before .before .before .before .before .must-wait in
+    let if7 = c .before .before .before .before .before .before .before .if7 in
+    let no-serial = c .before .before .before .before .before .before .before .before .no-serial in
+    let if6 = c .before .before .before .before .before .before .before .before .before .if6 in
+    let no-stamp = c .before .before .before .before .before .before .before .before .before .before .no-stamp in
+    let if5 = c .before .before .before .before .before .before .before .before .before .before .before .if5 in
+    let if4 = c .before .before .before .before .before .before .before .before .before .before .before .before .before .if4 in
+    let if3 = c .before .before .before .before .before .before .before .before .before .before .before .before .before .before .before .if3 in
     let at = c .before .before .before .before .before .before .before .before .before .before .before .before .before .before .before .before .before in
-    let if2′ = c .before .before .before .before .before .before .before .before .before .before .before .before .before .before .before .before .before .if2 in
-    let lent-ok′ = c .before .before .before .before .before .before .before .before .before .before .before .before .before .before .before .before .before .before .lent-ok in
-    let if1′ = c .before .before .before .before .before .before .before .before .before .before .before .before .before .before .before .before .before .before .before .if1 in
-    let in-range′ = c .before .before .before .before .before .before .before .before .before .before .before .before .before .before .before .before .before .before .before .before .in-range in
+    let if2 = c .before .before .before .before .before .before .before .before .before .before .before .before .before .before .before .before .before .if2 in
+    let lent-ok = c .before .before .before .before .before .before .before .before .before .before .before .before .before .before .before .before .before .before .lent-ok in
+    let if1 = c .before .before .before .before .before .before .before .before .before .before .before .before .before .before .before .before .before .before .before .if1 in
+    let in-range = c .before .before .before .before .before .before .before .before .before .before .before .before .before .before .before .before .before .before .before .before .in-range in
     let a =
     at
     .before .before .before .before .before .before .before .before .before .before .args in
-    let if9 = if9′ in
-    let scarce′ = scarce′′ in
-    let reserve = reserve′ in
-    let if8 = if8′ in
-    let must-wait = must-wait′ in
-    let if7 = if7′ in
-    let no-serial = no-serial′ in
-    let if6 = if6′ in
-    let no-stamp = no-stamp′ in
-    let if5 = if5′ in
-    let if4 = if4′ in
-    let if3 = if3′ in
-    let if2 = if2′ in
-    let lent-ok = lent-ok′ in
-    let if1 = if1′ in
-    let in-range = in-range′ in
     let pre =
     at
     .before .before .before .before .before .before .before .before .before .before .pre in
@@ -339,42 +305,26 @@ returns-10 c =
 
 returns-11 : tie.Need-returns-11
 returns-11 c =
-    let if9′ = c .before .before .if9 in
-    let scarce′′ = c .before .before .before .scarce in
-    let reserve′ = c .before .before .before .before .reserve in
-    let if8′ = c .before .before .before .before .before .if8 in
-    let must-wait′ = c .before .before .before .before .before .before .must-wait in
-    let if7′ = c .before .before .before .before .before .before .before .if7 in
-    let no-serial′ = c .before .before .before .before .before .before .before .before .no-serial in
-    let if6′ = c .before .before .before .before .before .before .before .before .before .if6 in
-    let no-stamp′ = c .before .before .before .before .before .before .before .before .before .before .no-stamp in
-    let if5′ = c .before .before .before .before .before .before .before .before .before .before .before .if5 in
-    let if4′ = c .before .before .before .before .before .before .before .before .before .before .before .before .before .if4 in
-    let if3′ = c .before .before .before .before .before .before .before .before .before .before .before .before .before .before .before .if3 in
+    let if9 = c .before .before .if9 in
+    let scarce′ = c .before .before .before .scarce in
+    let reserve = c .before .before .before .before .reserve in
+    let if8 = c .before .before .before .before .before .if8 in
+    let must-wait = c .before .before .before .before .before .before .must-wait in
+    let if7 = c .before .before .before .before .before .before .before .if7 in
+    let no-serial = c .before .before .before .before .before .before .before .before .no-serial in
+    let if6 = c .before .before .before .before .before .before .before .before .before .if6 in
+    let no-stamp = c .before .before .before .before .before .before .before .before .before .before .no-stamp in
+    let if5 = c .before .before .before .before .before .before .before .before .before .before .before .if5 in
+    let if4 = c .before .before .before .before .before .before .before .before .before .before .before .before .before .if4 in
+    let if3 = c .before .before .before .before .before .before .before .before .before .before .before .before .before .before .before .if3 in
     let at = c .before .before .before .before .before .before .before .before .before .before .before .before .before .before .before .before .before in
-    let if2′ = c .before .before .before .before .before .before .before .before .before .before .before .before .before .before .before .before .before .if2 in
-    let lent-ok′ = c .before .before .before .before .before .before .before .before .before .before .before .before .before .before .before .before .before .before .lent-ok in
-    let if1′ = c .before .before .before .before .before .before .before .before .before .before .before .before .before .before .before .before .before .before .before .if1 in
-    let in-range′ = c .before .before .before .before .before .before .before .before .before .before .before .before .before .before .before .before .before .before .before .before .in-range in
+    let if2 = c .before .before .before .before .before .before .before .before .before .before .before .before .before .before .before .before .before .if2 in
+    let lent-ok = c .before .before .before .before .before .before .before .before .before .before .before .before .before .before .before .before .before .before .lent-ok in
+    let if1 = c .before .before .before .before .before .before .before .before .before .before .before .before .before .before .before .before .before .before .before .if1 in
+    let in-range = c .before .before .before .before .before .before .before .before .before .before .before .before .before .before .before .before .before .before .before .before .in-range in
     let a =
     at
     .before .before .before .before .before .before .before .before .before .before .args in
-    let if9 = if9′ in
-    let scarce′ = scarce′′ in
-    let reserve = reserve′ in
-    let if8 = if8′ in
-    let must-wait = must-wait′ in
-    let if7 = if7′ in
-    let no-serial = no-serial′ in
-    let if6 = if6′ in
-    let no-stamp = no-stamp′ in
-    let if5 = if5′ in
-    let if4 = if4′ in
-    let if3 = if3′ in
-    let if2 = if2′ in
-    let lent-ok = lent-ok′ in
-    let if1 = if1′ in
-    let in-range = in-range′ in
     let pre =
     at
     .before .before .before .before .before .before .before .before .before .before .pre in

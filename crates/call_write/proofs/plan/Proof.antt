@@ -24,10 +24,9 @@ same-length c = search needs
 returns : tie.Need-returns
 returns c =
     let a = c .before .before .before .before .before .before .before .before .before .before .args in
-    let send = c .before .before .before .before .before .send in
+    let s = c .before .before .before .before .before .send in
     let t = a .f .stamp .0 in
     let n = add-one t in
-    let s = send in
     let q : record { row = s .result .row; next = s .result .next; inflight = s .last .1 .0; drive = s .result .drive }
     ≡ sentRow (a .p) (a .row) (a .inflight .now) (a .a .slot) (a .a .begins) (a .o .next) (a .address .0) (suc t) 1 (a .block .now) =
     s .ensures ∙ ap (λ (x : ℕ). sentRow (a .p) (a .row) (a .inflight .now) (a .a .slot) (a .a .begins) (a .o .next) (a .address .0) x 1 (a .block .now)) n in (

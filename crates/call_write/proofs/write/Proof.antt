@@ -105,11 +105,9 @@ open-requires c κs =
     let enum-told = c .before .before .enum-told in
     let checks = c .before .before .before .before .checks in
     let at = c .before .before .before .before .before .before .before .before .before .before in
-    let aim-of = c .before .before .before .before .before .before .before .before .before .before .aim-of in
-    let front-of = c .before .before .before .before .before .before .before .before .before .before .before .front-of in
+    let g = c .before .before .before .before .before .before .before .before .before .before .aim-of in
+    let f = c .before .before .before .before .before .before .before .before .before .before .before .front-of in
     let a = s .args in
-    let f = front-of in
-    let g = aim-of in
     let none! : refusal (a .p) (disk s) (memory s) (a .address .0) (a .block .now) ≡ none = sym (checks .ensures) ∙ ap checked (enum-told .given .1) in
     let r = ready (a .p) (disk s) (memory s) (a .address .0) (a .block .now) none! in (
       r .ranged,
@@ -147,20 +145,15 @@ same-length-10 c = search needs
 
 returns-2 : tie.Need-returns-2
 returns-2 c =
-    let cut′ = c .before .before .before .before .cut in
-    let if1′ = c .before .before .before .before .before .before .before .if1 in
-    let at-12 = c .before .before .before .before .before .before .before .before .before .before .before .before in
-    let enum-told′ = c .before .before .before .before .before .before .before .before .before .before .before .before .before .before .before .enum-told in
+    let q = c .before .before .before .before .cut in
+    let if1 = c .before .before .before .before .before .before .before .if1 in
+    let at = c .before .before .before .before .before .before .before .before .before .before .before .before in
+    let enum-told = c .before .before .before .before .before .before .before .before .before .before .before .before .before .before .before .enum-told in
     let at-17 = c .before .before .before .before .before .before .before .before .before .before .before .before .before .before .before .before .before in
-    let checks′ = c .before .before .before .before .before .before .before .before .before .before .before .before .before .before .before .before .before .checks in
+    let checks = c .before .before .before .before .before .before .before .before .before .before .before .before .before .before .before .before .before .checks in
     let s =
     at-17
     .before .before .before .before .before .before .before .before .before .before .before .before .before .before in
-    let cut = cut′ in
-    let if1 = if1′ in
-    let at = at-12 in
-    let enum-told = enum-told′ in
-    let checks = checks′ in
     let front-of =
     at-17
     .before .before .before .before .before .before .before .front-of in
@@ -171,49 +164,38 @@ returns-2 c =
     let h : Opening (a .p) (a .state) (a .count) (disk s) (o .result) k′ =
     opening-front (a .p) (a .state) (a .count) (disk s) (o .result) k′
     (subst (λ (x : Front). Opening (a .p) (behind x) (a .count) (disk s) (o .result) k′) (front-of .ensures) (o .ensures)) in
-    let q = cut in
     ends-cut (a .p) (disk s) (memory s) (a .address .0) (a .block .now) (a .count) none! (o .result) k′ h (if1 .taken) (q .result) (q .last .0) (q .last .1 .0)
     (ap (λ (x : Change). x .answer) (q .ensures .0)) (q .ensures .1 .0) (q .ensures .1 .1)
 
 row-of-requires : tie.Need-row-of-requires
 row-of-requires c κs =
-    let enum-told′ = c .before .before .before .before .before .before .before .before .enum-told in
-    let checks′ = c .before .before .before .before .before .before .before .before .before .before .checks in
-    let at-16 = c .before .before .before .before .before .before .before .before .before .before .before .before .before .before .before .before in
+    let enum-told = c .before .before .before .before .before .before .before .before .enum-told in
+    let checks = c .before .before .before .before .before .before .before .before .before .before .checks in
+    let at = c .before .before .before .before .before .before .before .before .before .before .before .before .before .before .before .before in
     let at-17 = c .before .before .before .before .before .before .before .before .before .before .before .before .before .before .before .before .before in
     let s =
     at-17
     .before .before .before .before .before .before .before in
-    let enum-told = enum-told′ in
-    let checks = checks′ in
-    let at = at-16 in
     let a = s .args in
     let none! : refusal (a .p) (disk s) (memory s) (a .address .0) (a .block .now) ≡ none = sym (checks .ensures) ∙ ap checked (enum-told .given .1) in
     subst (λ (x : Aim). x .slot < 8) (sym (aimed (at))) (slot-lt (a .p) (a .state) (ready (a .p) (disk s) (memory s) (a .address .0) (a .block .now) none! .waits))
 
 plan-requires : tie.Need-plan-requires
 plan-requires c κs =
-    let at-7′ = c .before .before .before .before .before .before .before in
-    let enum-told′ = c .before .before .before .before .before .before .before .before .before .before .enum-told in
-    let checks′ = c .before .before .before .before .before .before .before .before .before .before .before .before .checks in
+    let at-7 = c .before .before .before .before .before .before .before in
+    let enum-told = c .before .before .before .before .before .before .before .before .before .before .enum-told in
+    let checks = c .before .before .before .before .before .before .before .before .before .before .before .before .checks in
     let at-17 = c .before .before .before .before .before .before .before .before .before .before .before .before .before .before .before .before .before in
-    let at-18′ = c .before .before .before .before .before .before .before .before .before .before .before .before .before .before .before .before .before .before in
-    let aim-of′ = c .before .before .before .before .before .before .before .before .before .before .before .before .before .before .before .before .before .before .aim-of in
-    let front-of′ = c .before .before .before .before .before .before .before .before .before .before .before .before .before .before .before .before .before .before .before .front-of in
+    let at-18 = c .before .before .before .before .before .before .before .before .before .before .before .before .before .before .before .before .before .before in
+    let aim-of = c .before .before .before .before .before .before .before .before .before .before .before .before .before .before .before .before .before .before .aim-of in
+    let f = c .before .before .before .before .before .before .before .before .before .before .before .before .before .before .before .before .before .before .before .front-of in
     let s =
     at-17
     .before .before .before .before .before .before .before .before .before in
-    let at-7 = at-7′ in
-    let enum-told = enum-told′ in
-    let checks = checks′ in
-    let at-18 = at-18′ in
-    let aim-of = aim-of′ in
-    let front-of = front-of′ in
     let a = s .args in
     let none! : refusal (a .p) (disk s) (memory s) (a .address .0) (a .block .now) ≡ none = sym (checks .ensures) ∙ ap checked (enum-told .given .1) in
     let r = ready (a .p) (disk s) (memory s) (a .address .0) (a .block .now) none! in
     let o = at-7 .«open» in
-    let f = front-of in
     let k′ : Disk = mkDisk (o .last .1 .0) (o .last .1 .1 .0) in
     let h : Opening (a .p) (a .state) (a .count) (disk s) (o .result) k′ =
     opening-front (a .p) (a .state) (a .count) (disk s) (o .result) k′
@@ -243,41 +225,27 @@ same-length-15 c = search needs
 
 returns-3 : tie.Need-returns-3
 returns-3 c =
-    let plan′ = c .before .before .plan in
-    let row-of′ = c .before .before .before .before .row-of in
-    let if1′ = c .before .before .before .before .before .if1 in
-    let at-10′ = c .before .before .before .before .before .before .before .before .before .before in
-    let enum-told′ = c .before .before .before .before .before .before .before .before .before .before .before .before .before .enum-told in
-    let checks′ = c .before .before .before .before .before .before .before .before .before .before .before .before .before .before .before .checks in
+    let q = c .before .before .plan in
+    let row-of = c .before .before .before .before .row-of in
+    let if1 = c .before .before .before .before .before .if1 in
+    let at-10 = c .before .before .before .before .before .before .before .before .before .before in
+    let enum-told = c .before .before .before .before .before .before .before .before .before .before .before .before .before .enum-told in
+    let checks = c .before .before .before .before .before .before .before .before .before .before .before .before .before .before .before .checks in
     let at-17 = c .before .before .before .before .before .before .before .before .before .before .before .before .before .before .before .before .before in
-    let at-21′ = c .before .before .before .before .before .before .before .before .before .before .before .before .before .before .before .before .before .before .before .before .before in
-    let aim-of′ = c .before .before .before .before .before .before .before .before .before .before .before .before .before .before .before .before .before .before .before .before .before .aim-of in
-    let front-of′′ =
+    let at-21 = c .before .before .before .before .before .before .before .before .before .before .before .before .before .before .before .before .before .before .before .before .before in
+    let aim-of = c .before .before .before .before .before .before .before .before .before .before .before .before .before .before .before .before .before .before .before .before .before .aim-of in
+    let f =
     c .before .before .before .before .before .before .before .before .before .before .before .before .before .before .before .before .before .before .before .before .before .before .front-of in
-    let front-of′ =
-    front-of′′ in
     let s =
     at-17
     .before .before .before .before .before .before .before .before .before .before .before .before in
-    let plan = plan′ in
-    let row-of = row-of′ in
-    let if1 = if1′ in
-    let at-10 = at-10′ in
-    let enum-told = enum-told′ in
-    let checks = checks′ in
-    let at-21 = at-21′ in
-    let aim-of = aim-of′ in
-    let front-of =
-    front-of′ in
     let a = s .args in
     let none! : refusal (a .p) (disk s) (memory s) (a .address .0) (a .block .now) ≡ none = sym (checks .ensures) ∙ ap checked (enum-told .given .1) in
     let o = at-10 .«open» in
-    let f = front-of in
     let k′ : Disk = mkDisk (o .last .1 .0) (o .last .1 .1 .0) in
     let h : Opening (a .p) (a .state) (a .count) (disk s) (o .result) k′ =
     opening-front (a .p) (a .state) (a .count) (disk s) (o .result) k′
     (subst (λ (x : Front). Opening (a .p) (behind x) (a .count) (disk s) (o .result) k′) (f .ensures) (o .ensures)) in
-    let q = plan in
     ends-plan (a .p) (disk s) (memory s) (a .address .0) (a .block .now) (a .count) none! (o .result) k′ h (f .result) (f .ensures) (aim-of .result) (aimed (at-21))
     (row-of .result) (row-of .ensures) (sized s) (if1 .left) (q .result) (q .last .1 .0) (q .ensures .0) (q .ensures .1)
 

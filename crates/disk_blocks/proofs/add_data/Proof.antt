@@ -60,7 +60,7 @@ xor-within-requires : tie.Need-xor-within-requires Inv-loop μ-loop
 xor-within-requires c κs =
     let a = c .before .before .before .before .before .before .before .before .args in
     let loop-test = c .before .before .loop-test in
-    let loop = c .before .before .before .loop in
+    let l = c .before .before .before .loop in
     let slot-byte = c .before .before .before .before .slot-byte in
     let parity-drive = c .before .before .before .before .before .parity-drive in
     let data-count = c .before .before .before .before .before .before .data-count in
@@ -70,7 +70,6 @@ xor-within-requires c κs =
     let r = ranged p (pre .0) in
     let h = pre .1 in
     let at : slot-byte .result ≡ slotByte p (a .slot) (parityDrive p (a .stripe)) = slot-byte .ensures .0 ∙ ap (slotByte p (a .slot)) (parity-drive .ensures .0) in
-    let l = loop in
     let k : l .k < dataCount p = omega (arith, loop-test .taken, data-count .ensures .0) in
     let f = c .before .data-byte .ensures .0 in (
       omega (arith, slot-byte .ensures .1, l .inv .2, h .1),
@@ -91,7 +90,7 @@ loop-again c =
     let xor-within = c .before .before .xor-within in
     let data-byte = c .before .before .before .before .data-byte in
     let loop-test = c .before .before .before .before .before .loop-test in
-    let loop = c .before .before .before .before .before .before .loop in
+    let l = c .before .before .before .before .before .before .loop in
     let slot-byte = c .before .before .before .before .before .before .before .slot-byte in
     let parity-drive = c .before .before .before .before .before .before .before .before .parity-drive in
     let data-count = c .before .before .before .before .before .before .before .before .before .data-count in
@@ -101,7 +100,6 @@ loop-again c =
     let r = ranged p (pre .0) in
     let h = pre .1 in
     let at : slot-byte .result ≡ slotByte p (a .slot) (parityDrive p (a .stripe)) = slot-byte .ensures .0 ∙ ap (slotByte p (a .slot)) (parity-drive .ensures .0) in
-    let l = loop in
     let k : l .k < dataCount p = omega (arith, loop-test .taken, data-count .ensures .0) in
     let f = data-byte .ensures .0 in (
       omega arith,

@@ -48,12 +48,11 @@ clear-part-requires : tie.Need-clear-part-requires Inv-loop μ-loop
 clear-part-requires c κs =
     let a = c .before .before .before .before .before .args in
     let loop-test = c .before .before .loop-test in
-    let loop = c .before .before .before .loop in
+    let l = c .before .before .before .loop in
     let pre = c .before .before .before .before .before .pre in
     let p = a .p in
     let r = ranged p (pre .0) in
     let h = pre .1 in
-    let l = loop in
     let t = loop-test .taken in
     omega (arith, c .before .spare-byte .ensures .1, l .inv .long)
 
@@ -70,12 +69,11 @@ loop-again c =
     let clear-part = c .before .before .clear-part in
     let spare-byte = c .before .before .before .before .spare-byte in
     let loop-test = c .before .before .before .before .before .loop-test in
-    let loop = c .before .before .before .before .before .before .loop in
+    let l = c .before .before .before .before .before .before .loop in
     let pre = c .before .before .before .before .before .before .before .before .pre in
     let p = a .p in
     let r = ranged p (pre .0) in
     let h = pre .1 in
-    let l = loop in
     let t = loop-test .taken in
     clearing-turn p (a .drive) (a .zone) (a .at) (a .n) (a .image .now) (l .i) (l .image) (clear-part .last .0) (h .1) (h .2) (h .3) t
     (clear-part .ensures ∙ ap₂ (λ (x y : ℕ). splice (l .image) x (replicate y 0)) (spare-byte .ensures .0) (sym spare-len)) (l .inv)

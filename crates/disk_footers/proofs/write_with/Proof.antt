@@ -27,12 +27,11 @@ loop-holds c =
 add-make-footer : tie.Need-add-make-footer Inv-loop μ-loop
 add-make-footer c =
     let a = c .before .before .before .before .before .args in
-    let loop = c .before .before .loop in
+    let l = c .before .before .loop in
     let pre = c .before .before .before .before .before .pre in
     let p = a .p in
     let r = ranged p (pre .0) in
     let h = pre .1 in
-    let l = loop in
     let t = c .before .loop-test .taken in
     omega (arith, h .4, t, footers-high p r)
 
@@ -40,12 +39,11 @@ make-footer-requires : tie.Need-make-footer-requires Inv-loop μ-loop
 make-footer-requires c κs =
     let a = c .before .before .before .before .before .before .args in
     let loop-test = c .before .before .loop-test in
-    let loop = c .before .before .before .loop in
+    let l = c .before .before .before .loop in
     let pre = c .before .before .before .before .before .before .pre in
     let p = a .p in
     let r = ranged p (pre .0) in
     let h = pre .1 in
-    let l = loop in
     let t = loop-test .taken in
     (pre .0, (l .inv .1 .long, h .2, h .3, omega (arith, h .4, t), l .inv .0 ∙ h .1))
 
@@ -53,12 +51,11 @@ add-block-byte : tie.Need-add-block-byte Inv-loop μ-loop
 add-block-byte c =
     let a = c .before .before .before .before .before .before .before .before .before .args in
     let loop-test = c .before .before .before .before .before .loop-test in
-    let loop = c .before .before .before .before .before .before .loop in
+    let l = c .before .before .before .before .before .before .loop in
     let pre = c .before .before .before .before .before .before .before .before .before .pre in
     let p = a .p in
     let r = ranged p (pre .0) in
     let h = pre .1 in
-    let l = loop in
     let t = loop-test .taken in
     omega (arith, h .5, t, capacity-high p r)
 
@@ -66,12 +63,11 @@ block-byte-requires : tie.Need-block-byte-requires Inv-loop μ-loop
 block-byte-requires c κs =
     let a = c .before .before .before .before .before .before .before .before .before .args in
     let loop-test = c .before .before .before .before .before .loop-test in
-    let loop = c .before .before .before .before .before .before .loop in
+    let l = c .before .before .before .before .before .before .loop in
     let pre = c .before .before .before .before .before .before .before .before .before .pre in
     let p = a .p in
     let r = ranged p (pre .0) in
     let h = pre .1 in
-    let l = loop in
     let t = loop-test .taken in
     (pre .0, (h .2, h .3, omega (arith, h .5, t)))
 
@@ -82,12 +78,11 @@ copy-part-requires c κs =
     let block-byte = c .before .before .block-byte in
     let make-footer = c .before .before .before .before .before .make-footer in
     let loop-test = c .before .before .before .before .before .before .before .before .loop-test in
-    let loop = c .before .before .before .before .before .before .before .before .before .loop in
+    let l = c .before .before .before .before .before .before .before .before .before .loop in
     let pre = c .before .before .before .before .before .before .before .before .before .before .before .before .pre in
     let p = a .p in
     let r = ranged p (pre .0) in
     let h = pre .1 in
-    let l = loop in
     let t = loop-test .taken in
     omega (arith, block-byte .ensures .1, l .inv .1 .long, make-footer .kept .1 .1 .1 .1 .1 .0, l .inv .0, h .1)
 
@@ -104,12 +99,11 @@ loop-again c =
     let block-byte = c .before .before .before .before .before .block-byte in
     let make-footer = c .before .before .before .before .before .before .before .before .make-footer in
     let loop-test = c .before .before .before .before .before .before .before .before .before .before .before .loop-test in
-    let loop = c .before .before .before .before .before .before .before .before .before .before .before .before .loop in
+    let l = c .before .before .before .before .before .before .before .before .before .before .before .before .loop in
     let pre = c .before .before .before .before .before .before .before .before .before .before .before .before .before .before .before .pre in
     let p = a .p in
     let r = ranged p (pre .0) in
     let h = pre .1 in
-    let l = loop in
     let t = loop-test .taken in
     let s = make-footer .last .1 .1 .1 .1 .1 .0 in
     let ls : length s ≡ p .B = make-footer .kept .1 .1 .1 .1 .1 .0 ∙ l .inv .0 ∙ h .1 in

@@ -23,10 +23,9 @@ slice-relend-prefix-write-header c = search needs
 slice-aggregate-write-header : tie.Need-slice-aggregate-write-header
 slice-aggregate-write-header c =
     let a = c .before .before .before .before .args in
-    let pre = c .before .before .before .before .pre in
+    let h = c .before .before .before .before .pre in
     let p = a .p in
     let s = a .scratch .now in
-    let h = pre in
     let n = c .before .unit-len .result in
     let t : length (take n s) ≡ n = length-take-le n s (omega (arith, c .before .unit-len .ensures .0, h .2)) in
     sym t
@@ -34,10 +33,9 @@ slice-aggregate-write-header c =
 write-header-requires : tie.Need-write-header-requires
 write-header-requires c κs =
     let a = c .before .before .before .before .args in
-    let pre = c .before .before .before .before .pre in
+    let h = c .before .before .before .before .pre in
     let p = a .p in
     let s = a .scratch .now in
-    let h = pre in
     let n = c .before .unit-len .result in
     let t : length (take n s) ≡ n = length-take-le n s (omega (arith, c .before .unit-len .ensures .0, h .2)) in
     (h .0, t ∙ c .before .unit-len .ensures .0)
@@ -50,10 +48,9 @@ slice-aggregate-same c =
     let a = c .before .before .before .before .before .before .before .before .args in
     let write-header = c .before .before .before .write-header in
     let unit-len = c .before .before .before .before .before .unit-len in
-    let pre = c .before .before .before .before .before .before .before .before .pre in
+    let h = c .before .before .before .before .before .before .before .before .pre in
     let p = a .p in
     let s = a .scratch .now in
-    let h = pre in
     let n = unit-len .result in
     let t : length (take n s) ≡ n = length-take-le n s (omega (arith, unit-len .ensures .0, h .2)) in
     let w = write-header .last .0 in
@@ -72,10 +69,9 @@ returns c =
     let a = c .before .before .before .before .before .before .before .before .before .args in
     let write-header = c .before .before .before .before .write-header in
     let unit-len = c .before .before .before .before .before .before .unit-len in
-    let pre = c .before .before .before .before .before .before .before .before .before .pre in
+    let h = c .before .before .before .before .before .before .before .before .before .pre in
     let p = a .p in
     let s = a .scratch .now in
-    let h = pre in
     let n = unit-len .result in
     let t : length (take n s) ≡ n = length-take-le n s (omega (arith, unit-len .ensures .0, h .2)) in
     let w = write-header .last .0 in

@@ -34,12 +34,8 @@ returns c =
     let write-be3 = c .before .before .before .before .before .before .before .before .before .before .before .before .before .before .write-be3 in
     let write-be2 = c .before .before .before .before .before .before .before .before .before .before .before .before .before .before .before .before .before .before .write-be2 in
     let at = c .before .before .before .before .before .before .before .before .before .before .before .before .before .before .before .before .before in
-    let write-be′′ =
-    c .before .before .before .before .before .before .before .before .before .before .before .before .before .before .before .before .before .before .before .before .before .before .write-be in
-    let write-be′ =
-    write-be′′ in
     let write-be =
-    write-be′ in
+    c .before .before .before .before .before .before .before .before .before .before .before .before .before .before .before .before .before .before .before .before .before .before .write-be in
     let entry =
     at
     .before .before .before .before .before .before .before .before in

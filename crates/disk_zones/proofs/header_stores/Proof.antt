@@ -45,10 +45,9 @@ returns : tie.Need-returns Inv-loop μ-loop
 unfolding headerStores drivesOf headerStore
 returns c =
     let a = c .before .before .before .before .before .before .args in
-    let loop = c .before .before .before .loop in
+    let l = c .before .before .before .loop in
     let pre = c .before .before .before .before .before .before .pre in
     let p = a .p in
-    let l = loop in
     let w = pre .1 .0 in
     let g = pre .1 .1 in
     let k₀ = mkDisk (a .image .now) (a .pointers .now) in
@@ -64,10 +63,9 @@ put-header-requires c κs =
     let a = c .before .before .before .before .before .before .before .before .before .args in
     let zone-on = c .before .before .zone-on in
     let if1 = c .before .before .before .before .if1 in
-    let loop = c .before .before .before .before .before .before .loop in
+    let l = c .before .before .before .before .before .before .loop in
     let pre = c .before .before .before .before .before .before .before .before .before .pre in
     let p = a .p in
-    let l = loop in
     let w = pre .1 .0 in
     let g = pre .1 .1 in
     let k₀ = mkDisk (a .image .now) (a .pointers .now) in
@@ -98,10 +96,9 @@ loop-again c =
     let zone-on = c .before .before .before .before .before .before .before .zone-on in
     let if2 = c .before .before .before .before .before .before .before .before .if2 in
     let if1 = c .before .before .before .before .before .before .before .before .before .if1 in
-    let loop = c .before .before .before .before .before .before .before .before .before .before .before .loop in
+    let l = c .before .before .before .before .before .before .before .before .before .before .before .loop in
     let pre = c .before .before .before .before .before .before .before .before .before .before .before .before .before .before .pre in
     let p = a .p in
-    let l = loop in
     let w = pre .1 .0 in
     let g = pre .1 .1 in
     let k₀ = mkDisk (a .image .now) (a .pointers .now) in
@@ -136,10 +133,9 @@ returns-2 : tie.Need-returns-2 Inv-loop μ-loop
 unfolding headerStores drivesOf headerStore
 returns-2 c =
     let a = c .before .before .before .before .before .args in
-    let loop = c .before .before .loop in
+    let l = c .before .before .loop in
     let pre = c .before .before .before .before .before .pre in
     let p = a .p in
-    let l = loop in
     let w = pre .1 .0 in
     let g = pre .1 .1 in
     let k₀ = mkDisk (a .image .now) (a .pointers .now) in

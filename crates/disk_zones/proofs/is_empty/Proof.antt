@@ -42,10 +42,9 @@ returns c =
     let a = c .before .before .before .before .before .before .before .args in
     let zone-on = c .before .before .zone-on in
     let if1 = c .before .before .before .if1 in
-    let loop = c .before .before .before .before .before .loop in
+    let l = c .before .before .before .before .before .loop in
     let p = a .p in
     let ps = a .pointers .now in
-    let l = loop in
     let f : ℕ → Bool = λ e. eqb (pointerOf p ps e (zoneOn (a .segment) e)) 0 in
     let e : c .before .pointer .result ≡ pointerOf p ps (l .d) (zoneOn (a .segment) (l .d)) = c .before .pointer .ensures ∙ ap (pointerOf p ps (l .d)) (zone-on .ensures) in
     sym (all-broken f (l .d) (p .N) (if1 .taken) (ne-eqb (pointerOf p ps (l .d) (zoneOn (a .segment) (l .d))) 0 (λ q. c .if2 .taken (e ∙ q)))) ∙ l .inv .1
@@ -61,10 +60,9 @@ loop-again c =
     let a = c .before .before .before .before .before .before .before .args in
     let zone-on = c .before .before .zone-on in
     let if1 = c .before .before .before .if1 in
-    let loop = c .before .before .before .before .before .loop in
+    let l = c .before .before .before .before .before .loop in
     let p = a .p in
     let ps = a .pointers .now in
-    let l = loop in
     let f : ℕ → Bool = λ e. eqb (pointerOf p ps e (zoneOn (a .segment) e)) 0 in
     let e : c .before .pointer .result ≡ pointerOf p ps (l .d) (zoneOn (a .segment) (l .d)) = c .before .pointer .ensures ∙ ap (pointerOf p ps (l .d)) (zone-on .ensures) in
     (omega (arith, if1 .taken), sym (all-passed f (l .d) (p .N) (if1 .taken) (eq-eqb (pointerOf p ps (l .d) (zoneOn (a .segment) (l .d))) 0 (sym e ∙ c .if2 .left))) ∙ l .inv .1)

@@ -37,11 +37,10 @@ returns : tie.Need-returns Inv-loop μ-loop
 returns c =
     let a = c .before .before .before .before .before .before .args in
     let if1 = c .before .before .if1 in
-    let loop = c .before .before .before .before .loop in
+    let l = c .before .before .before .before .loop in
     let pre = c .before .before .before .before .before .before .pre in
     let p = a .p in
     let ps = a .pointers .now in
-    let l = loop in
     let f : ℕ → Bool = λ e. isIn (a .gone) e || eqb (pointerOf p ps e (zoneOn (a .segment) e)) (capacity p) in
     λ im h. (sym (all-broken f (l .d) (p .N) (if1 .taken) (sym (c .before .is-full .ensures) ∙ not-true (c .before .is-full .result) (c .if2 .taken)))
     ∙ l .inv .1)
@@ -57,21 +56,19 @@ loop-again : tie.Need-loop-again Inv-loop μ-loop
 loop-again c =
     let a = c .before .before .before .before .before .before .args in
     let if1 = c .before .before .if1 in
-    let loop = c .before .before .before .before .loop in
+    let l = c .before .before .before .before .loop in
     let p = a .p in
     let ps = a .pointers .now in
-    let l = loop in
     let f : ℕ → Bool = λ e. isIn (a .gone) e || eqb (pointerOf p ps e (zoneOn (a .segment) e)) (capacity p) in
     (omega (arith, if1 .taken), sym (all-passed f (l .d) (p .N) (if1 .taken) (sym (c .before .is-full .ensures) ∙ not-false (c .before .is-full .result) (c .if2 .left))) ∙ l .inv .1)
 
 returns-2 : tie.Need-returns-2 Inv-loop μ-loop
 returns-2 c =
     let a = c .before .before .before .before .args in
-    let loop = c .before .before .loop in
+    let l = c .before .before .loop in
     let pre = c .before .before .before .before .pre in
     let p = a .p in
     let ps = a .pointers .now in
-    let l = loop in
     let f : ℕ → Bool = λ e. isIn (a .gone) e || eqb (pointerOf p ps e (zoneOn (a .segment) e)) (capacity p) in
     λ im h. (sym (all-ended f (l .d) (p .N) (omega (arith, c .if1 .left))) ∙ l .inv .1) ∙ sym (sealed-list p im ps (a .gone) (a .segment) (pre .1 .1) h (pre .1 .0))
 

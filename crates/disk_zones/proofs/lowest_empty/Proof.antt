@@ -30,11 +30,10 @@ returns : tie.Need-returns Inv-loop μ-loop
 returns c =
     let a = c .before .before .before .before .before .before .args in
     let if1 = c .before .before .if1 in
-    let loop = c .before .before .before .before .loop in
+    let l = c .before .before .before .before .loop in
     let pre = c .before .before .before .before .before .before .pre in
     let p = a .p in
     let ps = a .pointers .now in
-    let l = loop in
     let f = emptyBy p ps in
     (λ im h. (sym (first-turn f (l .z) (p .Z) (if1 .taken) (sym (c .before .is-empty .ensures) ∙ c .if2 .taken)) ∙ l .inv .1) ∙ ap (firstOr 0) (sym (empty-list p im ps h (pre .1))), if1 .taken)
 
@@ -48,21 +47,19 @@ loop-again : tie.Need-loop-again Inv-loop μ-loop
 loop-again c =
     let a = c .before .before .before .before .before .before .args in
     let if1 = c .before .before .if1 in
-    let loop = c .before .before .before .before .loop in
+    let l = c .before .before .before .before .loop in
     let p = a .p in
     let ps = a .pointers .now in
-    let l = loop in
     let f = emptyBy p ps in
     (omega (arith, if1 .taken), sym (first-pass f (l .z) (p .Z) (if1 .taken) (sym (c .before .is-empty .ensures) ∙ c .if2 .left)) ∙ l .inv .1)
 
 returns-2 : tie.Need-returns-2 Inv-loop μ-loop
 returns-2 c =
     let a = c .before .before .before .before .args in
-    let loop = c .before .before .loop in
+    let l = c .before .before .loop in
     let pre = c .before .before .before .before .pre in
     let p = a .p in
     let ps = a .pointers .now in
-    let l = loop in
     let f = emptyBy p ps in
     (λ im h. (sym (first-end f (l .z) (p .Z) (omega (arith, c .if1 .left))) ∙ l .inv .1) ∙ ap (firstOr 0) (sym (empty-list p im ps h (pre .1))), omega (arith, ranged p (pre .0) .zones-low))
 

@@ -47,10 +47,9 @@ reset-requires : tie.Need-reset-requires Inv-loop μ-loop
 reset-requires c κs =
     let a = c .before .before .before .before .before .before .before .args in
     let if1 = c .before .before .before .if1 in
-    let loop = c .before .before .before .before .before .loop in
+    let l = c .before .before .before .before .before .loop in
     let pre = c .before .before .before .before .before .before .before .pre in
     let p = a .p in
-    let l = loop in
     let g = pre .1 in
     let f = resetStore (a .segment) in
     (pre .0, (l .inv .0 ∙ g .0, if1 .taken, rw (c .before .zone-on .ensures) (zone-on-lt p (a .segment) (l .d) (g .1))))
@@ -72,10 +71,9 @@ loop-again c =
     let zone-on = c .before .before .before .before .zone-on in
     let if2 = c .before .before .before .before .before .if2 in
     let if1 = c .before .before .before .before .before .before .if1 in
-    let loop = c .before .before .before .before .before .before .before .before .loop in
+    let l = c .before .before .before .before .before .before .before .before .loop in
     let pre = c .before .before .before .before .before .before .before .before .before .before .pre in
     let p = a .p in
-    let l = loop in
     let g = pre .1 in
     let f = resetStore (a .segment) in
     let q = l .d in (

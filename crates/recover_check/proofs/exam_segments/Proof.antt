@@ -20,36 +20,31 @@ abbrev μ-loop : tie.MeasureT-loop
 loop-holds : tie.Need-loop-holds Inv-loop μ-loop
 loop-holds c =
     let a = c .before .before .before .before .args in
-    let pre = c .before .before .before .before .pre in
+    let h = c .before .before .before .before .pre in
     let p = a .p in
     let v = viewOf p (a .image .now) (a .pointers .now) in
-    let h = pre in
     let f = faulty p v (a .gone) in
     (omega arith, seen-none p v (a .gone) (a .kept .now), lowest-start f (p .Z) (p .Z))
 
 exam-segment-requires : tie.Need-exam-segment-requires Inv-loop μ-loop
 exam-segment-requires c κs =
     let a = c .before .before .before .before .before .before .before .args in
-    let pre = c .before .before .before .before .before .before .before .pre in
+    let h = c .before .before .before .before .before .before .before .pre in
     let p = a .p in
     let v = viewOf p (a .image .now) (a .pointers .now) in
-    let h = pre in
     let f = faulty p v (a .gone) in
     (h .0, (h .1 .0, (h .1 .1 .0, (h .1 .1 .1 .0, (c .if1 .taken, h .1 .1 .1 .1, c .before .before .loop .inv .1)))))
 
 returns : tie.Need-returns Inv-loop μ-loop
 returns c =
     let a = c .before .before .before .before .before .before .before .before .before .before .before .args in
-    let exam-segment = c .before .before .before .exam-segment in
+    let r = c .before .before .before .exam-segment in
     let if1 = c .before .before .before .before .if1 in
-    let loop = c .before .before .before .before .before .before .loop in
-    let pre = c .before .before .before .before .before .before .before .before .before .before .before .pre in
+    let l = c .before .before .before .before .before .before .loop in
+    let h = c .before .before .before .before .before .before .before .before .before .before .before .pre in
     let p = a .p in
     let v = viewOf p (a .image .now) (a .pointers .now) in
-    let h = pre in
     let f = faulty p v (a .gone) in
-    let l = loop in
-    let r = exam-segment in
     let k = if1 .taken in
     let w = stops p v (a .gone) (a .kept .now) (l .g) (r .result) (r .ensures .0) (r .ensures .1) (c .if2 .taken) in
     seen-bad p v (a .gone) (a .kept .now) (r .result) (c .if2 .taken)
@@ -67,16 +62,13 @@ loop-less c =
 loop-again : tie.Need-loop-again Inv-loop μ-loop
 loop-again c =
     let a = c .before .before .before .before .before .before .before .before .before .before .before .args in
-    let exam-segment = c .before .before .before .exam-segment in
+    let r = c .before .before .before .exam-segment in
     let if1 = c .before .before .before .before .if1 in
-    let loop = c .before .before .before .before .before .before .loop in
-    let pre = c .before .before .before .before .before .before .before .before .before .before .before .pre in
+    let l = c .before .before .before .before .before .before .loop in
+    let h = c .before .before .before .before .before .before .before .before .before .before .before .pre in
     let p = a .p in
     let v = viewOf p (a .image .now) (a .pointers .now) in
-    let h = pre in
     let f = faulty p v (a .gone) in
-    let l = loop in
-    let r = exam-segment in
     let k = if1 .taken in
     let w = goes p v (a .gone) (a .kept .now) (l .g) (r .result) (r .ensures .0) (r .ensures .1) k (omega (arith, c .if2 .left)) in
     (omega (arith, k), w .1, sym (lowest-pass f (p .Z) (l .g) (p .Z) k (w .0)) ∙ l .inv .2)
@@ -84,10 +76,9 @@ loop-again c =
 returns-2 : tie.Need-returns-2 Inv-loop μ-loop
 returns-2 c =
     let a = c .before .before .before .before .before .before .before .args in
-    let pre = c .before .before .before .before .before .before .before .pre in
+    let h = c .before .before .before .before .before .before .before .pre in
     let p = a .p in
     let v = viewOf p (a .image .now) (a .pointers .now) in
-    let h = pre in
     let f = faulty p v (a .gone) in
     let l = c .before .before .loop in
     let k : l .g ≡ p .Z = omega (arith, l .inv .0, c .if1 .left) in

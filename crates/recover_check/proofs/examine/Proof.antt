@@ -10,17 +10,15 @@ use Rattle.recover_check.proofs.examine.Tie as tie
 unsealed-count-requires : tie.Need-unsealed-count-requires
 unsealed-count-requires c κs =
     let a = c .before .before .before .before .args in
-    let pre = c .before .before .before .before .pre in
+    let h = c .before .before .before .before .pre in
     let p = a .p in
-    let h = pre in
     (h .0, (h .1 .0 .pointers-long, (let q = h .1 .1 .0 .0 in omega (arith, q, ranged p (h .0) .zones-high))))
 
 exam-segments-requires : tie.Need-exam-segments-requires
 exam-segments-requires c κs =
     let a = c .before .before .before .before .before .args in
-    let pre = c .before .before .before .before .before .pre in
+    let h = c .before .before .before .before .before .pre in
     let p = a .p in
-    let h = pre in
     (h .0, (h .1 .0, (h .1 .1 .0, (h .1 .1 .1, ap (leb 2) (c .unsealed-count .ensures .1 (a .image .now) (h .1 .0 .image-long) (h .1 .1 .0))))))
 
 returns : tie.Need-returns

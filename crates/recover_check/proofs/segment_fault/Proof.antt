@@ -12,10 +12,9 @@ use Rattle.recover_check.proofs.segment_fault.Tie as tie
 front-fault-requires : tie.Need-front-fault-requires
 front-fault-requires c κs =
     let a = c .before .before .before .before .args in
-    let pre = c .before .before .before .before .pre in
+    let h = c .before .before .before .before .pre in
     let p = a .p in
     let v = viewOf p (a .image .now) (a .pointers .now) in
-    let h = pre in
     let gs = segments p v (a .gone) in
     let g = segmentOf p v (a .gone) (a .g) in (
       h .0,
@@ -30,10 +29,9 @@ front-fault-requires c κs =
 returns : tie.Need-returns
 returns c =
     let a = c .before .before .before .before .before .before .args in
-    let pre = c .before .before .before .before .before .before .pre in
+    let h = c .before .before .before .before .before .before .pre in
     let p = a .p in
     let v = viewOf p (a .image .now) (a .pointers .now) in
-    let h = pre in
     let gs = segments p v (a .gone) in
     let g = segmentOf p v (a .gone) (a .g) in
     front-bad p (a .gone) gs g (sym (c .before .front-fault .ensures (a .pointers .now) (h .1 .0 .pointers-long) (h .1 .1 .0) (h .1 .1 .1 .0)) ∙ c .if1 .taken)
@@ -41,10 +39,9 @@ returns c =
 returns-2 : tie.Need-returns-2
 returns-2 c =
     let a = c .before .before .before .before .before .before .before .args in
-    let pre = c .before .before .before .before .before .before .before .pre in
+    let h = c .before .before .before .before .before .before .before .pre in
     let p = a .p in
     let v = viewOf p (a .image .now) (a .pointers .now) in
-    let h = pre in
     let gs = segments p v (a .gone) in
     let g = segmentOf p v (a .gone) (a .g) in
     front-full p (a .gone) gs g
@@ -56,10 +53,9 @@ returns-3 c =
     let a = c .before .before .before .before .before .before .before .before .args in
     let if1 = c .before .before .if1 in
     let front-fault = c .before .before .before .front-fault in
-    let pre = c .before .before .before .before .before .before .before .before .pre in
+    let h = c .before .before .before .before .before .before .before .before .pre in
     let p = a .p in
     let v = viewOf p (a .image .now) (a .pointers .now) in
-    let h = pre in
     let gs = segments p v (a .gone) in
     let g = segmentOf p v (a .gone) (a .g) in
     front-many p (a .gone) gs g (sym (front-fault .ensures (a .pointers .now) (h .1 .0 .pointers-long) (h .1 .1 .0) (h .1 .1 .1 .0)) ∙ if1 .left)
@@ -74,10 +70,9 @@ returns-4 c =
     let if2 = c .before .before .if2 in
     let if1 = c .before .before .before .if1 in
     let front-fault = c .before .before .before .before .front-fault in
-    let pre = c .before .before .before .before .before .before .before .before .before .pre in
+    let h = c .before .before .before .before .before .before .before .before .before .pre in
     let p = a .p in
     let v = viewOf p (a .image .now) (a .pointers .now) in
-    let h = pre in
     let gs = segments p v (a .gone) in
     let g = segmentOf p v (a .gone) (a .g) in
     c .footer-fault .ensures

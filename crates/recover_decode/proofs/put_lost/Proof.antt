@@ -34,9 +34,8 @@ put-lost-with-requires : tie.Need-put-lost-with-requires
 put-lost-with-requires c κs =
     let entry = c .before .before .before .before .before .before in
     let args = entry .args in
-    let pre = entry .pre in
+    let q = entry .pre in
     let p = args .p in
-    let q = pre in
     let r = ranged p (q .0) in
     let h = q .1 .1 .1 .0 in
     let s : List ℕ = replicate 4096 0 in

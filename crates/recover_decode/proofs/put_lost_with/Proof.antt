@@ -89,23 +89,18 @@ same-length-3 c = search needs
 
 returns : tie.Need-returns
 returns c =
-    let put-limited′ = c .before .before .before .before .put-limited in
-    let zone-on′ = c .before .before .before .before .before .before .before .before .before .zone-on in
-    let write-record′ = c .before .before .before .before .before .before .before .before .before .before .before .write-record in
-    let lost-rec′ = c .before .before .before .before .before .before .before .before .before .before .before .before .before .lost-rec in
+    let put-limited = c .before .before .before .before .put-limited in
+    let zone-on = c .before .before .before .before .before .before .before .before .before .zone-on in
+    let write-record = c .before .before .before .before .before .before .before .before .before .before .before .write-record in
+    let lost-rec = c .before .before .before .before .before .before .before .before .before .before .before .before .before .lost-rec in
     let at = c .before .before .before .before .before .before .before .before .before .before .before .before .before .before .before .before .before in
-    let lost-block′ = c .before .before .before .before .before .before .before .before .before .before .before .before .before .before .before .before .before .lost-block in
+    let lost-block = c .before .before .before .before .before .before .before .before .before .before .before .before .before .before .before .before .before .lost-block in
     let a =
     at
     .before .before .before .before .before .before .before .args in
     let q =
     at
     .before .before .before .before .before .before .before .pre in
-    let put-limited = put-limited′ in
-    let zone-on = zone-on′ in
-    let write-record = write-record′ in
-    let lost-rec = lost-rec′ in
-    let lost-block = lost-block′ in
     let k = mkDisk (a .image .now) (a .pointers .now) in
     let k′ = mkDisk (put-limited .last .1 .0) (put-limited .last .1 .1 .0) in
     let m = put-limited .result in

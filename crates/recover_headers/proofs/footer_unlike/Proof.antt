@@ -82,10 +82,9 @@ slice-aggregate-same : tie.Need-slice-aggregate-same
 slice-aggregate-same c =
     let a = c .before .before .before .before .before .before .before .before .before .before .args in
     let make-footer = c .before .before .before .before .before .before .make-footer in
-    let pre = c .before .before .before .before .before .before .before .before .before .before .pre in
+    let h = c .before .before .before .before .before .before .before .before .before .before .pre in
     let p = a .p in
     let s = a .scratch .now in
-    let h = pre in
     let t : length (take (p .B) s) ≡ p .B = length-take-le (p .B) s (h .1 .1) in
     let w = make-footer .last .1 .1 .1 .1 .1 .0 in
     let k : length w ≡ p .B = make-footer .kept .1 .1 .1 .1 .1 .0 ∙ t in
@@ -102,18 +101,16 @@ returns : tie.Need-returns
 unfolding footerOff chunkAt capacity
 returns c =
     let a = c .before .before .before .before .before .before .before .before .before .before .before .args in
-    let block-byte = c .before .before .before .block-byte in
+    let y = c .before .before .before .block-byte in
     let make-footer = c .before .before .before .before .before .before .before .make-footer in
-    let pre = c .before .before .before .before .before .before .before .before .before .before .before .pre in
+    let h = c .before .before .before .before .before .before .before .before .before .before .before .pre in
     let p = a .p in
     let s = a .scratch .now in
-    let h = pre in
     let t : length (take (p .B) s) ≡ p .B = length-take-le (p .B) s (h .1 .1) in
     let w = make-footer .last .1 .1 .1 .1 .1 .0 in
     let k : length w ≡ p .B = make-footer .kept .1 .1 .1 .1 .1 .0 ∙ t in
     let e : take (p .B) (w ++ drop (p .B) s) ≡ w = take-at w (drop (p .B) s) (p .B) k in
     let im = a .image .now in
-    let y = block-byte in
     λ ps long.
     let x = 1 + p .S + a .i in
     let f : take (y .result + p .B - y .result) (drop (y .result) im) ≡ chunkAt (viewOf p im ps) (a .drive) (a .zone) x .block =

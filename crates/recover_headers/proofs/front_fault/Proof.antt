@@ -33,16 +33,14 @@ header-fault-requires c κs = search needs
 returns : tie.Need-returns
 returns c =
     let a = c .before .before .before .before .before .before .before .before .args in
-    let copied-on = c .before .before .copied-on in
-    let low-drive = c .before .before .before .low-drive in
+    let k = c .before .before .copied-on in
+    let low = c .before .before .before .low-drive in
     let pre = c .before .before .before .before .before .before .before .before .pre in
     let p = a .p in
     let im = a .image .now in
     let gone = a .gone in
     let g = a .g in
     let f = c .before .header-fault in
-    let low = low-drive in
-    let k = copied-on in
     λ ps long hk hs.
     let v = viewOf p im ps in
     let x = segmentOf p v gone g in
@@ -55,17 +53,14 @@ returns-2 : tie.Need-returns-2
 returns-2 c =
     let a = c .before .before .before .before .before .before .before .before .before .before .before .args in
     let if1 = c .before .before .before .if1 in
-    let header-fault = c .before .before .before .before .header-fault in
-    let copied-on = c .before .before .before .before .before .copied-on in
-    let low-drive = c .before .before .before .before .before .before .low-drive in
+    let f = c .before .before .before .before .header-fault in
+    let k = c .before .before .before .before .before .copied-on in
+    let low = c .before .before .before .before .before .before .low-drive in
     let pre = c .before .before .before .before .before .before .before .before .before .before .before .pre in
     let p = a .p in
     let im = a .image .now in
     let gone = a .gone in
     let g = a .g in
-    let f = header-fault in
-    let low = low-drive in
-    let k = copied-on in
     λ ps long hk hs.
     let v = viewOf p im ps in
     let x = segmentOf p v gone g in
@@ -84,17 +79,14 @@ returns-3 : tie.Need-returns-3
 returns-3 c =
     let a = c .before .before .before .before .before .before .before .before .before .before .before .before .args in
     let if1 = c .before .before .before .before .if1 in
-    let header-fault = c .before .before .before .before .before .header-fault in
-    let copied-on = c .before .before .before .before .before .before .copied-on in
-    let low-drive = c .before .before .before .before .before .before .before .low-drive in
+    let f = c .before .before .before .before .before .header-fault in
+    let k = c .before .before .before .before .before .before .copied-on in
+    let low = c .before .before .before .before .before .before .before .low-drive in
     let pre = c .before .before .before .before .before .before .before .before .before .before .before .before .pre in
     let p = a .p in
     let im = a .image .now in
     let gone = a .gone in
     let g = a .g in
-    let f = header-fault in
-    let low = low-drive in
-    let k = copied-on in
     λ ps long hk hs.
     let v = viewOf p im ps in
     let x = segmentOf p v gone g in

@@ -55,16 +55,13 @@ returns-2 : tie.Need-returns-2
 unfolding headerOff
 returns-2 c =
     let a = c .before .before .before .before .before .before .before .before .args in
-    let unit-len = c .before .before .unit-len in
-    let block-byte = c .before .before .before .block-byte in
-    let zone-on = c .before .before .before .before .zone-on in
+    let u = c .before .before .unit-len in
+    let k = c .before .before .before .block-byte in
+    let z = c .before .before .before .before .zone-on in
     let if1 = c .before .before .before .before .before .if1 in
     let has-drive = c .before .before .before .before .before .before .has-drive in
     let p = a .p in
     let im = a .image .now in
-    let z = zone-on in
-    let u = unit-len in
-    let k = block-byte in
     let e : take (k .result + u .result - k .result) (drop (k .result) im) ≡ part (placeByte p (placeOf p (a .drive) (zoneOn (a .segment) (a .drive)) 0)) (unitLen p) im =
     part-lent (k .result) (u .result) im
     ∙ ap₂ (λ (x y : ℕ). part x y im) (k .ensures .0 ∙ ap (λ (x : ℕ). placeByte p (placeOf p (a .drive) x 0)) (z .ensures)) (u .ensures .0) in

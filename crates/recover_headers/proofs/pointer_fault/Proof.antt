@@ -29,11 +29,10 @@ returns : tie.Need-returns Inv-loop μ-loop
 returns c =
     let a = c .before .before .before .before .before .before .args in
     let if1 = c .before .before .if1 in
-    let loop = c .before .before .before .before .loop in
+    let l = c .before .before .before .before .loop in
     let pre = c .before .before .before .before .before .before .pre in
     let p = a .p in
     let ps = a .pointers .now in
-    let l = loop in
     let f = aboveBy p ps (a .gone) in (
       omega (arith, if1 .taken),
       λ im h.
@@ -51,10 +50,9 @@ loop-again : tie.Need-loop-again Inv-loop μ-loop
 loop-again c =
     let a = c .before .before .before .before .before .before .args in
     let if1 = c .before .before .if1 in
-    let loop = c .before .before .before .before .loop in
+    let l = c .before .before .before .before .loop in
     let p = a .p in
     let ps = a .pointers .now in
-    let l = loop in
     let f = aboveBy p ps (a .gone) in
     (omega (arith, if1 .taken), sym (lowest-pass f (p .Z) (l .z) (p .Z) (if1 .taken) (sym (c .before .any-above .ensures) ∙ c .if2 .left)) ∙ l .inv .1)
 

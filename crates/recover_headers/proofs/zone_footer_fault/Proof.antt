@@ -37,11 +37,10 @@ returns c =
     let a = c .before .before .before .before .before .before .before .args in
     let h = c .before .before .before .before .before .before .before .pre in
     let loop-test = c .before .before .loop-test in
-    let loop = c .before .before .before .loop in
+    let l = c .before .before .before .loop in
     let footers-stored = c .before .before .before .before .footers-stored in
     let q = zoneAt (viewOf (a .p) (a .image .now) (a .pointers .now)) (a .drive) (a .zone) in
     let f = footerOff (a .p) q in
-    let l = loop in
     sym (any-found f (l .i) (footers-stored .result) (loop-test .taken) (sym (c .before .footer-differs .ensures (a .pointers .now) (h .1 .0 .pointers-long)) ∙ c .if1 .taken)) ∙ l .inv .1
     ∙ ap (λ (x : ℕ). any f (below x)) (footers-stored .ensures .0 (a .image .now) (h .1 .0 .image-long))
     ∙ sym (footer-any (a .p) q (blocks-long (a .p) (mkDisk (a .image .now) (a .pointers .now)) (a .drive) (a .zone) (h .1 .1 .0) (h .1 .1 .1) (h .1 .0)))

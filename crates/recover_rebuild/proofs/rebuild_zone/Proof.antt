@@ -146,31 +146,21 @@ same-length-4 c = search needs
 
 returns-2 : tie.Need-returns-2
 returns-2 c =
-    let rebuild-data′ = c .before .before .before .before .rebuild-data in
-    let if1′ = c .before .before .before .before .before .before .before .if1 in
-    let put-header′ = c .before .before .before .before .before .before .before .before .before .before .before .before .put-header in
-    let zone-on′ = c .before .before .before .before .before .before .before .before .before .before .before .before .before .before .before .zone-on in
+    let rebuild-data = c .before .before .before .before .rebuild-data in
+    let if1 = c .before .before .before .before .before .before .before .if1 in
+    let put-header = c .before .before .before .before .before .before .before .before .before .before .before .before .put-header in
+    let zone-on = c .before .before .before .before .before .before .before .before .before .before .before .before .before .before .before .zone-on in
     let at = c .before .before .before .before .before .before .before .before .before .before .before .before .before .before .before .before .before in
-    let copied-on′ = c .before .before .before .before .before .before .before .before .before .before .before .before .before .before .before .before .before .before .copied-on in
-    let serial-on′ = c .before .before .before .before .before .before .before .before .before .before .before .before .before .before .before .before .before .before .before .before .serial-on in
-    let low-drive′′ =
+    let copied-on = c .before .before .before .before .before .before .before .before .before .before .before .before .before .before .before .before .before .before .copied-on in
+    let serial-on = c .before .before .before .before .before .before .before .before .before .before .before .before .before .before .before .before .before .before .before .before .serial-on in
+    let low-drive =
     c .before .before .before .before .before .before .before .before .before .before .before .before .before .before .before .before .before .before .before .before .before .before .low-drive in
-    let low-drive′ =
-    low-drive′′ in
     let a =
     at
     .before .before .before .before .before .before .before .before .args in
     let q =
     at
     .before .before .before .before .before .before .before .before .pre in
-    let rebuild-data = rebuild-data′ in
-    let if1 = if1′ in
-    let put-header = put-header′ in
-    let zone-on = zone-on′ in
-    let copied-on = copied-on′ in
-    let serial-on = serial-on′ in
-    let low-drive =
-    low-drive′ in
     let p = a .p in
     let r = ranged p (q .0) in
     let h = q .1 .1 .0 in

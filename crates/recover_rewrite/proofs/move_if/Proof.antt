@@ -1,3 +1,4 @@
+-- `move_if`: a stripe that does not count leaves all as it was (`step-none`); one that counts is moved once, and the next number is one higher (`step-one`). Assumes nothing.
 use Prim.Native.Nat.{ℕ, _+_}
 use Rattle.spec.specs.Drives.{mkDisk}
 use Rattle.spec.specs.Segments.{counts}

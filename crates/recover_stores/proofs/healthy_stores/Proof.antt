@@ -470,12 +470,8 @@ returns-5 c =
     let if1 = c .before .before .before .before .before .before .before .before .before .before .before .before .before .before .before .if1 in
     let drop-stores = c .before .before .before .before .before .before .before .before .before .before .before .before .before .before .before .before .before .before .drop-stores in
     let at = c .before .before .before .before .before .before .before .before .before .before .before .before .before .before .before .before .before in
-    let first-unsealed′′ =
-    c .before .before .before .before .before .before .before .before .before .before .before .before .before .before .before .before .before .before .before .before .first-unsealed in
-    let first-unsealed′ =
-    first-unsealed′′ in
     let first-unsealed =
-    first-unsealed′ in
+    c .before .before .before .before .before .before .before .before .before .before .before .before .before .before .before .before .before .before .before .before .first-unsealed in
     let entry =
     at
     .before .before .before .before .before .before .before .before .before in

@@ -29,29 +29,26 @@ any-lost-data-requires c κs = search needs
 returns : tie.Need-returns
 returns c =
     let a = c .before .before .before .before .before .args in
-    let pre = c .before .before .before .before .before .pre in
+    let h = c .before .before .before .before .before .pre in
     let p = a .p in
     let w = a .w in
-    let h = pre in
     λ ps sh rf ct. lost-none p (w .gone) (segmentIn p (a .image .now) ps w) (w .base + a .k)
     (sym (c .before .any-lost-data .ensures) ∙ not-true (c .before .any-lost-data .result) (c .if1 .taken))
 
 is-all-entered-requires : tie.Need-is-all-entered-requires
 is-all-entered-requires c κs =
     let a = c .before .before .before .before .before .args in
-    let pre = c .before .before .before .before .before .pre in
+    let h = c .before .before .before .before .before .pre in
     let p = a .p in
     let w = a .w in
-    let h = pre in
     (h .0, (h .1 .1, h .1 .3, omega (arith, group-len-le p (w .base), h .1 .4, ranged p (h .0) .group-high)))
 
 returns-2 : tie.Need-returns-2
 returns-2 c =
     let a = c .before .before .before .before .before .before .before .args in
-    let pre = c .before .before .before .before .before .before .before .pre in
+    let h = c .before .before .before .before .before .before .before .pre in
     let p = a .p in
     let w = a .w in
-    let h = pre in
     let i = c .before .is-all-entered in
     λ ps sh rf ct. absurd (not-both (i .result)
     (i .ensures .1 (counts-entered p (w .gone) (segmentIn p (a .image .now) ps w) (w .base) (a .at .now) (a .k) (sh .2 rf) (h .1 .4) ct))
@@ -60,10 +57,9 @@ returns-2 c =
 lost-rec-requires : tie.Need-lost-rec-requires
 lost-rec-requires c κs =
     let a = c .before .before .before .before .before .before .before .args in
-    let pre = c .before .before .before .before .before .before .before .pre in
+    let h = c .before .before .before .before .before .before .before .pre in
     let p = a .p in
     let w = a .w in
-    let h = pre in
     let i = c .before .is-all-entered in
     (h .0, (h .1, i .ensures .0 (not-false (i .result) (c .if2 .left))))
 
@@ -74,12 +70,10 @@ returns-3 : tie.Need-returns-3
 returns-3 c =
     let a = c .before .before .before .before .before .before .before .before .before .args in
     let if1 = c .before .before .before .before .if1 in
-    let any-lost-data = c .before .before .before .before .before .any-lost-data in
-    let pre = c .before .before .before .before .before .before .before .before .before .pre in
+    let y = c .before .before .before .before .before .any-lost-data in
+    let h = c .before .before .before .before .before .before .before .before .before .pre in
     let p = a .p in
     let w = a .w in
-    let h = pre in
-    let y = any-lost-data in
     λ ps sh rf ct.
     let g = segmentIn p (a .image .now) ps w in
     c .bad-rec .ensures ∙ lost-some p (w .gone) g (w .base + a .k) (recVal (c .before .lost-rec .result)) (sym (y .ensures) ∙ not-false (y .result) (if1 .left))

@@ -24,13 +24,11 @@ same-length c = search needs
 returns : tie.Need-returns
 returns c =
     let a = c .before .before .before .before .before .before .before .before .before .args in
-    let index-group = c .before .before .before .before .index-group in
-    let pre = c .before .before .before .before .before .before .before .before .before .pre in
+    let i = c .before .before .before .before .index-group in
+    let h = c .before .before .before .before .before .before .before .before .before .pre in
     let p = a .p in
     let w = a .w in
     let t = a .t in
-    let h = pre in
-    let i = index-group in
     let g = segmentIn p (a .image .now) (a .pointers .now) w in
     let n = w .base + groupLen p (w .base) in
     let f : groupFault p (w .gone) g (w .base) ≡ true = not-false (groupFault p (w .gone) g (w .base)) (sym (i .ensures .0) ∙ not-true (i .result) (c .before .if1 .taken)) in
@@ -45,13 +43,11 @@ returns c =
 survey-stripes-requires : tie.Need-survey-stripes-requires
 survey-stripes-requires c κs =
     let a = c .before .before .before .before .before .before .before .before .before .args in
-    let index-group = c .before .before .before .before .index-group in
-    let pre = c .before .before .before .before .before .before .before .before .before .pre in
+    let i = c .before .before .before .before .index-group in
+    let h = c .before .before .before .before .before .before .before .before .before .pre in
     let p = a .p in
     let w = a .w in
     let t = a .t in
-    let h = pre in
-    let i = index-group in
     let g = segmentIn p (a .image .now) (a .pointers .now) w in
     let n = w .base + groupLen p (w .base) in
     (h .0, ((h .1 .0 .image-long, i .kept .1 .1 .1 .1 .0 ∙ h .1 .1 .0 .0, h .1 .1 .0 .1, h .1 .1 .0 .2), h .1 .1 .1 .1))
@@ -63,13 +59,11 @@ returns-2 : tie.Need-returns-2
 returns-2 c =
     let a = c .before .before .before .before .before .before .before .before .before .before .args in
     let if1 = c .before .before .if1 in
-    let index-group = c .before .before .before .before .before .index-group in
-    let pre = c .before .before .before .before .before .before .before .before .before .before .pre in
+    let i = c .before .before .before .before .before .index-group in
+    let h = c .before .before .before .before .before .before .before .before .before .before .pre in
     let p = a .p in
     let w = a .w in
     let t = a .t in
-    let h = pre in
-    let i = index-group in
     let g = segmentIn p (a .image .now) (a .pointers .now) w in
     let n = w .base + groupLen p (w .base) in
     let y = c .survey-stripes in

@@ -43,11 +43,10 @@ loop-holds c =
 survey-group-requires : tie.Need-survey-group-requires Inv-loop μ-loop
 survey-group-requires c κs =
     let a = c .before .before .before .before .before .before .before .args in
-    let pre = c .before .before .before .before .before .before .before .pre in
+    let h = c .before .before .before .before .before .before .before .pre in
     let p = a .p in
     let v = viewOf p (a .image .now) (a .pointers .now) in
     let g = segmentOf p v (a .gone) (a .seg) in
-    let h = pre in
     let r = ranged p (h .0) in
     let l = c .before .before .before .loop in
     let k = c .before .if1 .taken in
@@ -56,44 +55,37 @@ survey-group-requires c κs =
 add-base : tie.Need-add-base Inv-loop μ-loop
 add-base c =
     let a = c .before .before .before .before .before .before .before .before .before .before .before .args in
-    let loop = c .before .before .before .before .before .before .before .loop in
-    let pre = c .before .before .before .before .before .before .before .before .before .before .before .pre in
+    let l = c .before .before .before .before .before .before .before .loop in
+    let h = c .before .before .before .before .before .before .before .before .before .before .before .pre in
     let p = a .p in
     let v = viewOf p (a .image .now) (a .pointers .now) in
     let g = segmentOf p v (a .gone) (a .seg) in
-    let h = pre in
     let r = ranged p (h .0) in
-    let l = loop in
     omega (arith, l .inv .1, r .stripes-high, r .group-high)
 
 loop-less : tie.Need-loop-less Inv-loop μ-loop
 loop-less c =
     let a = c .before .before .before .before .before .before .before .before .before .before .before .args in
     let if1 = c .before .before .before .before .before .if1 in
-    let loop = c .before .before .before .before .before .before .before .loop in
-    let pre = c .before .before .before .before .before .before .before .before .before .before .before .pre in
+    let l = c .before .before .before .before .before .before .before .loop in
+    let h = c .before .before .before .before .before .before .before .before .before .before .before .pre in
     let p = a .p in
     let v = viewOf p (a .image .now) (a .pointers .now) in
     let g = segmentOf p v (a .gone) (a .seg) in
-    let h = pre in
     let r = ranged p (h .0) in
-    let l = loop in
     omega (arith, if1 .taken, r .group-low)
 
 loop-again : tie.Need-loop-again Inv-loop μ-loop
 loop-again c =
     let a = c .before .before .before .before .before .before .before .before .before .before .before .args in
-    let survey-group = c .before .before .before .survey-group in
+    let y = c .before .before .before .survey-group in
     let if1 = c .before .before .before .before .before .if1 in
-    let loop = c .before .before .before .before .before .before .before .loop in
-    let pre = c .before .before .before .before .before .before .before .before .before .before .before .pre in
+    let l = c .before .before .before .before .before .before .before .loop in
+    let h = c .before .before .before .before .before .before .before .before .before .before .before .pre in
     let p = a .p in
     let v = viewOf p (a .image .now) (a .pointers .now) in
     let g = segmentOf p v (a .gone) (a .seg) in
-    let h = pre in
     let r = ranged p (h .0) in
-    let l = loop in
-    let y = survey-group in
     let k = if1 .taken in
     let m : min (l .base) (p .S) ≡ l .base = omega (arith, k) in
     let e : l .base + groupLen p (l .base) ≡ min (l .base + p .G) (p .S) = group-next p (l .base) k in (
@@ -109,22 +101,20 @@ loop-again c =
 same-length : tie.Need-same-length Inv-loop μ-loop
 same-length c =
     let a = c .before .before .before .before .before .before .args in
-    let pre = c .before .before .before .before .before .before .pre in
+    let h = c .before .before .before .before .before .before .pre in
     let p = a .p in
     let v = viewOf p (a .image .now) (a .pointers .now) in
     let g = segmentOf p v (a .gone) (a .seg) in
-    let h = pre in
     let r = ranged p (h .0) in
     c .before .before .loop .inv .0 ∙ sym (h .1 .1 .0)
 
 returns : tie.Need-returns Inv-loop μ-loop
 returns c =
     let a = c .before .before .before .before .before .before .args in
-    let pre = c .before .before .before .before .before .before .pre in
+    let h = c .before .before .before .before .before .before .pre in
     let p = a .p in
     let v = viewOf p (a .image .now) (a .pointers .now) in
     let g = segmentOf p v (a .gone) (a .seg) in
-    let h = pre in
     let r = ranged p (h .0) in
     let l = c .before .before .loop in
     let k : p .S ≤ l .base = omega (arith, c .if1 .left) in

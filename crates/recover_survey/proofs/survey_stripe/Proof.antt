@@ -30,11 +30,10 @@ counts-requires c κs =
 lost-bad-requires : tie.Need-lost-bad-requires
 lost-bad-requires c κs =
     let a = c .before .before .before .before .args in
-    let pre = c .before .before .before .before .pre in
+    let h = c .before .before .before .before .pre in
     let p = a .p in
     let w = a .w in
     let t = a .t in
-    let h = pre in
     (h .0, h .1 .0)
 
 bad-tally-requires : tie.Need-bad-tally-requires
@@ -43,16 +42,14 @@ bad-tally-requires c κs = search needs
 returns : tie.Need-returns
 returns c =
     let a = c .before .before .before .before .before .before .before .args in
-    let lost-bad = c .before .before .lost-bad in
+    let z = c .before .before .lost-bad in
     let if1 = c .before .before .before .if1 in
     let counts′ = c .before .before .before .before .counts in
-    let pre = c .before .before .before .before .before .before .before .pre in
+    let h = c .before .before .before .before .before .before .before .pre in
     let p = a .p in
     let w = a .w in
     let t = a .t in
-    let h = pre in
     let s = w .base + a .k in
-    let z = lost-bad in
     subst (λ (r : Tally). ((r .counted ≤ s + 1) × (r .loose ≤ s + 1) × (r .bad ≡ false → t .bad ≡ false))
     × ((ps : List ℕ) → Shown p (a .image .now) ps w (a .at .now) → Tallied p (w .gone) (segmentIn p (a .image .now) ps w) s t → Tallied p (w .gone) (segmentIn p (a .image .now) ps w) (s + 1) r))
     (sym (c .bad-tally .ensures)) (
@@ -65,33 +62,30 @@ returns c =
 add-t9 : tie.Need-add-t9
 add-t9 c =
     let a = c .before .before .before .before .before .before .before .args in
-    let pre = c .before .before .before .before .before .before .before .pre in
+    let h = c .before .before .before .before .before .before .before .pre in
     let p = a .p in
     let w = a .w in
     let t = a .t in
-    let h = pre in
     let r = ranged p (h .0) in
     omega (arith, r .stripes-high, r .group-high, group-len-le p (w .base), h .1 .0 .3, h .1 .0 .4, h .1 .1 .0, h .1 .1 .1)
 
 add-t10 : tie.Need-add-t10
 add-t10 c =
     let a = c .before .before .before .before .before .before .before .before .args in
-    let pre = c .before .before .before .before .before .before .before .before .pre in
+    let h = c .before .before .before .before .before .before .before .before .pre in
     let p = a .p in
     let w = a .w in
     let t = a .t in
-    let h = pre in
     let r = ranged p (h .0) in
     omega (arith, r .stripes-high, r .group-high, group-len-le p (w .base), h .1 .0 .3, h .1 .0 .4, h .1 .1 .0, h .1 .1 .1)
 
 add-t11 : tie.Need-add-t11
 add-t11 c =
     let a = c .before .before .before .before .before .before .before .before .args in
-    let pre = c .before .before .before .before .before .before .before .before .pre in
+    let h = c .before .before .before .before .before .before .before .before .pre in
     let p = a .p in
     let w = a .w in
     let t = a .t in
-    let h = pre in
     let r = ranged p (h .0) in
     omega (arith, r .stripes-high, r .group-high, group-len-le p (w .base), h .1 .0 .3, h .1 .0 .4, h .1 .1 .0, h .1 .1 .1)
 
@@ -102,11 +96,10 @@ returns-2 c =
     let lost-bad = c .before .before .before .lost-bad in
     let if1 = c .before .before .before .before .if1 in
     let counts′ = c .before .before .before .before .before .counts in
-    let pre = c .before .before .before .before .before .before .before .before .pre in
+    let h = c .before .before .before .before .before .before .before .before .pre in
     let p = a .p in
     let w = a .w in
     let t = a .t in
-    let h = pre in
     let s = w .base + a .k in
     let z = lost-bad in (
       (omega (arith, h .1 .1 .0), omega (arith, h .1 .1 .1), λ q. q),
@@ -118,11 +111,10 @@ returns-2 c =
 chunks-requires : tie.Need-chunks-requires
 chunks-requires c κs =
     let a = c .before .before .before .before .args in
-    let pre = c .before .before .before .before .pre in
+    let h = c .before .before .before .before .pre in
     let p = a .p in
     let w = a .w in
     let t = a .t in
-    let h = pre in
     (h .0, (h .1 .0 .1, omega (arith, group-len-le p (w .base), h .1 .0 .4, ranged p (h .0) .group-high)))
 
 returns-3 : tie.Need-returns-3
@@ -130,11 +122,10 @@ returns-3 c =
     let a = c .before .before .before .before .before .before .args in
     let if1 = c .before .before .if1 in
     let counts′ = c .before .before .before .counts in
-    let pre = c .before .before .before .before .before .before .pre in
+    let h = c .before .before .before .before .before .before .pre in
     let p = a .p in
     let w = a .w in
     let t = a .t in
-    let h = pre in
     let s = w .base + a .k in
     let x = c .before .chunks in (
       (omega (arith, h .1 .1 .0), omega (arith, h .1 .1 .1), λ q. q),
@@ -149,11 +140,10 @@ returns-3 c =
 add-t12 : tie.Need-add-t12
 add-t12 c =
     let a = c .before .before .before .before .before .before .before .args in
-    let pre = c .before .before .before .before .before .before .before .pre in
+    let h = c .before .before .before .before .before .before .before .pre in
     let p = a .p in
     let w = a .w in
     let t = a .t in
-    let h = pre in
     let r = ranged p (h .0) in
     omega (arith, r .stripes-high, r .group-high, group-len-le p (w .base), h .1 .0 .3, h .1 .0 .4, h .1 .1 .0, h .1 .1 .1)
 
@@ -163,11 +153,10 @@ returns-4 c =
     let chunks = c .before .before .chunks in
     let if1 = c .before .before .before .if1 in
     let counts′ = c .before .before .before .before .counts in
-    let pre = c .before .before .before .before .before .before .before .pre in
+    let h = c .before .before .before .before .before .before .before .pre in
     let p = a .p in
     let w = a .w in
     let t = a .t in
-    let h = pre in
     let s = w .base + a .k in
     let x = chunks in (
       (omega (arith, h .1 .1 .0), omega (arith, h .1 .1 .1), λ q. q),

@@ -42,10 +42,9 @@ loop-holds c =
 survey-stripe-requires : tie.Need-survey-stripe-requires Inv-loop μ-loop
 survey-stripe-requires c κs =
     let a = c .before .before .before .before .before .args in
-    let pre = c .before .before .before .before .before .pre in
+    let h = c .before .before .before .before .before .pre in
     let p = a .p in
     let w = a .w in
-    let h = pre in
     let l = c .before .loop in
     let e : l .k < groupLen p (w .base) = subst (λ (x : ℕ). l .k < x) (c .before .before .group-len .ensures .0) (c .loop-test .taken) in
     (h .0, ((h .1 .0 .0, h .1 .0 .1, h .1 .0 .2, h .1 .0 .3, e), (l .inv .1, l .inv .2)))
@@ -61,10 +60,9 @@ loop-less c =
 loop-again : tie.Need-loop-again Inv-loop μ-loop
 loop-again c =
     let a = c .before .before .before .before .before .before .args in
-    let pre = c .before .before .before .before .before .before .pre in
+    let h = c .before .before .before .before .before .before .pre in
     let p = a .p in
     let w = a .w in
-    let h = pre in
     let l = c .before .before .loop in
     let y = c .survey-stripe in
     let e : w .base + l .k + 1 ≡ w .base + (l .k + 1) = add-assoc (w .base) (l .k) 1 in (
@@ -79,10 +77,9 @@ returns : tie.Need-returns Inv-loop μ-loop
 returns c =
     let a = c .before .before .before .before .before .args in
     let group-len = c .before .before .group-len in
-    let pre = c .before .before .before .before .before .pre in
+    let h = c .before .before .before .before .before .pre in
     let p = a .p in
     let w = a .w in
-    let h = pre in
     let l = c .before .loop in
     let e : l .k ≡ groupLen p (w .base) = let f : l .k ≤ group-len .result = l .inv .0 in omega (arith, f, c .loop-test .left, group-len .ensures .0) in (
       (subst (λ (x : ℕ). l .next .counted ≤ w .base + x) e (l .inv .1), subst (λ (x : ℕ). l .next .loose ≤ w .base + x) e (l .inv .2), l .inv .3),
