@@ -40,7 +40,7 @@ use Rattle.call_land_chunk.specs.Alone.{alone, markRow, freeRow, row-filled, ro
 use Rattle.call_land_table.specs.Winners.{Sane, Sound}
 use Rattle.call_land.specs.declared.Look.{Look}
 use Rattle.call_land.specs.Marked.{changeTo, row-marked, changed-marked, changed-freed}
-use Rattle.proof_tables.specs.Outcomes.{refusal-kind}
+use Rattle.law_drives.specs.Checks.{refusal-kind}
 use Rattle.call_write.specs.Ends.{cut-memory}
 use Rattle.call_land.specs.Plan.{Looks, sealsOf, tableOf, Completing, Complete, same-filled, same-writes, landedState, shownTable, plan-part, plan-whole}
 

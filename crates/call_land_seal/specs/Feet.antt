@@ -23,8 +23,8 @@ use Rattle.law_views.specs.Views.{Whole, pointer-view, blocks-long, spare-view,
 use Rattle.disk_records.specs.Header.{zero-spare-long}
 use Rattle.disk_zones.specs.declared.Made.{Made}
 use Rattle.disk_zones.specs.Made.{Storing, storing-all, storing-stop, storing-join, storing-none, put-pointers}
-use Rattle.proof_tables.specs.Laid.{Long, in-take, in-drop, length-footer}
-use Rattle.proof_tables.specs.Members.{map-in, getD-in}
+use Rattle.law_drives.specs.Laid.{Long, in-take, in-drop, length-footer}
+use Rattle.law_drives.specs.Members.{map-in, getD-in}
 
 -- ---- blocks in a row into one zone
 

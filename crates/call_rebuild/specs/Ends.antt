@@ -23,14 +23,14 @@ use Rattle.law_views.specs.Views.{AllFit, seen}
 use Rattle.mem_calls.specs.declared.Done.{Done}
 use Rattle.mem_calls.specs.Left.{after}
 use Rattle.law_calls.specs.Refusals.{zones-pass, none-left, call-refused, call-done, call-cut}
-use Rattle.proof_tables.specs.Accept.{Accepted, faults-apart}
+use Rattle.law_drives.specs.Accept.{Accepted, faults-apart}
+use Rattle.law_drives.specs.Image.{sized-of, shaped-of}
+use Rattle.law_drives.specs.Lengths.{lengths-of, whole-of}
+use Rattle.law_drives.specs.Masks.{named-in}
+use Rattle.law_drives.specs.Members.{In, in-keep, in-below}
+use Rattle.law_drives.specs.Rebuilding.{rebuild-roomy, rebuild-within}
+use Rattle.law_drives.specs.Zones.{all-fit}
 use Rattle.recover_segments.specs.Remains.{Keeps, remains}
-use Rattle.proof_tables.specs.Idle.{lengths-of, whole-of}
-use Rattle.proof_tables.specs.Image.{sized-of, shaped-of}
-use Rattle.proof_tables.specs.Losing.{named-in}
-use Rattle.proof_tables.specs.Members.{In, in-keep, in-below}
-use Rattle.proof_tables.specs.Rebuilding.{rebuild-roomy, rebuild-within}
-use Rattle.proof_tables.specs.Zones.{all-fit}
 use Rattle.disk_zones.specs.declared.Made.{Made}
 use Rattle.disk_zones.specs.Made.{Storing, storing-cut, storing-done}
 use Rattle.recover_groups.specs.Faulty.{no-recs-fault}

@@ -23,7 +23,7 @@ use Rattle.spec.specs.Segments.{segments}
 use Rattle.law_basic.specs.Ranges.{and-left, and-right}
 use Rattle.law_views.specs.Views.{seen}
 use Rattle.law_calls.specs.Refusals.{rule-fails, rule-passes, zones-pass, none-left, rule-free, zones-free}
-use Rattle.proof_tables.specs.Tests.{or-left, or-right}
+use Rattle.law_drives.specs.Tests.{or-left, or-right}
 use Rattle.recover_headers.specs.Lowest.{low-none, low-named}
 
 -- 01, Refusals, 1: the parameters, and the drive that the last restart named missing

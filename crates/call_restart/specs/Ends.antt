@@ -28,12 +28,12 @@ use Rattle.call_restart.specs.declared.Taken.{Taken}
 use Rattle.law_restart.specs.Frames.{seen-after, whole-after}
 use Rattle.law_restart.specs.Settled.{AllGood, accepted-fine, settled}
 use Rattle.law_restart.specs.Stripes.{badData}
-use Rattle.proof_tables.specs.Accept.{Accepted}
-use Rattle.proof_tables.specs.Joins.{stores-none}
-use Rattle.proof_tables.specs.Members.{map-in, in-none}
-use Rattle.proof_tables.specs.Tests.{or-neither}
-use Rattle.proof_tables.specs.Unsealed.{loose}
-use Rattle.proof_tables.specs.Zones.{Shaped}
+use Rattle.law_drives.specs.Accept.{Accepted}
+use Rattle.law_drives.specs.Joins.{stores-none}
+use Rattle.law_drives.specs.Members.{map-in, in-none}
+use Rattle.law_drives.specs.Tests.{or-neither}
+use Rattle.law_drives.specs.Unsealed.{loose}
+use Rattle.law_drives.specs.Zones.{Shaped}
 use Rattle.law_views.specs.Views.{Whole, AllFit, seen}
 use Rattle.disk_zones.specs.Made.{madeOf, Storing, storing-all}
 use Rattle.disk_zones.specs.declared.Made.{Made}

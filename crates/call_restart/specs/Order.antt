@@ -19,8 +19,8 @@ use Rattle.recover_check.specs.declared.Exam.{Exam}
 use Rattle.recover_headers.specs.Lowest.{low-none, low-named, low-le}
 use Rattle.law_basic.specs.Ranges.{and-both}
 use Rattle.law_calls.specs.Refusals.{none-left, rule-fails, rule-passes, zones-pass, rule-free, zones-free}
-use Rattle.proof_tables.specs.Members.{In, keep-in, below-in}
-use Rattle.proof_tables.specs.Tests.{and-false-right, or-left, or-right}
+use Rattle.law_drives.specs.Members.{In, keep-in, below-in}
+use Rattle.law_drives.specs.Tests.{and-false-right, or-left, or-right}
 use borrow.Author.Tests.{lt-ltb, le-ltb, eq-eqb, ne-eqb, not-false}
 use lib.Dec.{ltb, eqb}
 use mathlib.Core.Bool.{Bool, true, false, cond, not, _&&_, _||_}

@@ -10,14 +10,14 @@ use Rattle.spec.specs.Segments.{recordsIn}
 use Rattle.spec.specs.declared.Params.{Params}
 use Rattle.law_basic.specs.Geometry.{Ranged, per-footer-low, footers-cover}
 use Rattle.law_basic.specs.Ranges.{and-left, and-right, length-upFrom, getD-upFrom, getD-map, sameList-true}
-use Rattle.proof_tables.specs.Bounds.{blocks-at}
-use Rattle.proof_tables.specs.Laid.{getD-footer}
-use Rattle.proof_tables.specs.Members.{map-cong, below-in}
-use Rattle.proof_tables.specs.Puts.{putAll, puts-pointer, puts-old, puts-new}
-use Rattle.proof_tables.specs.Range.{capacity-is}
-use Rattle.proof_tables.specs.Sealing.{sparesIn, footerChunks, spares-long, spares-count, spare-at, footers-count, footer-chunk}
-use Rattle.proof_tables.specs.Tests.{false-true}
-use Rattle.proof_tables.specs.Zones.{ZoneOk}
+use Rattle.law_drives.specs.Footers.{sparesIn, footerChunks, spares-long, spares-count, spare-at, footers-count, footer-chunk}
+use Rattle.law_drives.specs.Laid.{getD-footer}
+use Rattle.law_drives.specs.Members.{map-cong, below-in}
+use Rattle.law_drives.specs.Puts.{putAll, puts-pointer, puts-old, puts-new}
+use Rattle.law_drives.specs.Range.{capacity-is}
+use Rattle.law_drives.specs.Records.{blocks-at}
+use Rattle.law_drives.specs.Tests.{false-true}
+use Rattle.law_drives.specs.Zones.{ZoneOk}
 use borrow.Author.Tests.{not-false}
 use lib.ListN.{getD, take, drop}
 use lib.Seq.{getD-take, getD-drop}

@@ -3,9 +3,9 @@ use Prim.Native.Nat.{ℕ, _<_}
 use Rattle.spec.specs.Drives.{Zone, View, zoneAt, Store, storeView, Disk, storeDisk, storeAll}
 use Rattle.spec.specs.declared.Params.{Params}
 use Rattle.law_basic.specs.Geometry.{Ranged}
-use Rattle.proof_tables.specs.Image.{sized-of}
-use Rattle.proof_tables.specs.Range.{capacity-word}
-use Rattle.proof_tables.specs.Zones.{zoneStore, hits, zone-after}
+use Rattle.law_drives.specs.Image.{sized-of}
+use Rattle.law_drives.specs.Range.{capacity-word}
+use Rattle.law_drives.specs.Zones.{zoneStore, hits, zone-after}
 use Rattle.law_views.specs.Views.{Whole, AllFit, seen, view-stores, whole-stores}
 use mathlib.Core.List.{List, [], _∷_, _++_}
 use mathlib.Core.Path.{_≡_, refl, sym, ap, _∙_, subst}

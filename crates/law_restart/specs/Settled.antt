@@ -17,24 +17,24 @@ use Rattle.law_basic.specs.Ranges.Test.{yes!, no! }
 use Rattle.law_basic.specs.Stores.{storeAll-append}
 use Rattle.law_restart.specs.Feet.{footer-records}
 use Rattle.law_restart.specs.Stripes.{fault-none, in-order, badData, data-none, bad-none, none-bad, zone-good, good-at, moved-good, parity-good}
-use Rattle.proof_tables.specs.Accept.{Accepted, faults-apart, zone-stripes}
-use Rattle.proof_tables.specs.Dropping.{free-are, drop-same, drop-roomy, drop-within, drop-used}
-use Rattle.proof_tables.specs.Joins.{roomy-append, within-append, stores-none}
-use Rattle.proof_tables.specs.Laid.{record-back, address-low, stamp-low}
-use Rattle.proof_tables.specs.Members.{In, keep-in, in-all, none-in, in-any, below-in, first-in}
-use Rattle.proof_tables.specs.Mending.{Mended, has-pointer, b-zone, b-other, b-pointer}
-use Rattle.proof_tables.specs.Range.{capacity-over}
-use Rattle.proof_tables.specs.Reads.{counts-in}
-use Rattle.proof_tables.specs.Rebuilding.{counted-low, counted-in}
-use Rattle.proof_tables.specs.Restarting.{mended, serials-small}
-use Rattle.proof_tables.specs.Rewriting.{moved-data, same-else, new-stripe, new-record, open-now, under!, was! }
-use Rattle.proof_tables.specs.Run.{usedAt}
-use Rattle.proof_tables.specs.Segs.{present-in, data-low, zone-by, full-is, chunk-at}
-use Rattle.proof_tables.specs.Settled.{present-all, remains-is-used, SameZones, zones-used, zones-segment}
-use Rattle.proof_tables.specs.Tables.{remains, in-remaining}
-use Rattle.proof_tables.specs.Unsealed.{Loose, loose}
-use Rattle.proof_tables.specs.Unsealed.Loose.{loose-none, loose-one}
-use Rattle.proof_tables.specs.Zones.{Bytes, Shaped, all-fit}
+use Rattle.law_drives.specs.Accept.{Accepted, faults-apart, zone-stripes}
+use Rattle.law_drives.specs.Dropping.{free-are, drop-same, drop-roomy, drop-within, drop-used}
+use Rattle.law_drives.specs.Joins.{roomy-append, within-append, stores-none}
+use Rattle.law_drives.specs.Laid.{record-back, address-low, stamp-low}
+use Rattle.law_drives.specs.Members.{In, keep-in, in-all, none-in, in-any, below-in, first-in}
+use Rattle.law_drives.specs.Mended.{mended, serials-small}
+use Rattle.law_drives.specs.Mending.{Mended, has-pointer, b-zone, b-other, b-pointer}
+use Rattle.law_drives.specs.Range.{capacity-over}
+use Rattle.law_drives.specs.Rebuilding.{counted-low, counted-in}
+use Rattle.law_drives.specs.Rewriting.{moved-data, same-else, new-stripe, new-record, open-now, under!, was! }
+use Rattle.law_drives.specs.Segs.{present-in, data-low, zone-by, full-is, chunk-at}
+use Rattle.law_drives.specs.Settled.{present-all, remains-is-used, SameZones, zones-used, zones-segment}
+use Rattle.law_drives.specs.Spots.{counts-in}
+use Rattle.law_drives.specs.Tables.{remains, in-remaining}
+use Rattle.law_drives.specs.Tidy.{usedAt}
+use Rattle.law_drives.specs.Unsealed.{Loose, loose}
+use Rattle.law_drives.specs.Unsealed.Loose.{loose-none, loose-one}
+use Rattle.law_drives.specs.Zones.{Bytes, Shaped, all-fit}
 use Rattle.law_views.specs.Views.{AllFit}
 use borrow.Author.Tests.{eq-eqb, eqb-false, not-true}
 use lib.Dec.{eqb}

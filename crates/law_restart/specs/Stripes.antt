@@ -9,9 +9,9 @@ use Rattle.spec.specs.Params.{present, absent}
 use Rattle.spec.specs.Segments.{Segment, recordsIn, segmentOf, recsOn, counted}
 use Rattle.spec.specs.declared.Params.{Params}
 use Rattle.law_basic.specs.Ranges.{and-both}
-use Rattle.proof_tables.specs.Members.{none-in, in-none, in-getD, getD-in}
-use Rattle.proof_tables.specs.Segs.{present-in, in-present, length-records, record-at, data-low, recs-here}
-use Rattle.proof_tables.specs.Tests.{and-false-left, and-false-right, or-left, or-neither, eqb-self}
+use Rattle.law_drives.specs.Members.{none-in, in-none, in-getD, getD-in}
+use Rattle.law_drives.specs.Segs.{present-in, in-present, length-records, record-at, data-low, recs-here}
+use Rattle.law_drives.specs.Tests.{and-false-left, and-false-right, or-left, or-neither, eqb-self}
 use borrow.Author.Tests.{lt-ltb, ne-eqb}
 use lib.Dec.{leb, ltb, eqb}
 use lib.ListN.{length, getD}

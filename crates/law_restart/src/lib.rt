@@ -10,8 +10,8 @@ ghost use Rattle.spec.specs.Params.{inRange};
 ghost use Rattle.spec.specs.Restart.{freeZones, rewrites};
 ghost use Rattle.spec.specs.Segments.{segments, greatestSerial};
 ghost use Rattle.law_restart.specs.Settled.{Settled};
-ghost use Rattle.proof_tables.specs.Accept.{Accepted};
-ghost use Rattle.proof_tables.specs.Zones.{Shaped};
+ghost use Rattle.law_drives.specs.Accept.{Accepted};
+ghost use Rattle.law_drives.specs.Zones.{Shaped};
 
 // Where no check of a restart holds and no drive is missing, its stores fit, and behind them no remaining segment has a bad stripe number or a bad data address.
 pub fn settles()

@@ -24,7 +24,7 @@ use Rattle.spec.specs.Memory.{Memory, idleState, zeroState, stateSections, sect
 use Rattle.law_basic.specs.Stores.{refused-same, done-all, cut-prefix}
 use Rattle.spec_demands.specs.Answering.{resultsOf, canStore, refusalsOf, refusalNumber, Answers, withCount, cutLeft, Due, Answered, Demand1}
 use Rattle.spec_demands.specs.Answering.Answers.{result, cut, refusal}
-use Rattle.proof_tables.specs.Tests.{clash}
+use Rattle.law_drives.specs.Tests.{clash}
 use Rattle.law_views.specs.Views.{seen}
 use Rattle.proof_answers.specs.Verdicts.{Says, says, counted-on, own-count, result-high}
 use Rattle.proof_answers.specs.Verdicts.Says.{says-no, says-yes}

@@ -21,14 +21,14 @@ use Rattle.law_basic.specs.Mask.{isIn-empty}
 use Rattle.law_basic.specs.Ranges.{Test, test, length-upFrom, length-below}
 use Rattle.law_basic.specs.Ranges.Test.{yes!, no! }
 use Rattle.law_basic.specs.Splice.{length-part}
-use Rattle.proof_tables.specs.Laid.{length-header, length-zeroSpare, length-record, Long, in-take, in-drop, length-footer}
-use Rattle.proof_tables.specs.Members.{In, map-in, below-in, in-getD, getD-in}
-use Rattle.proof_tables.specs.Puts.{putAt}
-use Rattle.proof_tables.specs.Range.{capacity-over}
-use Rattle.proof_tables.specs.Reads.{counts-in}
-use Rattle.proof_tables.specs.Rebuilding.{parity-length}
-use Rattle.proof_tables.specs.Sealing.{sparesIn, footerChunks, footer-puts}
-use Rattle.proof_tables.specs.Segs.{present-in, data-low, zone-by, chunk-at}
+use Rattle.law_drives.specs.Footers.{sparesIn, footerChunks, footer-puts}
+use Rattle.law_drives.specs.Laid.{length-header, length-zeroSpare, length-record, Long, in-take, in-drop, length-footer}
+use Rattle.law_drives.specs.Members.{In, map-in, below-in, in-getD, getD-in}
+use Rattle.law_drives.specs.Puts.{putAt}
+use Rattle.law_drives.specs.Range.{capacity-over}
+use Rattle.law_drives.specs.Rebuilding.{parity-length}
+use Rattle.law_drives.specs.Segs.{present-in, data-low, zone-by, chunk-at}
+use Rattle.law_drives.specs.Spots.{counts-in}
 use Rattle.law_views.specs.Views.{Whole, blocks-long, block-view, spare-view, seen}
 use Rattle.proof_answers.specs.Rising.{Proper}
 

@@ -22,16 +22,15 @@ use Rattle.law_basic.specs.Geometry.{Ranged}
 use Rattle.law_basic.specs.Mask.{isIn-only}
 use Rattle.law_basic.specs.Ranges.{Test, test, length-below}
 use Rattle.law_basic.specs.Ranges.Test.{yes!, no! }
-use Rattle.proof_tables.specs.Laid.{length-record, Long}
-use Rattle.proof_tables.specs.Members.{In, in-append, map-in, flat-in, flat-cong, keep-nothing, keep-all, flat-nothing, keep-map, flat-map, below-in}
-use Rattle.proof_tables.specs.Puts.{hits-append, hits-flat, keep-one-below, flat-one}
-use Rattle.proof_tables.specs.Range.{capacity-is}
-use Rattle.proof_tables.specs.Reading.{nil-append}
-use Rattle.proof_tables.specs.Rebuilding.{counted-low, counted-in}
-use Rattle.proof_tables.specs.Segs.{remaining-low, seg-is}
-use Rattle.proof_tables.specs.Tables.{remains, remaining-is}
-use Rattle.proof_tables.specs.Tests.{and-false-left, cond-false, eqb-self}
-use Rattle.proof_tables.specs.Zones.{hitsAt, hits}
+use Rattle.law_drives.specs.Laid.{length-record, Long}
+use Rattle.law_drives.specs.Members.{In, in-append, map-in, flat-in, flat-cong, keep-nothing, keep-all, flat-nothing, keep-map, flat-map, below-in, nil-append}
+use Rattle.law_drives.specs.Puts.{hits-append, hits-flat, keep-one-below, flat-one}
+use Rattle.law_drives.specs.Range.{capacity-is}
+use Rattle.law_drives.specs.Rebuilding.{counted-low, counted-in}
+use Rattle.law_drives.specs.Segs.{remaining-low, seg-is}
+use Rattle.law_drives.specs.Tables.{remains, remaining-is}
+use Rattle.law_drives.specs.Tests.{and-false-left, cond-false, eqb-self}
+use Rattle.law_drives.specs.Zones.{hitsAt, hits}
 use Rattle.proof_answers.specs.Lengths.{Fair, header-proper, footer-proper, decoded-long, piece-proper}
 use Rattle.proof_answers.specs.Rising.{Rises, rises-few, Proper, Able}
 

@@ -22,15 +22,15 @@ use Rattle.law_basic.specs.Geometry.{Ranged}
 use Rattle.law_basic.specs.Mask.{isIn-empty}
 use Rattle.law_basic.specs.Ranges.{Test, test, and-both, flat-none, flat-cons}
 use Rattle.law_basic.specs.Ranges.Test.{yes!, no! }
-use Rattle.proof_tables.specs.Accept.{Accepted, pointer-ok, faults-apart}
-use Rattle.proof_tables.specs.Members.{In, in-append, map-in, flat-in, keep-in, in-any, flat-cong, below-in, first-in}
-use Rattle.proof_tables.specs.Puts.{hits-append, hits-flat, putAt, hits-drives, hits-resets, hits-headers, flat-one}
-use Rattle.proof_tables.specs.Range.{capacity-is, capacity-over}
-use Rattle.proof_tables.specs.Rebuilding.{counted-low, counted-in}
-use Rattle.proof_tables.specs.Sealing.{hits-each, footerChunks, footer-puts}
-use Rattle.proof_tables.specs.Segs.{remaining-low, zone-by, seg-is}
-use Rattle.proof_tables.specs.Tests.{clash, cond-true, cond-false, cond-same}
-use Rattle.proof_tables.specs.Zones.{hitsAt, hits}
+use Rattle.law_drives.specs.Accept.{Accepted, pointer-ok, faults-apart}
+use Rattle.law_drives.specs.Footers.{hits-each, footerChunks, footer-puts}
+use Rattle.law_drives.specs.Members.{In, in-append, map-in, flat-in, keep-in, in-any, flat-cong, below-in, first-in}
+use Rattle.law_drives.specs.Puts.{hits-append, hits-flat, putAt, hits-drives, hits-resets, hits-headers, flat-one}
+use Rattle.law_drives.specs.Range.{capacity-is, capacity-over}
+use Rattle.law_drives.specs.Rebuilding.{counted-low, counted-in}
+use Rattle.law_drives.specs.Segs.{remaining-low, zone-by, seg-is}
+use Rattle.law_drives.specs.Tests.{clash, cond-true, cond-false, cond-same}
+use Rattle.law_drives.specs.Zones.{hitsAt, hits}
 use Rattle.proof_answers.specs.Lengths.{Fair, headers-proper, resets-proper, footers-proper, footers-count, moved-long, piece-proper}
 use Rattle.proof_answers.specs.Rising.{Rises, rises-few, Proper, Able}
 

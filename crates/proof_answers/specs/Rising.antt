@@ -15,9 +15,9 @@ use Rattle.spec.specs.Params.{spareLen, capacity}
 use Rattle.law_basic.specs.Ranges.{Test, test, and-both}
 use Rattle.law_basic.specs.Ranges.Test.{yes!, no! }
 use Rattle.spec_demands.specs.Rules.{Obeys, ObeyAll}
-use Rattle.proof_tables.specs.Members.{In}
-use Rattle.proof_tables.specs.Tests.{cond-true, cond-false, eqb-self}
-use Rattle.proof_tables.specs.Zones.{Sized, hitsAt, zoneStore, hits, sized-store, zone-stored, put-pointer, reset-pointer}
+use Rattle.law_drives.specs.Members.{In}
+use Rattle.law_drives.specs.Tests.{cond-true, cond-false, eqb-self}
+use Rattle.law_drives.specs.Zones.{Sized, hitsAt, zoneStore, hits, sized-store, zone-stored, put-pointer, reset-pointer}
 use Rattle.law_views.specs.Views.{Whole, pointer-view, Fits, AllFit, seen, view-store, whole-store}
 
 -- ---- one zone

@@ -32,15 +32,15 @@ use Rattle.law_basic.specs.Ranges.{Test, test, and-left}
 use Rattle.law_basic.specs.Ranges.Test.{yes!, no! }
 use Rattle.spec_demands.specs.Answering.{canStore, withCount, cutLeft}
 use Rattle.spec_demands.specs.Rules.{ObeyAll, ZoneRules}
-use Rattle.proof_tables.specs.Accept.{Accepted, accepted-of}
-use Rattle.proof_tables.specs.Checks.{Passes, Decided, decide}
-use Rattle.proof_tables.specs.Checks.Decided.{stops, goes}
-use Rattle.proof_tables.specs.Idle.{lengths-of, whole-of}
-use Rattle.proof_tables.specs.Image.{sized-of}
-use Rattle.proof_tables.specs.Range.{capacity-word}
+use Rattle.law_drives.specs.Accept.{Accepted, accepted-of}
+use Rattle.law_drives.specs.Checks.{Passes, Decided, decide}
+use Rattle.law_drives.specs.Checks.Decided.{stops, goes}
+use Rattle.law_drives.specs.Image.{sized-of}
+use Rattle.law_drives.specs.Lengths.{lengths-of, whole-of}
+use Rattle.law_drives.specs.Range.{capacity-word}
+use Rattle.law_drives.specs.Tests.{clash, or-left, or-right}
+use Rattle.law_drives.specs.Zones.{Sized}
 use Rattle.proof_tables.specs.Reclaiming.{taken}
-use Rattle.proof_tables.specs.Tests.{clash, or-left, or-right}
-use Rattle.proof_tables.specs.Zones.{Sized}
 use Rattle.law_views.specs.Views.{Whole, seen}
 use Rattle.proof_answers.specs.Answered.{dueOf, long, decidedBy, due-stores}
 use Rattle.proof_answers.specs.Lengths.{Fair, fair-of}

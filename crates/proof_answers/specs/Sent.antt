@@ -23,13 +23,13 @@ use Rattle.law_basic.specs.Geometry.{Ranged, between-low, between-high, slot-wi
 use Rattle.law_basic.specs.Ranges.{Test, test, and-left, and-right, and-both}
 use Rattle.law_basic.specs.Ranges.Test.{yes!, no! }
 use Rattle.law_basic.specs.Splice.{length-part}
-use Rattle.proof_tables.specs.Laid.{length-record}
-use Rattle.proof_tables.specs.Members.{In, flat-in, keep-in, all-in, none-in, flat-cong, in-below, below-in, first-in}
-use Rattle.proof_tables.specs.Puts.{putAt, hits-resets, hits-headers}
-use Rattle.proof_tables.specs.Range.{capacity-over}
-use Rattle.proof_tables.specs.Sealing.{hits-each, footerChunks, footer-puts}
-use Rattle.proof_tables.specs.Tests.{false-true, and-false-left, and-false-right, cond-true, cond-false, eqb-self}
-use Rattle.proof_tables.specs.Zones.{Sized, hitsAt, zoneStore, hits, zone-stored}
+use Rattle.law_drives.specs.Footers.{hits-each, footerChunks, footer-puts}
+use Rattle.law_drives.specs.Laid.{length-record}
+use Rattle.law_drives.specs.Members.{In, flat-in, keep-in, all-in, none-in, flat-cong, in-below, below-in, first-in}
+use Rattle.law_drives.specs.Puts.{putAt, hits-resets, hits-headers}
+use Rattle.law_drives.specs.Range.{capacity-over}
+use Rattle.law_drives.specs.Tests.{false-true, and-false-left, and-false-right, cond-true, cond-false, eqb-self}
+use Rattle.law_drives.specs.Zones.{Sized, hitsAt, zoneStore, hits, zone-stored}
 use Rattle.proof_answers.specs.Lengths.{Fair, put-fair, headers-proper, resets-proper, footers-proper, footers-count}
 use Rattle.proof_answers.specs.Rising.{Rises, rises-few, Proper, Able, able-none}
 

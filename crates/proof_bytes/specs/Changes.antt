@@ -11,7 +11,7 @@ use Rattle.spec.specs.declared.State.{State}
 use Rattle.spec.specs.Lists.{only}
 use Rattle.spec.specs.Memory.{stateSections, cell, idleState, zeroState, filledIn, landedIn, setStamp, setOpen, setClosed, beginStripe, addEntry, landedMask, markLanded, freeStripe}
 use Rattle.law_basic.specs.Mask.{only-lt}
-use Rattle.proof_tables.specs.Tables.{zero-at}
+use Rattle.law_drives.specs.Tables.{zero-at}
 use Rattle.proof_bytes.specs.Sections.{limit, limit-pos, Fill, Fits}
 
 -- ---- lists of numbers

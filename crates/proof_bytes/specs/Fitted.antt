@@ -29,11 +29,11 @@ use Rattle.law_basic.specs.Mask.{only-lt}
 use Rattle.law_basic.specs.Ranges.{Test, test, and-left, length-below, length-keep}
 use Rattle.law_basic.specs.Ranges.Test.{yes!, no! }
 use Rattle.law_calls.specs.Refusals.{state-free}
-use Rattle.proof_tables.specs.Checks.{Passes}
+use Rattle.law_drives.specs.Checks.{Passes}
+use Rattle.law_drives.specs.Members.{In, map-in, keep-in, below-in, first-in}
+use Rattle.law_drives.specs.Segs.{remaining-low, seg-is}
+use Rattle.law_drives.specs.Tests.{clash, or-left, or-right}
 use Rattle.proof_tables.specs.Idle.{StateOk, state-of}
-use Rattle.proof_tables.specs.Members.{In, map-in, keep-in, below-in, first-in}
-use Rattle.proof_tables.specs.Segs.{remaining-low, seg-is}
-use Rattle.proof_tables.specs.Tests.{clash, or-left, or-right}
 use Rattle.proof_bytes.specs.Sections.{limit, limit-pos, Fits}
 use Rattle.proof_bytes.specs.Changes.{low-set, set-le, fits-stamp, fits-open, fits-closed, fits-begin, fits-add, fits-mark, fits-free, fits-idle}
 use Rattle.proof_bytes.specs.Reads.{Reads, stamps-low, serials-low}

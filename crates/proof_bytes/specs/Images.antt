@@ -13,10 +13,10 @@ use Rattle.spec.specs.Drives.{pointerOf}
 use Rattle.spec.specs.Drives.Store.{put, reset}
 use Rattle.spec.specs.Lists.{flat, pieces, zipped}
 use Rattle.spec.specs.Params.{capacity, unitLen, zoneLen, driveLen, placeOf, placeByte}
-use Rattle.proof_tables.specs.Image.{bytes-take, bytes-drop}
-use Rattle.proof_tables.specs.Laid.{bytes-nil, bytes-append, bytes-zeros}
-use Rattle.proof_tables.specs.Members.{In, map-in, flat-in, in-append}
-use Rattle.proof_tables.specs.Zones.{Bytes}
+use Rattle.law_drives.specs.Image.{bytes-take, bytes-drop}
+use Rattle.law_drives.specs.Laid.{bytes-nil, bytes-append, bytes-zeros}
+use Rattle.law_drives.specs.Members.{In, map-in, flat-in, in-append}
+use Rattle.law_drives.specs.Zones.{Bytes}
 use Rattle.proof_bytes.specs.Reads.{Grounded}
 
 -- ---- lists of bytes

@@ -30,13 +30,13 @@ use Rattle.law_views.specs.Views.{seen}
 use Rattle.law_lent.specs.Hosts.{bytes-long}
 use Rattle.law_lent.specs.Shorts.{write-keeps, land-keeps, close-keeps, reclaim-keeps, read-keeps, fill-keeps, restart-keeps, rebuild-keeps}
 use Rattle.proof_crash_calls.specs.Refusals.{Decides, decides}
-use Rattle.proof_tables.specs.Checks.{Passes, Decided, decide}
-use Rattle.proof_tables.specs.Checks.Decided.{stops, goes}
-use Rattle.proof_tables.specs.Image.{bytes-of}
-use Rattle.proof_tables.specs.Laid.{in-take}
-use Rattle.proof_tables.specs.Outcomes.{refusal-kind, refused-unfinished, cut-unfinished}
-use Rattle.proof_tables.specs.Tests.{clash}
-use Rattle.proof_tables.specs.Zones.{Bytes}
+use Rattle.law_drives.specs.Checks.{Passes, Decided, decide, refusal-kind}
+use Rattle.law_drives.specs.Checks.Decided.{stops, goes}
+use Rattle.law_drives.specs.Image.{bytes-of}
+use Rattle.law_drives.specs.Laid.{in-take}
+use Rattle.law_drives.specs.Tests.{clash}
+use Rattle.law_drives.specs.Zones.{Bytes}
+use Rattle.proof_tables.specs.Outcomes.{refused-unfinished, cut-unfinished}
 use Rattle.proof_bytes.specs.Sections.{Fits, fits-stateOf, bytes-stateBytes, length-stateBytes, stateOf-stateBytes}
 use Rattle.proof_bytes.specs.Changes.{fits-zero}
 use Rattle.proof_bytes.specs.Reads.{Reads, grounded-reads}

@@ -20,13 +20,13 @@ use Rattle.spec.specs.Rank.{Cand}
 use Rattle.spec.specs.Segments.{lowDrive, headerAt, remaining, Segment, recordsIn, segmentOf, segments, offsetOn, storedRec, recOf, candOf, candidates, greatestStamp, greatestSerial}
 use Rattle.law_basic.specs.Geometry.{data-drive-lt}
 use Rattle.law_basic.specs.Xor.{xorAll-lt}
-use Rattle.proof_tables.specs.Bounds.{blocks-at}
-use Rattle.proof_tables.specs.Counting.{greatest-low}
-use Rattle.proof_tables.specs.Image.{bytes-part}
-use Rattle.proof_tables.specs.Laid.{bytes-nil, serial-low, address-low, stamp-low}
-use Rattle.proof_tables.specs.Members.{In, map-in, in-getD}
-use Rattle.proof_tables.specs.Segs.{present-in, recs-on, serial-is, cand-at}
-use Rattle.proof_tables.specs.Zones.{Bytes, Plain, ZoneOk, Shaped}
+use Rattle.law_drives.specs.Counting.{greatest-low}
+use Rattle.law_drives.specs.Image.{bytes-part}
+use Rattle.law_drives.specs.Laid.{bytes-nil, serial-low, address-low, stamp-low}
+use Rattle.law_drives.specs.Members.{In, map-in, in-getD}
+use Rattle.law_drives.specs.Records.{blocks-at}
+use Rattle.law_drives.specs.Segs.{present-in, recs-on, serial-is, cand-at}
+use Rattle.law_drives.specs.Zones.{Bytes, Plain, ZoneOk, Shaped}
 
 -- address and stamp are of 8 bytes
 abbrev pub LowRec : Rec → Type 0

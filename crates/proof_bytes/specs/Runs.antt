@@ -16,14 +16,14 @@ use Rattle.spec.specs.Restart.{dropStores, mendStores, restartStores, restartMe
 use Rattle.spec.specs.Segments.{segments, unsealed, candidates, greatestStamp, greatestSerial}
 use Rattle.law_basic.specs.Geometry.{Ranged, ranged}
 use Rattle.law_views.specs.Views.{Whole, seen}
-use Rattle.proof_tables.specs.Checks.{Passes}
-use Rattle.proof_tables.specs.Idle.{whole-of}
-use Rattle.proof_tables.specs.Losing.{named-some}
+use Rattle.law_drives.specs.Checks.{Passes}
+use Rattle.law_drives.specs.Lengths.{whole-of}
+use Rattle.law_drives.specs.Masks.{named-some}
+use Rattle.law_drives.specs.Tests.{cond-false}
+use Rattle.law_drives.specs.Zones.{Shaped}
 use Rattle.proof_tables.specs.Restarting.{started}
 use Rattle.proof_tables.specs.Run.{Lost, Well, Run}
 use Rattle.proof_tables.specs.Starting.{memory-missing, startChecks, startPlan, begins}
-use Rattle.proof_tables.specs.Tests.{cond-false}
-use Rattle.proof_tables.specs.Zones.{Shaped}
 use Rattle.proof_bytes.specs.Sections.{Fits}
 use Rattle.proof_bytes.specs.Reads.{grounded-reads, shaped-grounded, stamps-low, serials-low}
 use Rattle.proof_bytes.specs.Fitted.{idle-fits}

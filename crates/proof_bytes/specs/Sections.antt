@@ -16,9 +16,9 @@ use Rattle.spec.specs.Memory.{mkState}
 use Rattle.law_basic.specs.Le.{length-toLe, leOf-toLe, leOf-lt}
 use Rattle.law_basic.specs.Ranges.{length-below, map-below-same, getD-map-below, length-flat}
 use Rattle.law_basic.specs.Splice.{part-all, part-append-left, part-append-right}
-use Rattle.proof_tables.specs.Image.{bytes-part}
-use Rattle.proof_tables.specs.Laid.{bytes-nil, bytes-append}
-use Rattle.proof_tables.specs.Zones.{Bytes}
+use Rattle.law_drives.specs.Image.{bytes-part}
+use Rattle.law_drives.specs.Laid.{bytes-nil, bytes-append}
+use Rattle.law_drives.specs.Zones.{Bytes}
 
 -- ---- one section
 

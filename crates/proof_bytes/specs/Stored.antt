@@ -30,10 +30,10 @@ use Rattle.spec.specs.Restart.{freeZones, isWhole, isRagged, missingFooters, re
 use Rattle.spec.specs.Restart.{restartMemory, restartPlan}
 use Rattle.spec.specs.Segments.{remaining, Segment, segmentOf, segments, counted, offsetOn, storedPiece, pieceOf, putPiece, greatestSerial, unsealed}
 use Rattle.spec.specs.Write.{placed, slotFor, opens, openedBy, begunBy, sending, writePlan}
-use Rattle.proof_tables.specs.Image.{bytes-part}
-use Rattle.proof_tables.specs.Laid.{bytes-nil, bytes-zeros, bytes-header, bytes-zeroSpare, bytes-record, bytes-footer, in-take, in-drop}
-use Rattle.proof_tables.specs.Members.{In, map-in, getD-in, keep-in}
-use Rattle.proof_tables.specs.Zones.{Bytes}
+use Rattle.law_drives.specs.Image.{bytes-part}
+use Rattle.law_drives.specs.Laid.{bytes-nil, bytes-zeros, bytes-header, bytes-zeroSpare, bytes-record, bytes-footer, in-take, in-drop}
+use Rattle.law_drives.specs.Members.{In, map-in, getD-in, keep-in}
+use Rattle.law_drives.specs.Zones.{Bytes}
 use Rattle.proof_bytes.specs.Images.{bytes-splice, bytes-parity, get-map, ZoneBytes, ViewBytes, no-zone-bytes, StoreBytes, StoresBytes, store-view, stores-none, stores-cons, stores-append}
 use Rattle.proof_bytes.specs.Images.{stores-cond, stores-map, stores-flat}
 

@@ -34,11 +34,11 @@ use Rattle.spec_demands.specs.Engines.{onBytes, callLent, readsAs}
 use Rattle.spec_demands.specs.Histories.{LentEvent, lentCall, withDisk, lentInOrder, lentBefore, lentHappens, lentOrderly, lentRestart, lentAfter, LentMark, LentHist, lentMarked, lentStep, lentBegan}
 use Rattle.spec_demands.specs.Histories.{lentBytes, eventBytes, lentAllowed, LentAllowed, LentSame, LentClaim, LentClaims, Demand3}
 use Rattle.spec_demands.specs.Histories.LentEvent.{calls, boots}
-use Rattle.proof_tables.specs.Image.{bytes-of}
-use Rattle.proof_tables.specs.Laid.{bytes-nil, bytes-zeros}
+use Rattle.law_drives.specs.Image.{bytes-of}
+use Rattle.law_drives.specs.Laid.{bytes-nil, bytes-zeros}
+use Rattle.law_drives.specs.Tests.{cond-true, cond-false}
+use Rattle.law_drives.specs.Zones.{Bytes}
 use Rattle.proof_tables.specs.Outcomes.{refused-unfinished}
-use Rattle.proof_tables.specs.Tests.{cond-true, cond-false}
-use Rattle.proof_tables.specs.Zones.{Bytes}
 use Rattle.proof_bytes.specs.Sections.{Fits, stateOf-zeros}
 use Rattle.proof_bytes.specs.Images.{bytes-splice}
 use Rattle.proof_bytes.specs.Kept.{LentBytes, call-fits, call-bytes, decoded, state-long, simulates-bytes}

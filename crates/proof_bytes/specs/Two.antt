@@ -24,12 +24,12 @@ use Rattle.law_lent.specs.Hosts.{bytes-short}
 use Rattle.law_lent.specs.Shorts.{shortAnswer, short-refused, restart-short}
 use Rattle.spec_demands.specs.Engines.{Reply, onValues, onBytes, callWorld, callLent, viewIn, readsAs}
 use Rattle.spec_demands.specs.Tables.{Pending, pendingAfter, foundAfter, Says, openIn, landingStores, Lands, Restarts, Rebuilds, CallSays, SaysOn, AfterRestart}
-use Rattle.proof_tables.specs.Image.{bytes-of, shaped-of}
+use Rattle.law_drives.specs.Image.{bytes-of, shaped-of}
+use Rattle.law_drives.specs.Tests.{clash}
+use Rattle.law_drives.specs.Zones.{Shaped}
 use Rattle.proof_tables.specs.Outcomes.{refused-unfinished}
 use Rattle.proof_tables.specs.Run.{Run}
-use Rattle.proof_tables.specs.Tests.{clash}
 use Rattle.proof_tables.specs.Theorem.{restart-finished, stepped}
-use Rattle.proof_tables.specs.Zones.{Shaped}
 use Rattle.proof_bytes.specs.Sections.{Fits}
 use Rattle.proof_bytes.specs.Reads.{grounded-reads, shaped-grounded}
 use Rattle.proof_bytes.specs.Kept.{on-fits, finished-fits, answer-same, simulates, state-long}

@@ -32,14 +32,14 @@ use Rattle.law_lent.specs.Hosts.{bytes-long}
 use Rattle.spec_demands.specs.Histories.{lentInOrder}
 use Rattle.proof_crash_items.specs.Named.{is-named}
 use Rattle.proof_crash_items.specs.Start.{empty-pointer}
-use Rattle.proof_tables.specs.Accept.{checks-of}
-use Rattle.proof_tables.specs.Checks.{Passes, passed}
-use Rattle.proof_tables.specs.Members.{keep-nothing, in-none, below-in, all-in}
+use Rattle.law_drives.specs.Accept.{checks-of}
+use Rattle.law_drives.specs.Checks.{Passes, passed}
+use Rattle.law_drives.specs.Members.{keep-nothing, in-none, below-in, all-in}
+use Rattle.law_drives.specs.Segs.{in-present, present-in}
 use Rattle.proof_tables.specs.Outcomes.{Ended}
 use Rattle.proof_tables.specs.Outcomes.Ended.{ended-refused, ended-done, ended-cut}
 use Rattle.proof_tables.specs.Starting.{startChecks, startPlan}
 use Rattle.proof_tables.specs.Theorem.{restart-ends}
-use Rattle.proof_tables.specs.Segs.{in-present, present-in}
 
 module _ (p : Params) (rg : inRange p ≡ true) (k : Disk) (e : emptyDisk p k ≡ true) (d : ℕ) where
   abbrev r : Ranged p

@@ -22,7 +22,7 @@ use Rattle.spec_demands.specs.Engines.{callLent, onBytes, viewIn}
 use Rattle.spec_demands.specs.Histories.{lentInOrder}
 use Rattle.spec_demands.specs.Tables.{SaysOn}
 use Rattle.proof_answers.specs.Answered.{demand-1}
-use Rattle.proof_tables.specs.Tests.{clash}
+use Rattle.law_drives.specs.Tests.{clash}
 use Rattle.proof_demands.specs.Demand.{demand-2}
 use Rattle.proof_demands.specs.Empty.{accepts-empty}
 

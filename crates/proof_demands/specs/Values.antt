@@ -22,11 +22,11 @@ use Rattle.proof_rebuilt.specs.Theorem.{rebuilds-say}
 use Rattle.spec_demands.specs.Engines.{callWorld, onValues, viewIn, readsAs}
 use Rattle.spec_demands.specs.Layouts.{Layout}
 use Rattle.spec_demands.specs.Tables.{Pending, pendingAfter, foundAfter, Says, CallSays, SaysOn, AfterRestart}
-use Rattle.proof_tables.specs.Image.{bytes-of, shaped-of}
+use Rattle.law_drives.specs.Image.{bytes-of, shaped-of}
+use Rattle.law_drives.specs.Zones.{Shaped}
 use Rattle.proof_tables.specs.Reading.{says}
 use Rattle.proof_tables.specs.Run.{Run}
 use Rattle.proof_tables.specs.Theorem.{restart-finished, stepped}
-use Rattle.proof_tables.specs.Zones.{Shaped}
 use Rattle.law_views.specs.Views.{Whole, seen}
 use Rattle.proof_layout.specs.Calls.{Keeps, laid-write, laid-close, laid-read, laid-fill, laid-reclaim, laid-land, laid-rebuild}
 use Rattle.proof_layout.specs.Laid.{Laid, layout-of}

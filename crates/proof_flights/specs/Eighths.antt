@@ -31,10 +31,10 @@ use Rattle.proof_crash_calls.specs.Placed.{data-drive-once, placed-here, placed
 use Rattle.proof_crash_calls.specs.Rel.{Long}
 use Rattle.proof_crash_calls.specs.Slots.{data-blocks-same}
 use Rattle.spec_demands.specs.Tables.{Pending}
-use Rattle.proof_tables.specs.Members.{keep-in, map-cong, below-in}
+use Rattle.law_drives.specs.Members.{keep-in, map-cong, below-in}
+use Rattle.law_drives.specs.Tests.{clash, cond-true, cond-false, not-so, eqb-self}
 use Rattle.proof_tables.specs.Run.{Lists}
 use Rattle.proof_tables.specs.Slots.{add-filled, add-writes}
-use Rattle.proof_tables.specs.Tests.{clash, cond-true, cond-false, not-so, eqb-self}
 use Rattle.proof_flights.specs.Flown.{sentOf}
 
 -- a block that fills the next position of eighth i, as one that waits

@@ -25,11 +25,11 @@ use Rattle.spec.specs.Read.Found.{nowhere, here, away}
 use Rattle.spec.specs.Segments.{Segment}
 use Rattle.law_lent.specs.Shorts.{write-keeps, land-keeps, close-keeps, reclaim-keeps, read-keeps, fill-keeps, restart-keeps, rebuild-keeps}
 use Rattle.spec_demands.specs.Tables.{Pending, pendingBy, stillPending, pendingAfter}
-use Rattle.proof_tables.specs.Checks.{Passes}
-use Rattle.proof_tables.specs.Outcomes.{Ended, ended, refusal-kind, cut-cut}
+use Rattle.law_drives.specs.Checks.{Passes, refusal-kind}
+use Rattle.law_drives.specs.Tests.{clash, cond-false, and-false-left, or-neither}
+use Rattle.proof_tables.specs.Outcomes.{Ended, ended, cut-cut}
 use Rattle.proof_tables.specs.Outcomes.Ended.{ended-refused, ended-done, ended-cut}
 use Rattle.proof_tables.specs.Run.{Run}
-use Rattle.proof_tables.specs.Tests.{clash, cond-false, and-false-left, or-neither}
 use Rattle.law_views.specs.Views.{seen}
 use Rattle.proof_flights.specs.Flown.{Flown}
 

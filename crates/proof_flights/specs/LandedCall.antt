@@ -32,20 +32,20 @@ use Rattle.law_views.specs.Views.{seen}
 use Rattle.spec_demands.specs.Layouts.{ParityMade}
 use Rattle.spec_demands.specs.Tables.{Pending, pendingBy, stillPending, pendingAfter, noPending, pendingIn, openIn, landingStores, Lands}
 use Rattle.spec_demands.specs.Engines.{onValues, callWorld, viewIn}
-use Rattle.proof_tables.specs.Checks.{Passes}
+use Rattle.law_drives.specs.Checks.{Passes, refusal-kind}
+use Rattle.law_drives.specs.Joins.{roomy-append, within-append}
+use Rattle.law_drives.specs.Members.{In, in-keep, map-in, in-getD}
+use Rattle.law_drives.specs.Tests.{clash, not-so, cond-true, cond-false}
+use Rattle.law_drives.specs.Zones.{Shaped, Within, Roomy, shaped-after}
 use Rattle.proof_tables.specs.Chunks.{chunk-roomy, chunk-tidy, chunk-open, chunk-healthy, all-behind, none-left, open-after, uncounted-yet, counts-now}
 use Rattle.proof_tables.specs.Filling.{block-long! }
 use Rattle.proof_tables.specs.Going.{buffer-long}
 use Rattle.proof_tables.specs.Idle.{StateOk, state-of}
-use Rattle.proof_tables.specs.Joins.{roomy-append, within-append}
 use Rattle.proof_tables.specs.Landings.{Waits, waits}
-use Rattle.proof_tables.specs.Members.{In, in-keep, map-in, in-getD}
-use Rattle.proof_tables.specs.Outcomes.{Ended, ended, refusal-kind}
+use Rattle.proof_tables.specs.Outcomes.{Ended, ended}
 use Rattle.proof_tables.specs.Outcomes.Ended.{ended-refused, ended-done, ended-cut}
 use Rattle.proof_tables.specs.Run.{flies, Healthy, Well, Run}
 use Rattle.proof_tables.specs.Sealing.{seal-roomy, seal-within, seal-sealed}
-use Rattle.proof_tables.specs.Tests.{clash, not-so, cond-true, cond-false}
-use Rattle.proof_tables.specs.Zones.{Shaped, Within, Roomy, shaped-after}
 use Rattle.proof_flights.specs.Flown.{sentOf, Flights, Flown}
 use Rattle.proof_flights.specs.Idled.{flown-ended}
 use Rattle.proof_flights.specs.Written.{well-of, seen-after, parity-none, flown-of}

@@ -30,18 +30,18 @@ use Rattle.law_basic.specs.Ranges.Test.{yes!, no! }
 use Rattle.law_basic.specs.Xor.{xorAll-lt}
 use Rattle.spec_demands.specs.Layouts.{ParityMade}
 use Rattle.spec_demands.specs.Tables.{Pending}
+use Rattle.law_drives.specs.Laid.{record-back}
+use Rattle.law_drives.specs.Members.{in-all, map-cong}
+use Rattle.law_drives.specs.Range.{capacity-over}
+use Rattle.law_drives.specs.Segs.{data-low, low-data, present-in}
+use Rattle.law_drives.specs.Spots.{counts-in}
+use Rattle.law_drives.specs.Tests.{or-true-left, cond-true, cond-false, eqb-self}
+use Rattle.law_drives.specs.Zones.{Shaped}
 use Rattle.proof_tables.specs.Chunks.{cells-differ, pointer-some, pointer-data, chunk-zone, chunk-other, chunk-pointer, pointer-else, chunk-grows, mask-now}
 use Rattle.proof_tables.specs.Chunks.{chunk-open, open-before, open-after, all-landed, uncounted-yet, landed-chunk, all-filled}
 use Rattle.proof_tables.specs.Idle.{StateOk}
-use Rattle.proof_tables.specs.Laid.{record-back}
-use Rattle.proof_tables.specs.Members.{in-all, map-cong}
-use Rattle.proof_tables.specs.Range.{capacity-over}
-use Rattle.proof_tables.specs.Reads.{counts-in}
 use Rattle.proof_tables.specs.Run.{flies, Flight, Open, Healthy}
-use Rattle.proof_tables.specs.Segs.{data-low, low-data, present-in}
 use Rattle.proof_tables.specs.Slots.{mark-landed-other, mark-offset, mark-offset-other}
-use Rattle.proof_tables.specs.Tests.{or-true-left, cond-true, cond-false, eqb-self}
-use Rattle.proof_tables.specs.Zones.{Shaped}
 use Rattle.proof_flights.specs.Flown.{sentOf, Flights}
 use Rattle.proof_flights.specs.LandedPieces.{piece-parts, Extends, extends-piece, extends-back, data-drives-in, parity-grows}
 use Rattle.proof_flights.specs.Pieces.{ParityAt}

@@ -26,16 +26,18 @@ use Rattle.law_basic.specs.Ranges.{Test, test}
 use Rattle.law_basic.specs.Ranges.Test.{yes!, no! }
 use Rattle.spec_demands.specs.Layouts.{ParityMade}
 use Rattle.spec_demands.specs.Tables.{Pending, noPending}
-use Rattle.proof_tables.specs.Members.{In, keep-in, keep-all, keep-nil-in, keep-keep, keep-cong, in-getD, getD-in}
-use Rattle.proof_tables.specs.Puts.{puts-old}
-use Rattle.proof_tables.specs.Range.{capacity-over}
-use Rattle.proof_tables.specs.Reads.{counts-in}
-use Rattle.proof_tables.specs.Run.{flies, Lists, Tidy}
-use Rattle.proof_tables.specs.Sealing.{footerChunks, seal-zone, seal-pointer, seal-grows, seal-records}
-use Rattle.proof_tables.specs.Segs.{record-at}
+use Rattle.law_drives.specs.Footers.{footerChunks}
+use Rattle.law_drives.specs.Members.{In, keep-in, keep-all, keep-nil-in, keep-keep, keep-cong, in-getD, getD-in}
+use Rattle.law_drives.specs.Puts.{puts-old}
+use Rattle.law_drives.specs.Range.{capacity-over}
+use Rattle.law_drives.specs.Segs.{record-at}
+use Rattle.law_drives.specs.Spots.{counts-in}
+use Rattle.law_drives.specs.Tests.{clash, and-false-left}
+use Rattle.law_drives.specs.Tidy.{Tidy}
+use Rattle.law_drives.specs.Zones.{Shaped}
+use Rattle.proof_tables.specs.Run.{flies, Lists}
+use Rattle.proof_tables.specs.Sealing.{seal-zone, seal-pointer, seal-grows, seal-records}
 use Rattle.proof_tables.specs.Slots.{free-filled, free-filled-other, none-flies}
-use Rattle.proof_tables.specs.Tests.{clash, and-false-left}
-use Rattle.proof_tables.specs.Zones.{Shaped}
 use Rattle.proof_flights.specs.Flown.{sentOf, Flights}
 use Rattle.proof_flights.specs.LandedPieces.{Extends, extends-counts, extends-piece, extends-sym, parity-grows}
 

@@ -16,12 +16,12 @@ use Rattle.spec.specs.Parity.{mkPiece}
 use Rattle.spec.specs.Segments.{remaining, Segment, segmentOf, offsetOn, hasChunk, counts, storedPiece, storedRec}
 use Rattle.law_basic.specs.Geometry.{Ranged, data-drive-lt}
 use Rattle.spec_demands.specs.Layouts.{Remains, ParityMade}
-use Rattle.proof_tables.specs.Growing.{Grows, grows-tidy, grows-remaining}
-use Rattle.proof_tables.specs.Members.{In, map-in, in-all, below-in, is-member}
-use Rattle.proof_tables.specs.Reads.{counts-in}
-use Rattle.proof_tables.specs.Run.{Tidy}
-use Rattle.proof_tables.specs.Segs.{ChunkAt, zone-by, chunk-at, has-chunk, offset-is, present-in, remaining-low}
-use Rattle.proof_tables.specs.Settled.{serial-of, zones-segment}
+use Rattle.law_drives.specs.Growing.{Grows, grows-tidy, grows-remaining}
+use Rattle.law_drives.specs.Members.{In, map-in, in-all, below-in, is-member}
+use Rattle.law_drives.specs.Segs.{ChunkAt, zone-by, chunk-at, has-chunk, offset-is, present-in, remaining-low}
+use Rattle.law_drives.specs.Settled.{serial-of, zones-segment}
+use Rattle.law_drives.specs.Spots.{counts-in}
+use Rattle.law_drives.specs.Tidy.{Tidy}
 use Rattle.proof_flights.specs.Pieces.{ParityAt, SameStripe, parity-from}
 
 -- a piece is the block and the record at the stripe's offset, whatever is missing

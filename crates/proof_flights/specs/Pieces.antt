@@ -17,11 +17,11 @@ use Rattle.law_basic.specs.Geometry.{Ranged, parity-drive-lt, data-drive-lt}
 use Rattle.law_basic.specs.Mask.{isIn-empty}
 use Rattle.law_basic.specs.Ranges.{map-map}
 use Rattle.spec_demands.specs.Layouts.{Remains, foundCounted, ParityMade}
-use Rattle.proof_tables.specs.Members.{in-all, map-cong, below-in, is-member, member-is}
-use Rattle.proof_tables.specs.Reads.{counts-in}
-use Rattle.proof_tables.specs.Run.{usedAt, Tidy}
-use Rattle.proof_tables.specs.Segs.{present-in, zone-by, chunk-at, has-chunk, offset-is}
-use Rattle.proof_tables.specs.Settled.{used-remains, remains-is-used, SameZones, zones-segment}
+use Rattle.law_drives.specs.Members.{in-all, map-cong, below-in, is-member, member-is}
+use Rattle.law_drives.specs.Segs.{present-in, zone-by, chunk-at, has-chunk, offset-is}
+use Rattle.law_drives.specs.Settled.{used-remains, remains-is-used, SameZones, zones-segment}
+use Rattle.law_drives.specs.Spots.{counts-in}
+use Rattle.law_drives.specs.Tidy.{usedAt, Tidy}
 
 -- ---- the same zones, the same pieces
 

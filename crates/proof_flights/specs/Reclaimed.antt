@@ -32,24 +32,25 @@ use Rattle.law_basic.specs.Ranges.Test.{yes!, no! }
 use Rattle.proof_crash_calls.specs.Cells.{SameSlot}
 use Rattle.spec_demands.specs.Layouts.{Remains, ParityMade}
 use Rattle.spec_demands.specs.Tables.{Pending, pendingAfter}
-use Rattle.proof_tables.specs.Base.{cand-zone}
-use Rattle.proof_tables.specs.Bounds.{record-low, open-short}
-use Rattle.proof_tables.specs.Checks.{Passes}
+use Rattle.law_drives.specs.Checks.{Passes}
+use Rattle.law_drives.specs.Fewest.{sealed-full}
+use Rattle.law_drives.specs.Members.{In, keep-in, first-in, is-member}
+use Rattle.law_drives.specs.Range.{capacity-over}
+use Rattle.law_drives.specs.Records.{record-low}
+use Rattle.law_drives.specs.Resets.{reset-same, reset-roomy, reset-within, reset-was, reset-tidy}
+use Rattle.law_drives.specs.Segs.{remaining-low}
+use Rattle.law_drives.specs.Settled.{SameZones}
+use Rattle.law_drives.specs.Spots.{cand-zone, spot-block, spot-drive}
+use Rattle.law_drives.specs.Tests.{clash, or-left, or-right, cond-true, cond-false}
+use Rattle.law_drives.specs.Zones.{Shaped}
+use Rattle.proof_tables.specs.Bounds.{open-short}
 use Rattle.proof_tables.specs.Going.{address-table, buffer-long}
 use Rattle.proof_tables.specs.Idle.{StateOk, state-of}
 use Rattle.proof_tables.specs.Live.{Pointed, places-pointed}
-use Rattle.proof_tables.specs.Members.{In, keep-in, first-in, is-member}
 use Rattle.proof_tables.specs.Outcomes.{ended}
-use Rattle.proof_tables.specs.Range.{capacity-over}
-use Rattle.proof_tables.specs.Reads.{spot-block, spot-drive}
-use Rattle.proof_tables.specs.Reclaiming.{taken, sealed-full}
-use Rattle.proof_tables.specs.Resetting.{reset-same, reset-roomy, reset-within, reset-was, reset-tidy}
+use Rattle.proof_tables.specs.Reclaiming.{taken}
 use Rattle.proof_tables.specs.Run.{flies, Healthy, Well, Run}
-use Rattle.proof_tables.specs.Segs.{remaining-low}
 use Rattle.proof_tables.specs.Sending.{sends}
-use Rattle.proof_tables.specs.Settled.{SameZones}
-use Rattle.proof_tables.specs.Tests.{clash, or-left, or-right, cond-true, cond-false}
-use Rattle.proof_tables.specs.Zones.{Shaped}
 use Rattle.law_views.specs.Views.{seen}
 use Rattle.proof_flights.specs.Flocks.{none-more, flock-of, of-flock, flock-same}
 use Rattle.proof_flights.specs.Flown.{Flights, Flown}

@@ -28,26 +28,26 @@ use Rattle.law_basic.specs.Stores.{storeAll-append}
 use Rattle.law_views.specs.Views.{Whole, seen, view-stores}
 use Rattle.spec_demands.specs.Layouts.{Remains, foundCounted}
 use Rattle.spec_demands.specs.Tables.{Pending, pendingBy, stillPending, pendingAfter, foundAfter}
-use Rattle.proof_tables.specs.Accept.{Accepted}
-use Rattle.proof_tables.specs.Checks.{Passes}
-use Rattle.proof_tables.specs.Dropping.{drop-roomy, drop-within}
-use Rattle.proof_tables.specs.Frame.{Agree, core, same-remaining, same-core}
-use Rattle.proof_tables.specs.Idle.{whole-of}
-use Rattle.proof_tables.specs.Joins.{roomy-append, within-append}
-use Rattle.proof_tables.specs.Losing.{named-in, named-some, low-present}
-use Rattle.proof_tables.specs.Members.{In, is-member}
-use Rattle.proof_tables.specs.Outcomes.{Ended, ended, refusal-kind, refused-unfinished, cut-unfinished, cut-cut}
+use Rattle.law_drives.specs.Accept.{Accepted}
+use Rattle.law_drives.specs.Checks.{Passes, refusal-kind}
+use Rattle.law_drives.specs.Dropping.{drop-roomy, drop-within}
+use Rattle.law_drives.specs.Frame.{Agree, core, same-remaining, same-core}
+use Rattle.law_drives.specs.Joins.{roomy-append, within-append}
+use Rattle.law_drives.specs.Lengths.{whole-of}
+use Rattle.law_drives.specs.Masks.{named-in, named-some, low-present}
+use Rattle.law_drives.specs.Members.{In, is-member}
+use Rattle.law_drives.specs.Mended.{mended, serials-small}
+use Rattle.law_drives.specs.Range.{capacity-word}
+use Rattle.law_drives.specs.Rebuilding.{rebuild-roomy, rebuild-within, rebuild-agrees}
+use Rattle.law_drives.specs.Segs.{remaining-low}
+use Rattle.law_drives.specs.Tables.{zero-at}
+use Rattle.law_drives.specs.Tests.{clash, or-right, or-true-right, cond-true, cond-false}
+use Rattle.law_drives.specs.Zones.{Shaped, all-fit}
+use Rattle.proof_tables.specs.Outcomes.{Ended, ended, refused-unfinished, cut-unfinished, cut-cut}
 use Rattle.proof_tables.specs.Outcomes.Ended.{ended-refused, ended-done, ended-cut}
-use Rattle.proof_tables.specs.Range.{capacity-word}
-use Rattle.proof_tables.specs.Rebuilding.{rebuild-roomy, rebuild-within, rebuild-agrees}
-use Rattle.proof_tables.specs.Restarting.{mended, serials-small}
 use Rattle.proof_tables.specs.Run.{flies, Run}
-use Rattle.proof_tables.specs.Segs.{remaining-low}
 use Rattle.proof_tables.specs.Slots.{none-flies}
 use Rattle.proof_tables.specs.Starting.{memory-missing, startChecks, startPlan, Begins, begins}
-use Rattle.proof_tables.specs.Tables.{zero-at}
-use Rattle.proof_tables.specs.Tests.{clash, or-right, or-true-right, cond-true, cond-false}
-use Rattle.proof_tables.specs.Zones.{Shaped, all-fit}
 use Rattle.proof_flights.specs.Flown.{Flights, Found, Flown}
 use Rattle.proof_flights.specs.Idled.{quiet-refused, flown-still, flown-ended}
 use Rattle.proof_flights.specs.Written.{seen-after, flown-of}

@@ -22,21 +22,21 @@ use Rattle.law_basic.specs.Mask.{isIn-empty}
 use Rattle.law_basic.specs.Ranges.{Test, test, length-below, getD-map-below, map-map}
 use Rattle.law_basic.specs.Ranges.Test.{yes!, no! }
 use Rattle.law_basic.specs.Xor.{xorAll-lt}
-use Rattle.proof_tables.specs.Accept.{Accepted}
-use Rattle.proof_tables.specs.Bounds.{record-low}
-use Rattle.proof_tables.specs.Dropping.{drop-empty}
-use Rattle.proof_tables.specs.Laid.{record-back}
-use Rattle.proof_tables.specs.Members.{map-cong, in-getD, below-in}
-use Rattle.proof_tables.specs.Mending.{shaped-a}
-use Rattle.proof_tables.specs.Puts.{hits-append, putAt, hits-drives, hits-resets, hits-headers, putAll, puts-new}
-use Rattle.proof_tables.specs.Range.{capacity-over}
-use Rattle.proof_tables.specs.Reads.{counts-in}
-use Rattle.proof_tables.specs.Rebuilding.{counted-low, counted-in, pieceChunk}
-use Rattle.proof_tables.specs.Rewriting.{new-pointer, new-stripe, open-now, under! }
-use Rattle.proof_tables.specs.Segs.{low-data, seg-is, chunk-at, offset-is, has-chunk}
-use Rattle.proof_tables.specs.Tables.{remains}
-use Rattle.proof_tables.specs.Tests.{clash, cond-true, cond-false, cond-same, eqb-self}
-use Rattle.proof_tables.specs.Zones.{Shaped, hitsAt, zoneStore, hits, zone-after}
+use Rattle.law_drives.specs.Accept.{Accepted}
+use Rattle.law_drives.specs.Dropping.{drop-empty}
+use Rattle.law_drives.specs.Laid.{record-back}
+use Rattle.law_drives.specs.Members.{map-cong, in-getD, below-in}
+use Rattle.law_drives.specs.Mending.{shaped-a}
+use Rattle.law_drives.specs.Puts.{hits-append, putAt, hits-drives, hits-resets, hits-headers, putAll, puts-new}
+use Rattle.law_drives.specs.Range.{capacity-over}
+use Rattle.law_drives.specs.Rebuilding.{counted-low, counted-in, pieceChunk}
+use Rattle.law_drives.specs.Records.{record-low}
+use Rattle.law_drives.specs.Rewriting.{new-pointer, new-stripe, open-now, under! }
+use Rattle.law_drives.specs.Segs.{low-data, seg-is, chunk-at, offset-is, has-chunk}
+use Rattle.law_drives.specs.Spots.{counts-in}
+use Rattle.law_drives.specs.Tables.{remains}
+use Rattle.law_drives.specs.Tests.{clash, cond-true, cond-false, cond-same, eqb-self}
+use Rattle.law_drives.specs.Zones.{Shaped, hitsAt, zoneStore, hits, zone-after}
 use Rattle.proof_flights.specs.LandedPieces.{piece-parts}
 use Rattle.proof_flights.specs.Pieces.{ParityAt}
 

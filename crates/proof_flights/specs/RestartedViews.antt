@@ -21,21 +21,21 @@ use Rattle.law_basic.specs.Geometry.{Ranged}
 use Rattle.law_basic.specs.Ranges.{Test, test, and-both, length-below, keep-hit, keep-miss, length-keep}
 use Rattle.law_basic.specs.Ranges.Test.{yes!, no! }
 use Rattle.spec_demands.specs.Layouts.{Remains, foundCounted, ParityMade}
-use Rattle.proof_tables.specs.Accept.{Accepted}
-use Rattle.proof_tables.specs.Dropping.{free-are, drop-same, drop-used}
-use Rattle.proof_tables.specs.Joins.{stores-none}
-use Rattle.proof_tables.specs.Members.{In, in-map, in-any, keep-in, in-below, below-in, first-in, is-member, member-is}
-use Rattle.proof_tables.specs.Mending.{lack, has-pointer, b-zone, b-other}
-use Rattle.proof_tables.specs.Puts.{puts-old}
-use Rattle.proof_tables.specs.Rewriting.{same-else, was! }
-use Rattle.proof_tables.specs.Run.{usedAt, Tidy}
-use Rattle.proof_tables.specs.Segs.{serial-is}
-use Rattle.proof_tables.specs.Settled.{low-first, remains-is-used, SameZones, zones-used, zones-segment}
-use Rattle.proof_tables.specs.Tables.{remains, in-remaining}
-use Rattle.proof_tables.specs.Tests.{clash, eqb-self}
-use Rattle.proof_tables.specs.Unsealed.{Loose, loose}
-use Rattle.proof_tables.specs.Unsealed.Loose.{loose-none, loose-one}
-use Rattle.proof_tables.specs.Zones.{Shaped}
+use Rattle.law_drives.specs.Accept.{Accepted}
+use Rattle.law_drives.specs.Dropping.{free-are, drop-same, drop-used}
+use Rattle.law_drives.specs.Joins.{stores-none}
+use Rattle.law_drives.specs.Members.{In, in-map, in-any, keep-in, in-below, below-in, first-in, is-member, member-is}
+use Rattle.law_drives.specs.Mending.{lack, has-pointer, b-zone, b-other}
+use Rattle.law_drives.specs.Puts.{puts-old}
+use Rattle.law_drives.specs.Rewriting.{same-else, was! }
+use Rattle.law_drives.specs.Segs.{serial-is}
+use Rattle.law_drives.specs.Settled.{low-first, remains-is-used, SameZones, zones-used, zones-segment}
+use Rattle.law_drives.specs.Tables.{remains, in-remaining}
+use Rattle.law_drives.specs.Tests.{clash, eqb-self}
+use Rattle.law_drives.specs.Tidy.{usedAt, Tidy}
+use Rattle.law_drives.specs.Unsealed.{Loose, loose}
+use Rattle.law_drives.specs.Unsealed.Loose.{loose-none, loose-one}
+use Rattle.law_drives.specs.Zones.{Shaped}
 use Rattle.proof_flights.specs.Pieces.{ParityAt}
 use Rattle.proof_flights.specs.RestartedMoved.{rewritten-made}
 

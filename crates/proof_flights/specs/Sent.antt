@@ -24,15 +24,16 @@ use Rattle.law_basic.specs.Ranges.{Test, test}
 use Rattle.law_basic.specs.Ranges.Test.{yes!, no! }
 use Rattle.spec_demands.specs.Layouts.{Remains, ParityMade}
 use Rattle.spec_demands.specs.Tables.{Pending}
-use Rattle.proof_tables.specs.Heading.{header-other, header-pointer, empty-all, head-tidy}
+use Rattle.law_drives.specs.Headers.{header-other, header-pointer}
+use Rattle.law_drives.specs.Members.{In, keep-in, below-in, first-in, in-some}
+use Rattle.law_drives.specs.Settled.{SameZones, zones-used}
+use Rattle.law_drives.specs.Tests.{clash, or-left, or-right, or-cases, or-true-right, not-so}
+use Rattle.law_drives.specs.Zones.{Shaped}
+use Rattle.proof_tables.specs.Heading.{empty-all, head-tidy}
 use Rattle.proof_tables.specs.Idle.{StateOk}
-use Rattle.proof_tables.specs.Members.{In, keep-in, below-in, first-in, in-some}
 use Rattle.proof_tables.specs.Run.{flies, Lists, Healthy}
 use Rattle.proof_tables.specs.Sending.{filling-slot, free-slot, in-flight}
-use Rattle.proof_tables.specs.Settled.{SameZones, zones-used}
 use Rattle.proof_tables.specs.Slots.{begin-number, begin-number-other, begin-filled, begin-filled-other, begin-lists, free-is}
-use Rattle.proof_tables.specs.Tests.{clash, or-left, or-right, or-cases, or-true-right, not-so}
-use Rattle.proof_tables.specs.Zones.{Shaped}
 use Rattle.proof_flights.specs.Eighths.{freshly, plus}
 use Rattle.proof_flights.specs.Flocks.{Flock, open-of, flock-of, of-flock, flock-busy, flock-bare, bare-flock, flock-begin, flock-add, flies-add, flies-stay}
 use Rattle.proof_flights.specs.Flown.{Flights}

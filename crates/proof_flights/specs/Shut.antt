@@ -28,7 +28,8 @@ use Rattle.spec.specs.Segments.{Segment}
 use Rattle.spec.specs.Write.{scarce, placed}
 use Rattle.law_basic.specs.Geometry.{Ranged, ranged}
 use Rattle.spec_demands.specs.Tables.{Pending, pendingAfter}
-use Rattle.proof_tables.specs.Checks.{Passes}
+use Rattle.law_drives.specs.Checks.{Passes}
+use Rattle.law_drives.specs.Tests.{or-left}
 use Rattle.proof_tables.specs.Filling.{placed-long}
 use Rattle.proof_tables.specs.Going.{buffer-long}
 use Rattle.proof_tables.specs.Idle.{state-of}
@@ -36,7 +37,6 @@ use Rattle.proof_tables.specs.Outcomes.{ended}
 use Rattle.proof_tables.specs.Run.{flies, Lists, Run}
 use Rattle.proof_tables.specs.Sending.{filling-slot}
 use Rattle.proof_tables.specs.Slots.{add-filled, add-number, add-lists}
-use Rattle.proof_tables.specs.Tests.{or-left}
 use Rattle.law_views.specs.Views.{seen}
 use Rattle.proof_flights.specs.Eighths.{freshly}
 use Rattle.proof_flights.specs.Flocks.{Flock, open-of, none-more, flock-of, of-flock, flock-busy, flock-add, flies-stay}

@@ -29,17 +29,18 @@ use Rattle.law_basic.specs.Geometry.{Ranged, ranged}
 use Rattle.proof_crash_calls.specs.Cells.{stamp-same}
 use Rattle.spec_demands.specs.Layouts.{ParityMade}
 use Rattle.spec_demands.specs.Tables.{Pending, pendingBy, stillPending, pendingAfter}
-use Rattle.proof_tables.specs.Checks.{Passes}
+use Rattle.law_drives.specs.Checks.{Passes}
+use Rattle.law_drives.specs.Lengths.{whole-of}
+use Rattle.law_drives.specs.Masks.{named-some}
+use Rattle.law_drives.specs.Members.{In}
+use Rattle.law_drives.specs.Range.{capacity-word}
+use Rattle.law_drives.specs.Tests.{clash, or-left, or-right}
+use Rattle.law_drives.specs.Zones.{Within, Roomy, all-fit}
 use Rattle.proof_tables.specs.Going.{address-small, buffer-long}
-use Rattle.proof_tables.specs.Idle.{StateOk, state-of, whole-of}
-use Rattle.proof_tables.specs.Losing.{named-some}
-use Rattle.proof_tables.specs.Members.{In}
+use Rattle.proof_tables.specs.Idle.{StateOk, state-of}
 use Rattle.proof_tables.specs.Outcomes.{ended}
-use Rattle.proof_tables.specs.Range.{capacity-word}
 use Rattle.proof_tables.specs.Run.{Healthy, Well, Run}
 use Rattle.proof_tables.specs.Sending.{sends}
-use Rattle.proof_tables.specs.Tests.{clash, or-left, or-right}
-use Rattle.proof_tables.specs.Zones.{Within, Roomy, all-fit}
 use Rattle.law_views.specs.Views.{seen, view-stores}
 use Rattle.proof_flights.specs.Eighths.{plus}
 use Rattle.proof_flights.specs.Flocks.{flock-of, of-flock, flock-same}

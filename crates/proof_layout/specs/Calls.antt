@@ -34,30 +34,34 @@ use Rattle.law_basic.specs.Geometry.{Ranged, ranged}
 use Rattle.law_basic.specs.Ranges.{Test, test, and-left, and-right}
 use Rattle.law_basic.specs.Ranges.Test.{yes!, no! }
 use Rattle.law_basic.specs.Stores.{storeAll-append}
-use Rattle.proof_tables.specs.Checks.{Passes}
+use Rattle.law_drives.specs.Checks.{Passes}
+use Rattle.law_drives.specs.Frame.{Agree, same-remaining, same-sealed, same-core, core}
+use Rattle.law_drives.specs.Headers.{header-roomy, header-within}
+use Rattle.law_drives.specs.Joins.{roomy-append, within-append, roomy-none, stores-none}
+use Rattle.law_drives.specs.Lengths.{whole-of}
+use Rattle.law_drives.specs.Masks.{named-in, named-some, low-present}
+use Rattle.law_drives.specs.Members.{In, keep-in, below-in, first-in}
+use Rattle.law_drives.specs.Range.{capacity-word}
+use Rattle.law_drives.specs.Rebuilding.{rebuild-roomy, rebuild-within, rebuild-agrees}
+use Rattle.law_drives.specs.Resets.{reset-roomy, reset-within}
+use Rattle.law_drives.specs.Segs.{remaining-low}
+use Rattle.law_drives.specs.Tests.{clash, or-left, or-right, cond-true, cond-false}
+use Rattle.law_drives.specs.Tidy.{usedAt, Tidy}
+use Rattle.law_drives.specs.Zones.{Shaped, Within, Roomy, all-fit, shaped-after}
 use Rattle.proof_tables.specs.Chunks.{chunk-roomy, all-behind, open-after}
 use Rattle.proof_tables.specs.Filling.{block-long! }
-use Rattle.proof_tables.specs.Frame.{Agree, same-remaining, same-sealed, same-core, core}
 use Rattle.proof_tables.specs.Going.{buffer-long}
-use Rattle.proof_tables.specs.Heading.{header-roomy, header-within, empty-all}
-use Rattle.proof_tables.specs.Idle.{StateOk, state-of, whole-of}
-use Rattle.proof_tables.specs.Joins.{roomy-append, within-append, roomy-none, stores-none}
+use Rattle.proof_tables.specs.Heading.{empty-all}
+use Rattle.proof_tables.specs.Idle.{StateOk, state-of}
 use Rattle.proof_tables.specs.Landings.{Waits, waits}
-use Rattle.proof_tables.specs.Losing.{named-in, named-some, low-present, named-same}
-use Rattle.proof_tables.specs.Members.{In, keep-in, below-in, first-in}
+use Rattle.proof_tables.specs.Losing.{named-same}
 use Rattle.proof_tables.specs.Outcomes.{Ended, ended, cut-cut}
 use Rattle.proof_tables.specs.Outcomes.Ended.{ended-refused, ended-done, ended-cut}
-use Rattle.proof_tables.specs.Range.{capacity-word}
 use Rattle.proof_tables.specs.Reading.{read-idle, fill-idle}
-use Rattle.proof_tables.specs.Rebuilding.{rebuild-roomy, rebuild-within, rebuild-agrees}
 use Rattle.proof_tables.specs.Reclaiming.{taken}
-use Rattle.proof_tables.specs.Resetting.{reset-roomy, reset-within}
-use Rattle.proof_tables.specs.Run.{usedAt, Lost, Tidy, Healthy, Well, Run}
+use Rattle.proof_tables.specs.Run.{Lost, Healthy, Well, Run}
 use Rattle.proof_tables.specs.Sealing.{seal-roomy, seal-within}
-use Rattle.proof_tables.specs.Segs.{remaining-low}
-use Rattle.proof_tables.specs.Tests.{clash, or-left, or-right, cond-true, cond-false}
 use Rattle.proof_tables.specs.Theorem.{stepped}
-use Rattle.proof_tables.specs.Zones.{Shaped, Within, Roomy, all-fit, shaped-after}
 use Rattle.law_views.specs.Views.{Whole, seen, view-stores}
 use Rattle.proof_layout.specs.Laid.{Laid, ZoneLaid, Zoned, WellLaid, laid-zoned, laid-accepted, laid-tidy, tidy-laid}
 use Rattle.proof_layout.specs.Segments.{opened-laid, reset-laid, chunk-laid, seal-laid}

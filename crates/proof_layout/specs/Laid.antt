@@ -22,14 +22,14 @@ use Rattle.law_basic.specs.Mask.{isIn-empty}
 use Rattle.law_basic.specs.Ranges.{Test, test, and-left, and-right, and-both, length-upFrom, getD-upFrom, getD-map, sameList-true}
 use Rattle.law_basic.specs.Ranges.Test.{yes!, no! }
 use Rattle.spec_demands.specs.Layouts.{Here, Remains, foundSealed, ParityMade, Layout}
-use Rattle.proof_tables.specs.Accept.{Accepted, pointer-ok, faults-apart, zone-stripes, in-groups, copied-low, serials-differ}
-use Rattle.proof_tables.specs.Bounds.{blocks-at}
-use Rattle.proof_tables.specs.Members.{In, in-map, in-any, none-in, in-getD, is-member, member-is}
-use Rattle.proof_tables.specs.Run.{usedAt, Tidy}
-use Rattle.proof_tables.specs.Sealing.{sparesIn}
-use Rattle.proof_tables.specs.Segs.{in-present, length-records, record-at, zone-by, seg-is, copied-is, full-is}
-use Rattle.proof_tables.specs.Settled.{low-first, used-remains, remains-is-used, serial-of, SameZones, zones-sealed, zones-header}
-use Rattle.proof_tables.specs.Tests.{clash, true-false, or-left, or-right, eqb-self}
+use Rattle.law_drives.specs.Accept.{Accepted, pointer-ok, faults-apart, zone-stripes, in-groups, copied-low, serials-differ}
+use Rattle.law_drives.specs.Footers.{sparesIn}
+use Rattle.law_drives.specs.Members.{In, in-map, in-any, none-in, in-getD, is-member, member-is}
+use Rattle.law_drives.specs.Records.{blocks-at}
+use Rattle.law_drives.specs.Segs.{in-present, length-records, record-at, zone-by, seg-is, copied-is, full-is}
+use Rattle.law_drives.specs.Settled.{low-first, used-remains, remains-is-used, serial-of, SameZones, zones-sealed, zones-header}
+use Rattle.law_drives.specs.Tests.{clash, true-false, or-left, or-right, eqb-self}
+use Rattle.law_drives.specs.Tidy.{usedAt, Tidy}
 
 -- 01, What a zone holds: all of the layout but the parity
 pub record Laid (p : Params) (v : View) (gone : ℕ) (old : List Segment) : Type 0 where

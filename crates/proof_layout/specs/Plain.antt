@@ -20,13 +20,14 @@ use Rattle.law_basic.specs.Ranges.{Test, test}
 use Rattle.law_basic.specs.Ranges.Test.{yes!, no! }
 use Rattle.spec_demands.specs.Latest.{Recorded, Latest, SaidIsLatest}
 use Rattle.spec_demands.specs.Latest.Latest.{never, latest}
-use Rattle.proof_tables.specs.Base.{cand-zone, offset-here, offset-away, its-chunk}
-use Rattle.proof_tables.specs.Members.{In, is-member, member-is}
-use Rattle.proof_tables.specs.Ranks.{Beats, Tied, beats-yes, yes-beats, beats-trans, beats-self, tied-of, best-in, of-at}
+use Rattle.law_drives.specs.Best.{Tied, best-in}
+use Rattle.law_drives.specs.Members.{In, is-member, member-is}
+use Rattle.law_drives.specs.Segs.{CandAt, cand-at, at-cand}
+use Rattle.law_drives.specs.Spots.{cand-zone, Spot, spot-of}
+use Rattle.law_drives.specs.Tests.{clash, not-so, cond-true, cond-false}
+use Rattle.proof_tables.specs.Base.{offset-here, offset-away, its-chunk}
+use Rattle.proof_tables.specs.Ranks.{Beats, beats-yes, yes-beats, beats-trans, beats-self, tied-of, of-at}
 use Rattle.proof_tables.specs.Ranks.Beats.{by-stamp, by-serial, by-drive, by-offset}
-use Rattle.proof_tables.specs.Reads.{Spot, spot-of}
-use Rattle.proof_tables.specs.Segs.{CandAt, cand-at, at-cand}
-use Rattle.proof_tables.specs.Tests.{clash, not-so, cond-true, cond-false}
 
 -- ---- the rule
 

@@ -32,30 +32,33 @@ use Rattle.law_basic.specs.Ranges.Test.{yes!, no! }
 use Rattle.law_basic.specs.Stores.{storeAll-append}
 use Rattle.spec_demands.specs.Engines.{callWorld, onValues, viewIn}
 use Rattle.spec_demands.specs.Tables.{halfStored, uncountedNumber, foundAfter, Restarts}
-use Rattle.proof_tables.specs.Accept.{Accepted}
-use Rattle.proof_tables.specs.Dropping.{free-are, drop-same, drop-roomy, drop-within, drop-used, kept-known}
-use Rattle.proof_tables.specs.Idle.{whole-of}
-use Rattle.proof_tables.specs.Joins.{roomy-append, within-append, stores-none}
-use Rattle.proof_tables.specs.Laid.{header-serial, header-copied}
-use Rattle.proof_tables.specs.Losing.{named-some}
-use Rattle.proof_tables.specs.Members.{In, keep-in, in-all, in-any, below-in, first-in}
-use Rattle.proof_tables.specs.Mending.{lack, has-pointer, have-few, b-zone, b-other, b-pointer}
-use Rattle.proof_tables.specs.Outcomes.{Ended, refusal-kind, refused-unfinished, cut-unfinished, cut-cut}
+use Rattle.law_drives.specs.Accept.{Accepted}
+use Rattle.law_drives.specs.Checks.{refusal-kind}
+use Rattle.law_drives.specs.Dropping.{free-are, drop-same, drop-roomy, drop-within, drop-used, kept-known}
+use Rattle.law_drives.specs.Joins.{roomy-append, within-append, stores-none}
+use Rattle.law_drives.specs.Laid.{header-serial, header-copied}
+use Rattle.law_drives.specs.Lengths.{whole-of}
+use Rattle.law_drives.specs.Masks.{named-some}
+use Rattle.law_drives.specs.Members.{In, keep-in, in-all, in-any, below-in, first-in}
+use Rattle.law_drives.specs.Mended.{mended, serials-small}
+use Rattle.law_drives.specs.Mending.{lack, has-pointer, have-few, b-zone, b-other, b-pointer}
+use Rattle.law_drives.specs.Puts.{puts-old}
+use Rattle.law_drives.specs.Rebuilding.{counted-low}
+use Rattle.law_drives.specs.Rewriting.{old-pointer, same-else, new-pointer, new-stripe, new-header, open-now}
+use Rattle.law_drives.specs.Segs.{present-in, data-low, serial-is, copied-is}
+use Rattle.law_drives.specs.Settled.{low-first, zones-used}
+use Rattle.law_drives.specs.Tables.{remains, in-remaining}
+use Rattle.law_drives.specs.Tests.{clash, cond-true, cond-false}
+use Rattle.law_drives.specs.Tidy.{usedAt}
+use Rattle.law_drives.specs.Unsealed.{Loose, loose}
+use Rattle.law_drives.specs.Unsealed.Loose.{loose-none, loose-one}
+use Rattle.law_drives.specs.Zones.{Shaped}
+use Rattle.proof_tables.specs.Outcomes.{Ended, refused-unfinished, cut-unfinished, cut-cut}
 use Rattle.proof_tables.specs.Outcomes.Ended.{ended-refused, ended-done, ended-cut}
-use Rattle.proof_tables.specs.Puts.{puts-old}
-use Rattle.proof_tables.specs.Rebuilding.{counted-low}
-use Rattle.proof_tables.specs.Restarting.{mended, serials-small, names-none}
-use Rattle.proof_tables.specs.Rewriting.{old-pointer, same-else, new-pointer, new-stripe, new-header, open-now}
-use Rattle.proof_tables.specs.Run.{usedAt, Run}
-use Rattle.proof_tables.specs.Segs.{present-in, data-low, serial-is, copied-is}
-use Rattle.proof_tables.specs.Settled.{low-first, zones-used}
+use Rattle.proof_tables.specs.Restarting.{names-none}
+use Rattle.proof_tables.specs.Run.{Run}
 use Rattle.proof_tables.specs.Starting.{memory-missing, startChecks, startPlan, Begins, begins}
-use Rattle.proof_tables.specs.Tables.{remains, in-remaining}
-use Rattle.proof_tables.specs.Tests.{clash, cond-true, cond-false}
 use Rattle.proof_tables.specs.Theorem.{restart-ends, restart-finished}
-use Rattle.proof_tables.specs.Unsealed.{Loose, loose}
-use Rattle.proof_tables.specs.Unsealed.Loose.{loose-none, loose-one}
-use Rattle.proof_tables.specs.Zones.{Shaped}
 use Rattle.law_views.specs.Views.{Whole, seen}
 use Rattle.proof_layout.specs.Calls.{Keeps, same-keeps, stored-view, run-tidy}
 use Rattle.proof_layout.specs.Laid.{Laid, ZoneLaid, SegLaid, WellLaid, open-footers, checked-footers, accepted-zoned, laid-accepted, laid-tidy, seg-same}

@@ -21,16 +21,18 @@ use Rattle.spec.specs.Params.{footers}
 use Rattle.spec.specs.Segments.{headerAt, Segment}
 use Rattle.law_basic.specs.Geometry.{Ranged}
 use Rattle.law_basic.specs.Ranges.{and-both}
+use Rattle.law_drives.specs.Footers.{footerChunks}
+use Rattle.law_drives.specs.Headers.{header-zone, header-other, header-block}
+use Rattle.law_drives.specs.Laid.{header-serial, header-copied}
+use Rattle.law_drives.specs.Puts.{putAll}
+use Rattle.law_drives.specs.Resets.{reset-same, reset-was}
+use Rattle.law_drives.specs.Settled.{SameZones, zones-used}
+use Rattle.law_drives.specs.Tidy.{usedAt}
+use Rattle.law_drives.specs.Zones.{Shaped}
 use Rattle.proof_tables.specs.Chunks.{not-landed, pointer-some, pointer-data, offset-group, stripe-of, chunk-zone, chunk-other, chunk-grows, open-before, open-after}
-use Rattle.proof_tables.specs.Heading.{header-zone, header-other, header-block}
 use Rattle.proof_tables.specs.Idle.{StateOk}
-use Rattle.proof_tables.specs.Laid.{header-serial, header-copied}
-use Rattle.proof_tables.specs.Puts.{putAll}
-use Rattle.proof_tables.specs.Resetting.{reset-same, reset-was}
-use Rattle.proof_tables.specs.Run.{usedAt, flies, Healthy}
-use Rattle.proof_tables.specs.Sealing.{footerChunks, seal-zone, seal-other, seal-grows, seal-sealed}
-use Rattle.proof_tables.specs.Settled.{SameZones, zones-used}
-use Rattle.proof_tables.specs.Zones.{Shaped}
+use Rattle.proof_tables.specs.Run.{flies, Healthy}
+use Rattle.proof_tables.specs.Sealing.{seal-zone, seal-other, seal-grows, seal-sealed}
 use Rattle.proof_layout.specs.Laid.{ZoneLaid, SegLaid, WellLaid, seg-same}
 use Rattle.proof_layout.specs.Stored.{head-laid, put-laid, mend-laid}
 

@@ -19,13 +19,13 @@ use Rattle.spec.specs.Params.{spareLen, perFooter, footers, capacity}
 use Rattle.spec.specs.Segments.{Segment}
 use Rattle.law_basic.specs.Geometry.{Ranged, per-footer-low, footers-cover}
 use Rattle.law_basic.specs.Ranges.{and-both}
-use Rattle.proof_tables.specs.Bounds.{blocks-at}
-use Rattle.proof_tables.specs.Laid.{record-stripe, getD-footer}
-use Rattle.proof_tables.specs.Puts.{putAll, puts-pointer, puts-old, puts-new}
-use Rattle.proof_tables.specs.Range.{capacity-is, capacity-over}
-use Rattle.proof_tables.specs.Sealing.{sparesIn, footerChunks, spares-long, spares-count, spare-at, footers-count, footer-chunk, footer-rooms}
-use Rattle.proof_tables.specs.Segs.{data-low, low-data}
-use Rattle.proof_tables.specs.Zones.{ZoneOk, room-ok}
+use Rattle.law_drives.specs.Footers.{sparesIn, footerChunks, spares-long, spares-count, spare-at, footers-count, footer-chunk, footer-rooms}
+use Rattle.law_drives.specs.Laid.{record-stripe, getD-footer}
+use Rattle.law_drives.specs.Puts.{putAll, puts-pointer, puts-old, puts-new}
+use Rattle.law_drives.specs.Range.{capacity-is, capacity-over}
+use Rattle.law_drives.specs.Records.{blocks-at}
+use Rattle.law_drives.specs.Segs.{data-low, low-data}
+use Rattle.law_drives.specs.Zones.{ZoneOk, room-ok}
 use Rattle.proof_layout.specs.Laid.{ZoneLaid}
 
 -- no footers behind the data, or before them

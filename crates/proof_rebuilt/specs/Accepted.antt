@@ -20,15 +20,14 @@ use Rattle.law_basic.specs.Geometry.{Ranged}
 use Rattle.law_basic.specs.Mask.{isIn-empty}
 use Rattle.law_basic.specs.Ranges.{Test, test, and-left, and-right, and-both, map-map, getD-map, sameList-refl}
 use Rattle.law_basic.specs.Ranges.Test.{yes!, no! }
-use Rattle.proof_tables.specs.Accept.{Accepted, pointer-ok, faults-apart}
-use Rattle.proof_tables.specs.Frame.{any-map}
-use Rattle.proof_tables.specs.Members.{In, map-in, in-keep, keep-in, all-in, in-all, none-in, in-none, any-in, in-any, keep-cong, map-cong, keep-nothing}
-use Rattle.proof_tables.specs.Members.{keep-map, in-below, below-in, in-getD, getD-in}
-use Rattle.proof_tables.specs.Rebuilding.{counted-low, counted-in}
-use Rattle.proof_tables.specs.Segs.{present-in, in-present, remaining-low, zone-by, seg-is, serial-is, copied-is}
-use Rattle.proof_tables.specs.Settled.{present-all, low-first}
-use Rattle.proof_tables.specs.Tables.{remains, remaining-is, in-remaining, remaining-in}
-use Rattle.proof_tables.specs.Tests.{clash, and-false-left, and-false-right, or-neither, or-left, or-right, not-so, same-test}
+use Rattle.law_drives.specs.Accept.{Accepted, pointer-ok, faults-apart}
+use Rattle.law_drives.specs.Frame.{any-map}
+use Rattle.law_drives.specs.Members.{In, map-in, in-keep, keep-in, all-in, in-all, none-in, in-none, any-in, in-any, keep-cong, map-cong, keep-nothing, keep-map, in-below, below-in, in-getD, getD-in}
+use Rattle.law_drives.specs.Rebuilding.{counted-low, counted-in}
+use Rattle.law_drives.specs.Segs.{present-in, in-present, remaining-low, zone-by, seg-is, serial-is, copied-is}
+use Rattle.law_drives.specs.Settled.{present-all, low-first}
+use Rattle.law_drives.specs.Tables.{remains, remaining-is, in-remaining, remaining-in}
+use Rattle.law_drives.specs.Tests.{clash, and-false-left, and-false-right, or-neither, or-left, or-right, not-so, same-test}
 use Rattle.proof_rebuilt.specs.Groups.{rank-group}
 use Rattle.proof_rebuilt.specs.Numbers.{rank-of}
 use Rattle.proof_rebuilt.specs.Segment.{decoded-stripe, same-full, recs-rebuilt, recs-other, header-of, head-serial, head-copied, same-serial, same-copied}

@@ -11,7 +11,7 @@ use Rattle.spec.specs.Lists.Opt.{none, some}
 use Rattle.spec.specs.Rank.{Cand, beats, better, best, candsOf}
 use Rattle.law_basic.specs.Ranges.{Test, test}
 use Rattle.law_basic.specs.Ranges.Test.{yes!, no! }
-use Rattle.proof_tables.specs.Members.{In}
+use Rattle.law_drives.specs.Members.{In}
 
 -- one for one
 abbrev pub Alike : (Cand → Cand → Type 0) → List Cand → List Cand → Type 0

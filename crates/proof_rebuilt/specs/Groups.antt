@@ -18,12 +18,12 @@ use Rattle.spec.specs.Params.{capacity, present}
 use Rattle.spec.specs.Segments.{remaining, Segment, recordsIn, segmentOf, offsetOn, hasChunk, counts, counted}
 use Rattle.law_basic.specs.Geometry.{Ranged}
 use Rattle.law_basic.specs.Ranges.{and-left, and-right, getD-map, length-below, tally-le}
-use Rattle.proof_tables.specs.Accept.{Accepted, zone-stripes, in-groups}
-use Rattle.proof_tables.specs.Counting.{stripes-different}
-use Rattle.proof_tables.specs.Members.{In, in-all, all-in, keep-all, below-in, getD-in}
-use Rattle.proof_tables.specs.Range.{capacity-is}
-use Rattle.proof_tables.specs.Reads.{counts-in}
-use Rattle.proof_tables.specs.Segs.{present-in, in-present, length-records, record-at, chunk-at, has-chunk}
+use Rattle.law_drives.specs.Accept.{Accepted, zone-stripes, in-groups}
+use Rattle.law_drives.specs.Counting.{stripes-different}
+use Rattle.law_drives.specs.Members.{In, in-all, all-in, keep-all, below-in, getD-in}
+use Rattle.law_drives.specs.Range.{capacity-is}
+use Rattle.law_drives.specs.Segs.{present-in, in-present, length-records, record-at, chunk-at, has-chunk}
+use Rattle.law_drives.specs.Spots.{counts-in}
 use Rattle.proof_rebuilt.specs.Numbers.{rank-high, different-take, all-there}
 
 module _ (p : Params) (r : Ranged p) (v : View) (gone : ℕ) (acc : Accepted p v gone) (g : ℕ) (m : In g (remaining p v gone)) where

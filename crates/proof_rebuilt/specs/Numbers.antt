@@ -14,10 +14,10 @@ use lib.Seq.{getD-append-add}
 use Rattle.spec.specs.Lists.{upFrom, below, isMember, consIf, keep, tally}
 use Rattle.law_basic.specs.Ranges.{Test, test, upFrom-add, keep-append, keep-hit, keep-none, keep-below-snoc, below-none, length-below}
 use Rattle.law_basic.specs.Ranges.Test.{yes!, no! }
-use Rattle.proof_tables.specs.Counting.{Different, different-few}
-use Rattle.proof_tables.specs.Laid.{in-take}
-use Rattle.proof_tables.specs.Members.{In, keep-all, below-in, is-member, member-is}
-use Rattle.proof_tables.specs.Tests.{clash, same-test}
+use Rattle.law_drives.specs.Counting.{Different, different-few}
+use Rattle.law_drives.specs.Laid.{in-take}
+use Rattle.law_drives.specs.Members.{In, keep-all, below-in, is-member, member-is}
+use Rattle.law_drives.specs.Tests.{clash, same-test}
 
 -- ---- the place of a number that is kept
 

@@ -20,13 +20,13 @@ use Rattle.law_basic.specs.Geometry.{Ranged, data-drive-lt}
 use Rattle.law_basic.specs.Mask.{isIn-empty}
 use Rattle.law_basic.specs.Ranges.{Test, test}
 use Rattle.law_basic.specs.Ranges.Test.{yes!, no! }
-use Rattle.proof_tables.specs.Accept.{Accepted, serials-differ}
-use Rattle.proof_tables.specs.Base.{cand-zone, offset-here, offset-away, its-chunk}
-use Rattle.proof_tables.specs.Members.{In, map-in, flat-map, below-in}
-use Rattle.proof_tables.specs.Reads.{Spot, spot-of}
-use Rattle.proof_tables.specs.Rebuilding.{counted-in}
-use Rattle.proof_tables.specs.Segs.{CandAt}
-use Rattle.proof_tables.specs.Tests.{cond-true, cond-false}
+use Rattle.law_drives.specs.Accept.{Accepted, serials-differ}
+use Rattle.law_drives.specs.Members.{In, map-in, flat-map, below-in}
+use Rattle.law_drives.specs.Rebuilding.{counted-in}
+use Rattle.law_drives.specs.Segs.{CandAt}
+use Rattle.law_drives.specs.Spots.{cand-zone, Spot, spot-of}
+use Rattle.law_drives.specs.Tests.{cond-true, cond-false}
+use Rattle.proof_tables.specs.Base.{offset-here, offset-away, its-chunk}
 use Rattle.proof_rebuilt.specs.Accepted.{same-remaining}
 use Rattle.proof_rebuilt.specs.Alike.{Alike, AlikeOr, alike-map, alike-flat, alike-best, beats-same}
 use Rattle.proof_rebuilt.specs.Numbers.{rank-order}

@@ -23,19 +23,19 @@ use Rattle.law_basic.specs.Geometry.{Ranged, per-footer-low, footers-cover}
 use Rattle.law_basic.specs.Mask.{isIn-empty}
 use Rattle.law_basic.specs.Ranges.{and-left, and-right, map-map, getD-map, getD-map-below, sameList-true}
 use Rattle.law_basic.specs.Xor.{xorAll-lt}
-use Rattle.proof_tables.specs.Accept.{Accepted, faults-apart}
-use Rattle.proof_tables.specs.Bounds.{blocks-at, record-low}
-use Rattle.proof_tables.specs.Laid.{length-record, Long, getD-footer, field-low, serial-low, header-serial, header-copied, record-back}
-use Rattle.proof_tables.specs.Losing.{low-present}
-use Rattle.proof_tables.specs.Members.{In, map-in, in-map, in-keep, all-in, in-all, none-in, in-any, keep-cong, in-below, below-in, in-getD, index-is}
-use Rattle.proof_tables.specs.Range.{capacity-is, capacity-over}
-use Rattle.proof_tables.specs.Reads.{counts-in}
-use Rattle.proof_tables.specs.Rebuilding.{counted-in, pieceChunk}
-use Rattle.proof_tables.specs.Segs.{present-in, in-present, zone-by, recs-here, seg-is, serial-is, copied-is, full-is, chunk-at, length-records}
-use Rattle.proof_tables.specs.Settled.{present-all, low-first}
-use Rattle.proof_tables.specs.Tables.{remains, remaining-in}
-use Rattle.proof_tables.specs.Tests.{same-test}
-use Rattle.proof_tables.specs.Zones.{Bytes}
+use Rattle.law_drives.specs.Accept.{Accepted, faults-apart}
+use Rattle.law_drives.specs.Laid.{length-record, Long, getD-footer, field-low, serial-low, header-serial, header-copied, record-back}
+use Rattle.law_drives.specs.Masks.{low-present}
+use Rattle.law_drives.specs.Members.{In, map-in, in-map, in-keep, all-in, in-all, none-in, in-any, keep-cong, in-below, below-in, in-getD, index-is}
+use Rattle.law_drives.specs.Range.{capacity-is, capacity-over}
+use Rattle.law_drives.specs.Rebuilding.{counted-in, pieceChunk}
+use Rattle.law_drives.specs.Records.{blocks-at, record-low}
+use Rattle.law_drives.specs.Segs.{present-in, in-present, zone-by, recs-here, seg-is, serial-is, copied-is, full-is, chunk-at, length-records}
+use Rattle.law_drives.specs.Settled.{present-all, low-first}
+use Rattle.law_drives.specs.Spots.{counts-in}
+use Rattle.law_drives.specs.Tables.{remains, remaining-in}
+use Rattle.law_drives.specs.Tests.{same-test}
+use Rattle.law_drives.specs.Zones.{Bytes}
 use Rattle.proof_rebuilt.specs.Groups.{sealed-all}
 use Rattle.proof_rebuilt.specs.Numbers.{rank-low, rank-at, rank-of}
 use Rattle.proof_rebuilt.specs.Zone.{rebuiltView, Loss, lost, by-drive, zone-other, rebuilt-full, rebuilt-header, rebuilt-piece, rebuilt-foot, rebuilt-stored}

@@ -31,17 +31,17 @@ use Rattle.law_basic.specs.Ranges.{and-left, and-right}
 use Rattle.spec_demands.specs.Engines.{callWorld, onValues, viewIn}
 use Rattle.spec_demands.specs.Tables.{Rebuilds}
 use Rattle.law_views.specs.Views.{seen, view-stores}
-use Rattle.proof_tables.specs.Accept.{Accepted, checks-of}
-use Rattle.proof_tables.specs.Checks.{Clear, clear}
-use Rattle.proof_tables.specs.Idle.{whole-of}
-use Rattle.proof_tables.specs.Losing.{named-some}
-use Rattle.proof_tables.specs.Outcomes.{Ended, ended, refusal-kind, cut-mild}
+use Rattle.law_drives.specs.Accept.{Accepted, checks-of}
+use Rattle.law_drives.specs.Checks.{Clear, clear, refusal-kind}
+use Rattle.law_drives.specs.Lengths.{whole-of}
+use Rattle.law_drives.specs.Masks.{named-some}
+use Rattle.law_drives.specs.Range.{capacity-word}
+use Rattle.law_drives.specs.Rebuilding.{rebuild-roomy, rebuild-within}
+use Rattle.law_drives.specs.Tests.{clash, false-true, or-right}
+use Rattle.law_drives.specs.Zones.{all-fit}
+use Rattle.proof_tables.specs.Outcomes.{Ended, ended, cut-mild}
 use Rattle.proof_tables.specs.Outcomes.Ended.{ended-refused, ended-done, ended-cut}
-use Rattle.proof_tables.specs.Range.{capacity-word}
-use Rattle.proof_tables.specs.Rebuilding.{rebuild-roomy, rebuild-within}
 use Rattle.proof_tables.specs.Run.{Lost, Well, Run}
-use Rattle.proof_tables.specs.Tests.{clash, false-true, or-right}
-use Rattle.proof_tables.specs.Zones.{all-fit}
 use Rattle.proof_rebuilt.specs.Accepted.{rebuilt-accepted}
 use Rattle.proof_rebuilt.specs.Said.{rebuilt-said}
 use Rattle.proof_rebuilt.specs.Zone.{rebuiltView, Loss, lost}

@@ -21,14 +21,14 @@ use Rattle.spec.specs.Segments.{Segment, segmentOf, segments, counted, pieceOf}
 use Rattle.law_basic.specs.Geometry.{Ranged}
 use Rattle.law_basic.specs.Mask.{isIn-only}
 use Rattle.law_basic.specs.Ranges.{length-below, getD-map, getD-map-below}
-use Rattle.proof_tables.specs.Accept.{Accepted}
-use Rattle.proof_tables.specs.Losing.{named-in}
-use Rattle.proof_tables.specs.Puts.{putAll, puts-pointer, puts-new}
-use Rattle.proof_tables.specs.Range.{capacity-is, capacity-over}
-use Rattle.proof_tables.specs.Rebuilding.{counted-low, pieceChunk, rebuilt-chunks, rebuilt-is, hits-here, rebuild-agrees}
-use Rattle.proof_tables.specs.Segs.{full-is}
-use Rattle.proof_tables.specs.Tables.{remains, in-remaining}
-use Rattle.proof_tables.specs.Zones.{Shaped, zoneStore, zone-after}
+use Rattle.law_drives.specs.Accept.{Accepted}
+use Rattle.law_drives.specs.Masks.{named-in}
+use Rattle.law_drives.specs.Puts.{putAll, puts-pointer, puts-new}
+use Rattle.law_drives.specs.Range.{capacity-is, capacity-over}
+use Rattle.law_drives.specs.Rebuilding.{counted-low, pieceChunk, rebuilt-chunks, rebuilt-is, hits-here, rebuild-agrees}
+use Rattle.law_drives.specs.Segs.{full-is}
+use Rattle.law_drives.specs.Tables.{remains, in-remaining}
+use Rattle.law_drives.specs.Zones.{Shaped, zoneStore, zone-after}
 use Rattle.proof_rebuilt.specs.Groups.{sealed-all}
 
 -- the view that a rebuild of drive d leaves

@@ -1,5 +1,5 @@
 -- What holds between calls whichever drive is missing, and that the reads then give what the drives say. Assumes nothing.
-use mathlib.Core.Path.{_≡_, refl, sym, ap, ap₂, _∙_, subst}
+use mathlib.Core.Path.{_≡_, refl, sym, ap, _∙_, subst}
 use mathlib.Core.List.{List, [], map}
 use mathlib.Core.Bool.{true, false, cond}
 use Prim.Native.Nat.{ℕ, _+_, _-_, _^_, _<_}
@@ -13,28 +13,26 @@ use Rattle.spec.specs.Demands.{saidBlock}
 use Rattle.spec.specs.Drives.{View, zoneAt, chunkAt, Disk, zoneOn, placeSegment, sealedIn, recordIn, recordAt}
 use Rattle.spec.specs.Engine.{lentOk}
 use Rattle.spec.specs.History.Seen.{got}
-use Rattle.spec.specs.Layout.{dataDrive}
 use Rattle.spec.specs.Lists.{Opt, any, consIf, isNil, firstOr, isIn}
 use Rattle.spec.specs.Lists.Opt.{none, some}
 use Rattle.spec.specs.Memory.{Memory, stateOk, placeAt, shownAt}
-use Rattle.spec.specs.Params.{inRange, placeOf, placeBlock, placeZone, placeDrive, present}
+use Rattle.spec.specs.Params.{inRange, placeBlock, placeDrive, present}
 use Rattle.spec.specs.Parity.{Piece, parityPiece}
 use Rattle.spec.specs.Rank.{Cand, best, placeOr, candsOf}
 use Rattle.spec.specs.Read.{Found, lookup, foundFaults, shown, decodeFaults, storedAt, decodedAt, readPiece}
 use Rattle.spec.specs.Read.Found.{nowhere, here, away}
-use Rattle.spec.specs.Segments.{segmentOf, segments, offsetOn, storedPiece, pieceOf, offsetOf, candOf, candidates, addressTable, compactTable}
-use Rattle.law_basic.specs.Geometry.{Ranged, place-zone}
+use Rattle.spec.specs.Segments.{segmentOf, segments, offsetOn, storedPiece, pieceOf, offsetOf, candidates, addressTable, compactTable}
+use Rattle.law_basic.specs.Geometry.{Ranged}
 use Rattle.law_basic.specs.Ranges.{Test, test, map-map}
 use Rattle.law_basic.specs.Ranges.Test.{yes!, no! }
 use Rattle.law_views.specs.Views.{seen}
-use Rattle.proof_tables.specs.Members.{In, map-in, in-none, map-cong}
-use Rattle.proof_tables.specs.Range.{capacity-over}
-use Rattle.proof_tables.specs.Ranks.{best-in}
-use Rattle.proof_tables.specs.Reads.{Spot, counts-in, spot-of, spot-block, spot-drive, spot-low, spot-faults, InGroups, shown-first}
-use Rattle.proof_tables.specs.Segs.{present-in, remaining-low, zone-by, seg-is, ChunkAt, chunk-at, CandAt, cand-at}
-use Rattle.proof_tables.specs.Tables.{place-at, remains}
-use Rattle.proof_tables.specs.Tests.{cond-true, cond-false}
-use Rattle.proof_tables.specs.Zones.{Shaped}
+use Rattle.law_drives.specs.Best.{best-in}
+use Rattle.law_drives.specs.Members.{In, map-in, in-none, map-cong}
+use Rattle.law_drives.specs.Segs.{present-in, zone-by, ChunkAt, chunk-at, CandAt, cand-at}
+use Rattle.law_drives.specs.Spots.{Spot, counts-in, spot-of, spot-block, spot-drive, spot-low, spot-faults, InGroups, shown-first, cand-offset, cand-zone}
+use Rattle.law_drives.specs.Tables.{place-at, remains}
+use Rattle.law_drives.specs.Tests.{cond-true, cond-false}
+use Rattle.law_drives.specs.Zones.{Shaped}
 
 -- every chunk of what remains sits at an offset of its group, where a drive is missing
 abbrev pub Decodes : Params → View → ℕ → Type 0
@@ -102,31 +100,13 @@ module _ (p : Params) (r : Ranged p) (v : View) (gone : ℕ) where
   found-clear o f (finds-away c e k t b q) = rw q (spot-faults p r v gone c t)
 
   module _ (c : Cand) (k : CandAt p v gone c) (t : Spot p v gone c) where
-    cand-drive : c .drive ≡ dataDrive p (k .stripe) (k .position)
-    unfolding candOf
-    cand-drive = ap (λ (x : Cand). x .drive) (k .it-is)
-
-    cand-offset : c .offset ≡ offsetOf gone (segmentOf p v gone (k .of)) (k .stripe) (c .drive)
-    unfolding candOf
-    cand-offset = ap (λ (x : Cand). x .offset) (k .it-is) ∙ ap (offsetOf gone (segmentOf p v gone (k .of)) (k .stripe)) (sym cand-drive)
-
-    cand-place : c .place ≡ placeOf p (c .drive) (k .of) (1 + c .offset)
-    unfolding candOf zoneOn
-    cand-place = ap (λ (x : Cand). x .place) (k .it-is)
-        ∙ ap₂ (λ (x y : ℕ). placeOf p x (segmentOf p v gone (k .of) .seg) (1 + y)) (sym cand-drive) (sym (ap (λ (x : Cand). x .offset) (k .it-is)))
-        ∙ ap (λ (x : ℕ). placeOf p (c .drive) x (1 + c .offset)) (seg-is p v gone (k .of))
-
-    pub cand-zone : placeZone p (c .place) ≡ k .of
-    cand-zone = ap (placeZone p) cand-place
-        ∙ place-zone p (c .drive) (k .of) (1 + c .offset) (remaining-low p v gone (k .of) (k .remains)) (omega (arith, capacity-over p r, t .offset-low))
-
     pub offset-here : isIn gone (c .drive) ≡ false → c .offset ≡ offsetOn (segmentOf p v gone (k .of)) (c .drive) (k .stripe)
     unfolding offsetOf
-    offset-here b = cand-offset ∙ cond-false (isIn gone (c .drive)) (k .stripe) (offsetOn (segmentOf p v gone (k .of)) (c .drive) (k .stripe)) b
+    offset-here b = cand-offset p r v gone c k t ∙ cond-false (isIn gone (c .drive)) (k .stripe) (offsetOn (segmentOf p v gone (k .of)) (c .drive) (k .stripe)) b
 
     pub offset-away : isIn gone (c .drive) ≡ true → c .offset ≡ k .stripe
     unfolding offsetOf
-    offset-away b = cand-offset ∙ cond-true (isIn gone (c .drive)) (k .stripe) (offsetOn (segmentOf p v gone (k .of)) (c .drive) (k .stripe)) b
+    offset-away b = cand-offset p r v gone c k t ∙ cond-true (isIn gone (c .drive)) (k .stripe) (offsetOn (segmentOf p v gone (k .of)) (c .drive) (k .stripe)) b
 
     pub its-chunk : isIn gone (c .drive) ≡ false → ChunkAt p v gone (k .of) (c .drive) (k .stripe)
     its-chunk b = chunk-at p v gone (k .of) (c .drive) (k .stripe) (t .drive-low) b (counts-in p gone (segmentOf p v gone (k .of)) (k .stripe) (c .drive) (k .it-counts) (t .drive-low) b)
@@ -143,7 +123,7 @@ module _ (p : Params) (r : Ranged p) (v : View) (gone : ℕ) where
         let es : recordIn p (sealedIn p v gone g) (zoneAt v d g) (c .offset) .stripe ≡ k .stripe =
         ap (λ (y : ℕ). recordIn p (sealedIn p v gone g) (zoneAt v d g) y .stripe) eo ∙ its-chunk b .its-stripe in
         let eb : placeBlock p (c .place) - 1 ≡ o = ap (λ (y : ℕ). y - 1) (spot-block p r v gone c t) ∙ (let z : 1 + c .offset - 1 ≡ c .offset = omega arith in z) ∙ eo in
-        rw (b, cand-zone, es, spot-drive p r v gone c t, eb, zone-by p v gone g d (t .drive-low))
+        rw (b, cand-zone p r v gone c k t, es, spot-drive p r v gone c t, eb, zone-by p v gone g d (t .drive-low))
 
     block-of-shown : InGroups p v gone → (d : ℕ) → In d (present p gone)
         → storedAt p v gone d (k .of) (firstOr 0 (shownAt p v (compactTable p (segments p v gone)) d (k .of) (k .stripe))) .block
@@ -164,7 +144,7 @@ module _ (p : Params) (r : Ranged p) (v : View) (gone : ℕ) where
         let tb = compactTable p (segments p v gone) in
         let eo : c .offset ≡ k .stripe = offset-away b in
         let eb : placeBlock p (c .place) - 1 ≡ k .stripe = ap (λ (y : ℕ). y - 1) (spot-block p r v gone c t) ∙ (let z : 1 + c .offset - 1 ≡ c .offset = omega arith in z) ∙ eo in
-        rw (b, cand-zone, eo, eb)
+        rw (b, cand-zone p r v gone c k t, eo, eb)
         (ap (λ (y : List (List ℕ)). got (parity (p .B) y))
         (map-map (λ (q : Piece). q .block) (storedPiece x (k .stripe)) (present p gone)
         ∙ map-cong (λ d. storedPiece x (k .stripe) d .block) (λ d. storedAt p v gone d g (firstOr 0 (shownAt p v tb d g (k .stripe))) .block) (present p gone)
@@ -183,7 +163,7 @@ module _ (p : Params) (r : Ranged p) (v : View) (gone : ℕ) where
         let (d, i, e) = map-in (λ d. shownAt p v tb d g (k .stripe)) (present p gone) l m in
         let (hd, pr) = present-in p gone d i in
         ap isNil e ∙ shown-first p r v gone w g d (k .stripe) (k .remains) hd pr (counts-in p gone (segmentOf p v gone g) (k .stripe) d (k .it-counts) hd pr) .1) in
-        rw (cand-zone, eb, q)
+        rw (cand-zone p r v gone c k t, eb, q)
 
   -- no decode that is found is bad
   pub decodes-clear : (o : Opt Cand) (f : Found) → Decodes p v gone → Finds p v gone o f → decodeFaults p v gone (compactTable p (segments p v gone)) f ≡ []

@@ -23,17 +23,18 @@ use Rattle.spec.specs.Params.{dataCount, capacity, inflightLen}
 use Rattle.spec.specs.Write.{placed}
 use Rattle.law_basic.specs.Geometry.{Ranged, slot-within, parity-drive-lt, data-drive-lt}
 use Rattle.law_basic.specs.Splice.{length-part, length-splice}
+use Rattle.law_drives.specs.Masks.{only-low}
+use Rattle.law_drives.specs.Members.{map-in, below-in}
+use Rattle.law_drives.specs.Range.{data-count}
+use Rattle.law_drives.specs.Rebuilding.{parity-length}
+use Rattle.law_drives.specs.Tests.{clash}
+use Rattle.law_drives.specs.Tidy.{Tidy}
 use Rattle.proof_tables.specs.Idle.{SlotOk, StateOk}
-use Rattle.proof_tables.specs.Masks.{only-low}
-use Rattle.proof_tables.specs.Members.{map-in, below-in}
 use Rattle.proof_tables.specs.Opened.{busy-same, add-open}
-use Rattle.proof_tables.specs.Range.{data-count}
-use Rattle.proof_tables.specs.Rebuilding.{parity-length}
-use Rattle.proof_tables.specs.Run.{flies, Lists, Tidy, Healthy}
+use Rattle.proof_tables.specs.Run.{flies, Lists, Healthy}
 use Rattle.proof_tables.specs.Slots.{begin-number, begin-number-other, begin-filled, begin-filled-other, begin-landed, begin-landed-other, begin-writes}
 use Rattle.proof_tables.specs.Slots.{begin-writes-other, begin-next, add-filled, add-filled-other, add-number, add-landed, add-writes, add-writes-other}
 use Rattle.proof_tables.specs.Slots.{add-lists, free-is, some-flies}
-use Rattle.proof_tables.specs.Tests.{clash}
 
 -- ---- the in-flight buffer
 

@@ -16,8 +16,8 @@ use Rattle.spec.specs.Calls.Check.{rule, zones}
 use Rattle.spec.specs.Closing.{padded, closeChecks, closePlan, closeVerdict}
 use Rattle.spec.specs.Counts.{paddingAddress, lastCount}
 use Rattle.spec.specs.Drives.{View, pointerAt, Store, storeView, Disk, storeDisk, storeAll, emptyZones}
-use Rattle.spec.specs.Engine.Call.{write, close}
 use Rattle.spec.specs.Engine.{storeCount, lentBlock, verdict, lentOk, callOn, callDisk}
+use Rattle.spec.specs.Engine.Call.{write, close}
 use Rattle.spec.specs.Lists.{keep, isNil, isIn}
 use Rattle.spec.specs.Memory.{Memory, mkMemory, filledIn, fillingSlot, hasFilling, stateFaults, setStamp, addEntry}
 use Rattle.spec.specs.Params.{dataCount, inRange, inflightLen}
@@ -28,23 +28,24 @@ use Rattle.law_basic.specs.Be.{room}
 use Rattle.law_basic.specs.Geometry.{Ranged, ranged, addresses-all}
 use Rattle.law_basic.specs.Mask.{isIn-empty}
 use Rattle.law_views.specs.Views.{Whole, seen, view-stores, whole-stores}
+use Rattle.law_drives.specs.Checks.{Passes, clear}
+use Rattle.law_drives.specs.Lengths.{lengths-of, whole-of}
+use Rattle.law_drives.specs.Members.{In, nil-append}
+use Rattle.law_drives.specs.Range.{capacity-word}
+use Rattle.law_drives.specs.Tables.{length-addresses, length-compact}
+use Rattle.law_drives.specs.Tests.{clash, or-left, or-right, cond-same}
+use Rattle.law_drives.specs.Zones.{Shaped, hits, Room, Within, Roomy, all-fit, shaped-after}
 use Rattle.proof_tables.specs.Carried.{stamp-healthy, stamp-ok}
-use Rattle.proof_tables.specs.Checks.{Passes, clear}
 use Rattle.proof_tables.specs.Filling.{placed-long, add-ok, fill-healthy}
-use Rattle.proof_tables.specs.Idle.{StateOk, state-of, of-state, lengths-of, of-lengths, whole-of}
+use Rattle.proof_tables.specs.Idle.{StateOk, state-of, of-state, of-lengths}
 use Rattle.proof_tables.specs.Live.{table-clear}
 use Rattle.proof_tables.specs.Losing.{refused-kept, cut-kept}
-use Rattle.proof_tables.specs.Members.{In}
 use Rattle.proof_tables.specs.Outcomes.{Ended, ended}
 use Rattle.proof_tables.specs.Outcomes.Ended.{ended-refused, ended-done, ended-cut}
-use Rattle.proof_tables.specs.Range.{capacity-word}
-use Rattle.proof_tables.specs.Reading.{state-clear, nil-append}
+use Rattle.proof_tables.specs.Reading.{state-clear}
 use Rattle.proof_tables.specs.Run.{flies, Healthy, Well, Run, Kept}
 use Rattle.proof_tables.specs.Sending.{filling-slot, SentOk, sends}
 use Rattle.proof_tables.specs.Slots.{add-filled, some-flies}
-use Rattle.proof_tables.specs.Tables.{length-addresses, length-compact}
-use Rattle.proof_tables.specs.Tests.{clash, or-left, or-right, cond-same}
-use Rattle.proof_tables.specs.Zones.{Shaped, hits, Room, Within, Roomy, all-fit, shaped-after}
 
 -- stores made and a memory that goes with the view after them
 pub well-run : (p : Params) (k : Disk) (ss : List Store) (m : Memory) → inRange p ≡ true → Whole p k → Shaped p (seen p k) → Roomy p (seen p k) ss → ((s : Store) → In s ss → Within p s)

@@ -18,9 +18,9 @@ use Rattle.spec.specs.Memory.{Memory, slotCount, slots, idleState, stripeIn, fi
 use Rattle.spec.specs.Params.{dataCount, imageLen, pointersLen, addressesLen, compactLen, inflightLen}
 use Rattle.law_basic.specs.Geometry.{Ranged}
 use Rattle.law_basic.specs.Ranges.{and-left, and-right, and-both}
-use Rattle.law_views.specs.Views.{Whole}
-use Rattle.proof_tables.specs.Members.{In, all-in, in-all, in-below, below-in, in-getD, getD-in}
-use Rattle.proof_tables.specs.Tables.{zero-at}
+use Rattle.law_drives.specs.Lengths.{Lengths}
+use Rattle.law_drives.specs.Members.{In, all-in, in-all, in-below, below-in, in-getD, getD-in}
+use Rattle.law_drives.specs.Tables.{zero-at}
 
 pub record SlotOk (p : Params) (st : State) (i : ℕ) : Type 0 where
   pub stripe-ok : stripeIn st i < p .S
@@ -141,34 +141,6 @@ idle-ok p r gone t s o x hg h1 ho hx = of-state p (idleState 1 gone t s o x) (re
   offsets-low = λ j. subst (λ (y : ℕ). y < p .S) (sym (zero-at 64 j)) (r .stripes-low);
 })
 
--- ---- lengths
-
-pub record Lengths (p : Params) (k : Disk) (m : Memory) : Type 0 where
-  pub image-ok : length (k .image) ≡ imageLen p
-  pub pointers-ok : length (k .pointers) ≡ pointersLen p
-  pub addresses-ok : length (m .addresses) ≡ addressesLen p
-  pub compact-ok : length (m .compact) ≡ compactLen p
-  pub inflight-ok : length (m .inflight) ≡ inflightLen p
-
-pub lengths-of : (p : Params) (k : Disk) (m : Memory) → lentOk p k m ≡ true → Lengths p k m
-unfolding lentOk
-lengths-of p k m q =
-    let t1 = eqb (length (k .image)) (imageLen p) in
-    let t2 = eqb (length (k .pointers)) (pointersLen p) in
-    let t3 = eqb (length (m .addresses)) (addressesLen p) in
-    let t4 = eqb (length (m .compact)) (compactLen p) in
-    let t5 = eqb (length (m .inflight)) (inflightLen p) in
-    let q4 = and-left (t1 && t2 && t3 && t4) t5 q in
-    let q3 = and-left (t1 && t2 && t3) t4 q4 in
-    let q2 = and-left (t1 && t2) t3 q3 in
-    record {
-      image-ok = eqb-true (length (k .image)) (imageLen p) (and-left t1 t2 q2);
-      pointers-ok = eqb-true (length (k .pointers)) (pointersLen p) (and-right t1 t2 q2);
-      addresses-ok = eqb-true (length (m .addresses)) (addressesLen p) (and-right (t1 && t2) t3 q3);
-      compact-ok = eqb-true (length (m .compact)) (compactLen p) (and-right (t1 && t2 && t3) t4 q4);
-      inflight-ok = eqb-true (length (m .inflight)) (inflightLen p) (and-right (t1 && t2 && t3 && t4) t5 q);
-    }
-
 pub of-lengths : (p : Params) (k : Disk) (m : Memory) → Lengths p k m → lentOk p k m ≡ true
 unfolding lentOk
 of-lengths p k m l =
@@ -184,6 +156,3 @@ of-lengths p k m l =
     (eq-eqb (length (m .addresses)) (addressesLen p) (l .addresses-ok)))
     (eq-eqb (length (m .compact)) (compactLen p) (l .compact-ok)))
     (eq-eqb (length (m .inflight)) (inflightLen p) (l .inflight-ok))
-
-pub whole-of : (p : Params) (k : Disk) (m : Memory) → lentOk p k m ≡ true → Whole p k
-whole-of p k m q = record { image-long = lengths-of p k m q .image-ok; pointers-long = lengths-of p k m q .pointers-ok }

@@ -17,8 +17,8 @@ use Rattle.spec.specs.Calls.Check.{rule, zones}
 use Rattle.spec.specs.Counts.{neverPlace}
 use Rattle.spec.specs.Drives.{View, pointerAt, Store, storeView, Disk, storeDisk, storeAll, zoneOn}
 use Rattle.spec.specs.Drives.Store.{put}
-use Rattle.spec.specs.Engine.Call.{land}
 use Rattle.spec.specs.Engine.{storeCount, lentBlock, verdict, lentOk, callOn, callDisk}
+use Rattle.spec.specs.Engine.Call.{land}
 use Rattle.spec.specs.Landing.{slotOf, ready, waiting, completes, seals, flightRec, misplaced, overfull, entryFaults, landFaults, landedCands, pointed}
 use Rattle.spec.specs.Landing.{landChecks, sealStores, landStore, landPlan, landVerdict}
 use Rattle.spec.specs.Layout.{group, compactEntry, Rec, recordBytes}
@@ -33,29 +33,31 @@ use Rattle.law_basic.specs.Ranges.{Test, test, and-left, and-right, and-both, l
 use Rattle.law_basic.specs.Ranges.Test.{yes!, no! }
 use Rattle.law_basic.specs.Stores.{storeAll-append}
 use Rattle.law_views.specs.Views.{seen}
-use Rattle.proof_tables.specs.Checks.{clear}
+use Rattle.law_drives.specs.Checks.{clear}
+use Rattle.law_drives.specs.Growing.{Grows, grows-used, grows-tidy, grows-candidates, grows-compact}
+use Rattle.law_drives.specs.Joins.{roomy-append, within-append}
+use Rattle.law_drives.specs.Lengths.{whole-of}
+use Rattle.law_drives.specs.Members.{In, in-none, flat-nothing, below-in, index-passes, index-none, nil-append}
+use Rattle.law_drives.specs.Range.{capacity-is}
+use Rattle.law_drives.specs.Settled.{zones-pointer}
+use Rattle.law_drives.specs.Spots.{spot-faults}
+use Rattle.law_drives.specs.Tests.{clash, and-false-right, cond-true, cond-false, cond-same}
+use Rattle.law_drives.specs.Tidy.{usedAt, Tidy}
+use Rattle.law_drives.specs.Zones.{Shaped, Within, Roomy, shaped-after}
 use Rattle.proof_tables.specs.Chunks.{pointer-some, pointer-data, offset-group, chunk-roomy, chunk-tidy, addresses-stay, addresses-land, compact-lands}
 use Rattle.proof_tables.specs.Chunks.{sealed1, chunk-healthy, chunk-state, chunk-missing, freed-state, freed-healthy, all-behind, none-left}
 use Rattle.proof_tables.specs.Filling.{block-long! }
 use Rattle.proof_tables.specs.Going.{well-run, address-table, compact-table, buffer-long}
-use Rattle.proof_tables.specs.Growing.{Grows, grows-used, grows-tidy, grows-candidates, grows-compact}
-use Rattle.proof_tables.specs.Idle.{StateOk, state-of, whole-of}
-use Rattle.proof_tables.specs.Joins.{roomy-append, within-append}
+use Rattle.proof_tables.specs.Idle.{StateOk, state-of}
 use Rattle.proof_tables.specs.Live.{Holds, table-holds}
 use Rattle.proof_tables.specs.Live.Holds.{holds-none, holds-some}
 use Rattle.proof_tables.specs.Losing.{refused-kept, cut-kept}
-use Rattle.proof_tables.specs.Members.{In, in-none, flat-nothing, below-in, index-passes, index-none}
 use Rattle.proof_tables.specs.Outcomes.{Ended, ended}
 use Rattle.proof_tables.specs.Outcomes.Ended.{ended-refused, ended-done, ended-cut}
-use Rattle.proof_tables.specs.Range.{capacity-is}
-use Rattle.proof_tables.specs.Reading.{state-clear, nil-append}
-use Rattle.proof_tables.specs.Reads.{spot-faults}
-use Rattle.proof_tables.specs.Run.{usedAt, flies, Lists, Tidy, Healthy, Well, Run, Kept}
+use Rattle.proof_tables.specs.Reading.{state-clear}
+use Rattle.proof_tables.specs.Run.{flies, Lists, Healthy, Well, Run, Kept}
 use Rattle.proof_tables.specs.Sealing.{seal-pointer, seal-roomy, seal-within, seal-grows, seal-records}
-use Rattle.proof_tables.specs.Settled.{zones-pointer}
 use Rattle.proof_tables.specs.Slots.{free-lists}
-use Rattle.proof_tables.specs.Tests.{clash, and-false-right, cond-true, cond-false, cond-same}
-use Rattle.proof_tables.specs.Zones.{Shaped, Within, Roomy, shaped-after}
 
 -- ---- the eighth of a stripe
 

@@ -17,12 +17,12 @@ use Rattle.spec.specs.Rank.{Cand, best, placeOr, candsOf}
 use Rattle.spec.specs.Reclaim.{placesIn, tableFaults}
 use Rattle.spec.specs.Segments.{segments, candidates, addressTable}
 use Rattle.law_basic.specs.Geometry.{Ranged}
-use Rattle.proof_tables.specs.Members.{In, in-map, map-in, in-keep, keep-in, in-none, in-below, below-in}
-use Rattle.proof_tables.specs.Ranks.{best-in}
-use Rattle.proof_tables.specs.Reads.{Spot, spot-of, spot-drive, spot-low}
-use Rattle.proof_tables.specs.Segs.{CandAt, cand-at}
-use Rattle.proof_tables.specs.Tables.{place-at}
-use Rattle.proof_tables.specs.Tests.{clash}
+use Rattle.law_drives.specs.Best.{best-in}
+use Rattle.law_drives.specs.Members.{In, in-map, map-in, in-keep, keep-in, in-none, in-below, below-in}
+use Rattle.law_drives.specs.Segs.{CandAt, cand-at}
+use Rattle.law_drives.specs.Spots.{Spot, spot-of, spot-drive, spot-low}
+use Rattle.law_drives.specs.Tables.{place-at}
+use Rattle.law_drives.specs.Tests.{clash}
 
 -- what the table holds of an address
 pub data Holds (p : Params) (v : View) (tb : List ℕ) (a : ℕ) : Type 0 where

@@ -3,26 +3,21 @@ use mathlib.Core.Path.{_≡_, refl, sym, ap, _∙_, subst}
 use mathlib.Core.List.{List, [], _∷_}
 use mathlib.Core.Bool.{Bool, true, false, not, _&&_, _||_}
 use mathlib.Core.Logic.{inl}
-use Prim.Native.Nat.{ℕ, _^_, _≤_, _<_}
-use native.Mathlib.Decide.{ℕ-discrete}
-use borrow.Author.Tests.{ne-eqb, ltb-true, eqb-true, not-false}
-use native.Mathlib.Omega.{arith}
+use Prim.Native.Nat.{ℕ, _<_}
+use borrow.Author.Tests.{ltb-true, eqb-true, not-false}
 use lib.Dec.{ltb, eqb}
-use lib.Count.{ones}
-use Rattle.spec.specs.declared.Params.{Params}
 use Rattle.spec.specs.declared.Answer.{Answer}
 use Rattle.spec.specs.declared.Answer.the-variants.{Cut, Rebuilt}
-use Rattle.proof_tables.specs.Run.{Lost, Run, Kept}
+use Rattle.spec.specs.declared.Params.{Params}
 use Rattle.spec.specs.Answers.{kind, isRefused, isRefusedAs, isCut}
 use Rattle.spec.specs.Calls.{Check, firstRefusal, Plan, mkPlan, decided, After, outcome}
 use Rattle.spec.specs.Calls.Check.{rule}
 use Rattle.spec.specs.Closing.{closeChecks, closeVerdict}
 use Rattle.spec.specs.Drives.{View, storeView, Disk, storeDisk, storeAll}
-use Rattle.spec.specs.Engine.Call.{write, land, close, reclaim, rebuild}
 use Rattle.spec.specs.Engine.{storeCount, lentBlock, verdict, lentOk, callOn, callDisk}
+use Rattle.spec.specs.Engine.Call.{write, land, close, reclaim, rebuild}
 use Rattle.spec.specs.Faults.{imageChecks}
 use Rattle.spec.specs.Landing.{landChecks, landVerdict}
-use Rattle.spec.specs.Lists.{isNil, only, isIn}
 use Rattle.spec.specs.Memory.{Memory}
 use Rattle.spec.specs.Params.{inRange, named, present}
 use Rattle.spec.specs.Rebuild.{namesMissing, rebuildChecks, rebuildStores, rebuildVerdict}
@@ -31,59 +26,25 @@ use Rattle.spec.specs.Segments.{lowDrive, segments, candidates, addressTable, c
 use Rattle.spec.specs.Write.{writeChecks, writeVerdict}
 use Rattle.law_basic.specs.Be.{room}
 use Rattle.law_basic.specs.Geometry.{Ranged, ranged}
-use Rattle.law_basic.specs.Mask.{isIn-only}
 use Rattle.law_basic.specs.Ranges.{and-left, and-right}
 use Rattle.law_views.specs.Views.{seen, view-stores, whole-stores}
-use Rattle.proof_tables.specs.Accept.{Accepted, checks-of, in-groups}
+use Rattle.law_drives.specs.Accept.{Accepted, checks-of, in-groups}
+use Rattle.law_drives.specs.Checks.{Passes, Clear, clear}
+use Rattle.law_drives.specs.Frame.{Agree, same-candidates, same-compact, same-accepted}
+use Rattle.law_drives.specs.Lengths.{lengths-of, whole-of}
+use Rattle.law_drives.specs.Masks.{named-in, named-some, low-present}
+use Rattle.law_drives.specs.Members.{In}
+use Rattle.law_drives.specs.Range.{capacity-word}
+use Rattle.law_drives.specs.Rebuilding.{rebuild-roomy, rebuild-within, rebuild-agrees}
+use Rattle.law_drives.specs.Spots.{InGroups}
+use Rattle.law_drives.specs.Tests.{clash, or-right}
+use Rattle.law_drives.specs.Zones.{Shaped, all-fit, shaped-after}
 use Rattle.proof_tables.specs.Base.{Base}
-use Rattle.proof_tables.specs.Checks.{Passes, Clear, clear}
-use Rattle.proof_tables.specs.Frame.{Agree, same-candidates, same-compact, same-accepted}
-use Rattle.proof_tables.specs.Idle.{lengths-of, of-lengths, whole-of}
-use Rattle.proof_tables.specs.Masks.{only-low, ones-only, only-nonzero}
-use Rattle.proof_tables.specs.Members.{In, first-in, in-some}
+use Rattle.proof_tables.specs.Idle.{of-lengths}
 use Rattle.proof_tables.specs.Outcomes.{Ended, ended, cut-cut, cut-mild}
 use Rattle.proof_tables.specs.Outcomes.Ended.{ended-refused, ended-done, ended-cut}
-use Rattle.proof_tables.specs.Range.{capacity-word}
 use Rattle.proof_tables.specs.Reading.{Idle}
-use Rattle.proof_tables.specs.Reads.{InGroups}
-use Rattle.proof_tables.specs.Rebuilding.{rebuild-roomy, rebuild-within, rebuild-agrees}
-use Rattle.proof_tables.specs.Segs.{in-present}
-use Rattle.proof_tables.specs.Tests.{clash, or-right, eqb-self}
-use Rattle.proof_tables.specs.Zones.{Shaped, all-fit, shaped-after}
-
--- ---- the mask of a drive
-
-module _ (p : Params) (r : Ranged p) (d : ℕ) (hd : d < p .N) where
-  eight : d < 8
-  eight = omega (arith, r .drives-high)
-
-  pub named-in : isIn (named d) d ≡ true
-  unfolding named
-  named-in = isIn-only d d eight eight ∙ eqb-self d
-
-  pub named-low : named d < 2 ^ p .N
-  unfolding named
-  named-low = only-low d (p .N) hd (r .drives-high)
-
-  pub named-ones : ones (named d) ≤ 1
-  unfolding named
-  named-ones = ones-only d eight
-
-  pub named-some : eqb (named d) 0 ≡ false
-  unfolding named
-  named-some = only-nonzero d eight
-
-  other : (e : ℕ) → e < p .N → (e ≡ d → ⊥) → In e (present p (named d))
-  unfolding named
-  other e he ne = in-present p (only d) e he (isIn-only d e eight (omega (arith, r .drives-high)) ∙ ne-eqb e d ne)
-
-  pub low-present : In (lowDrive p (named d)) (present p (named d))
-  unfolding lowDrive
-  low-present = first-in (present p (named d)) 0 (go (ℕ-discrete 0 d))
-    where
-      go : Dec (0 ≡ d) → isNil (present p (named d)) ≡ false
-      go (no n) = in-some (present p (named d)) 0 (other 0 (omega (arith, r .drives-low)) n)
-      go (yes n) = in-some (present p (named d)) 1 (other 1 (omega (arith, r .drives-low)) (λ e. let z : ⊥ = omega arith in z))
+use Rattle.proof_tables.specs.Run.{Lost, Run, Kept}
 
 -- ---- a call that changes nothing keeps what holds
 

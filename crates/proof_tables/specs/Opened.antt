@@ -20,14 +20,15 @@ use Rattle.law_basic.specs.Geometry.{Ranged}
 use Rattle.law_basic.specs.Mask.{isIn-empty}
 use Rattle.law_basic.specs.Ranges.{Test, test, and-both}
 use Rattle.law_basic.specs.Ranges.Test.{yes!, no! }
+use Rattle.law_drives.specs.Members.{none-in, any-in}
+use Rattle.law_drives.specs.Tests.{clash, and-false-left, or-true-right, eqb-self}
+use Rattle.law_drives.specs.Tidy.{spareAt}
 use Rattle.proof_tables.specs.Idle.{in-slots, slots-in}
-use Rattle.proof_tables.specs.Members.{none-in, any-in}
-use Rattle.proof_tables.specs.Run.{spareAt, awaits, LandedAt, Flight, Open, Lists}
+use Rattle.proof_tables.specs.Run.{awaits, LandedAt, Flight, Open, Lists}
 use Rattle.proof_tables.specs.Slots.{cell-same, begin-number, begin-number-other, begin-filled, begin-filled-other, begin-landed, begin-landed-other}
 use Rattle.proof_tables.specs.Slots.{begin-entry-other, begin-offset, add-filled, add-filled-other, add-number, add-landed, add-offset, add-entry}
 use Rattle.proof_tables.specs.Slots.{add-entry-other}
 use Rattle.proof_tables.specs.Tallies.{tally-cong, tally-none, tally-some, tally-more}
-use Rattle.proof_tables.specs.Tests.{clash, and-false-left, or-true-right, eqb-self}
 
 -- the eighths in use, told otherwise
 pub busy-same : (p : Params) (v : View) (st : State) (busy busy′ : ℕ → Bool) (z : ℕ) → ((i : ℕ) → i < 8 → busy i ≡ busy′ i) → Open p v st busy z → Open p v st busy′ z

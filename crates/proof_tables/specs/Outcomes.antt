@@ -1,26 +1,24 @@
 -- How a call ends: refused, done or cut. Assumes nothing.
 use mathlib.Core.Path.{_≡_, refl, sym, ap, subst}
-use mathlib.Core.List.{List, [], _∷_}
+use mathlib.Core.List.{List}
 use mathlib.Core.Bool.{Bool, true, false}
 use Prim.Native.Nat.{ℕ}
 use borrow.Author.Tests.{ne-eqb, leb-true}
 use native.Mathlib.Omega.{arith}
 use lib.Dec.{leb}
 use lib.ListN.{length}
-use Rattle.spec.specs.declared.Params.{Params}
 use Rattle.spec.specs.declared.Answer.{Answer}
-use Rattle.spec.specs.declared.Answer.the-variants.{Refused, BadZone, Cut}
+use Rattle.spec.specs.declared.Answer.the-variants.{Cut}
+use Rattle.spec.specs.declared.Params.{Params}
 use Rattle.spec.specs.Answers.{kind, isRefused, isRefusedAs, isCut, finished}
-use Rattle.spec.specs.Calls.{Check, ninth, ruled, firstRefusal, Plan, Verdict, decided, After, mkAfter, limited, outcome}
-use Rattle.spec.specs.Calls.Check.{rule, zones}
+use Rattle.spec.specs.Calls.{Check, firstRefusal, Plan, Verdict, decided, After, mkAfter, limited, outcome}
 use Rattle.spec.specs.Calls.Verdict.{due}
 use Rattle.spec.specs.Drives.{Disk, storeDisk, storeAll}
 use Rattle.spec.specs.Lists.Opt.{some}
-use Rattle.spec.specs.Lists.{least}
 use Rattle.spec.specs.Memory.{Memory}
 use Rattle.law_basic.specs.Stores.{refused-same}
-use Rattle.proof_tables.specs.Checks.{Passes, Decided, decide}
-use Rattle.proof_tables.specs.Checks.Decided.{stops, goes}
+use Rattle.law_drives.specs.Checks.{Passes, Decided, decide}
+use Rattle.law_drives.specs.Checks.Decided.{stops, goes}
 
 pub data Ended (p : Params) (k : Disk) (m : Memory) (cs : List Check) (q : Plan) (r : After Disk) : Type 0 where
   ended-refused : (a : Answer) → firstRefusal cs ≡ some a → r .answer ≡ a → r .drives ≡ k → r .memory ≡ m → Ended p k m cs q r
@@ -46,22 +44,6 @@ ended p k m cs q n b = go (decide cs q)
         (ap (λ (r : After Disk). r .drives) (refused-same p (storeDisk p) n k m b a))
         (ap (λ (r : After Disk). r .memory) (refused-same p (storeDisk p) n k m b a)))
     go (goes c w) = subst (λ (x : Verdict). Ended p k m cs q (outcome p (storeDisk p) n k m b x)) (sym w) (limits (leb (length (q .stores)) n) refl c)
-
--- ---- answers
-
-pub refusal-kind : (cs : List Check) (a : Answer) → firstRefusal cs ≡ some a → isRefused a ≡ true
-unfolding firstRefusal ruled ninth
-refusal-kind [] a q = absurd (let z : _≡_ {A = ℕ} 0 1 = cc in let y : ⊥ = omega arith in y)
-refusal-kind (rule n true ∷ cs) a q = let e : Refused n ≡ a = cc in subst (λ (x : Answer). isRefused x ≡ true) e kind0
-  where
-    kind0 : isRefused (Refused n) ≡ true
-    kind0 = unfold isRefused kind in refl
-refusal-kind (rule n false ∷ cs) a q = refusal-kind cs a q
-refusal-kind (zones [] ∷ cs) a q = refusal-kind cs a q
-refusal-kind (zones (z ∷ zs) ∷ cs) a q = let e : BadZone (least z zs) ≡ a = cc in subst (λ (x : Answer). isRefused x ≡ true) e kind1
-  where
-    kind1 : isRefused (BadZone (least z zs)) ≡ true
-    kind1 = unfold isRefused kind in refl
 
 pub refused-unfinished : (a : Answer) → isRefused a ≡ true → finished a ≡ false
 unfolding isRefused finished

@@ -24,10 +24,11 @@ use Rattle.law_basic.specs.Be.{length-toBe}
 use Rattle.law_basic.specs.Ranges.{Test, test}
 use Rattle.law_basic.specs.Ranges.Test.{yes!, no! }
 use Rattle.law_basic.specs.Splice.{length-splice, part-splice, part-splice-below, part-splice-above}
-use Rattle.proof_tables.specs.Members.{In, none-in, any-in, keep-nothing}
-use Rattle.proof_tables.specs.Ranks.{best-append, cands-append}
-use Rattle.proof_tables.specs.Tables.{part-flat, length-addresses, addresses-ext}
-use Rattle.proof_tables.specs.Tests.{cond-true, cond-false}
+use Rattle.law_drives.specs.Best.{best-append}
+use Rattle.law_drives.specs.Members.{In, none-in, any-in, keep-nothing}
+use Rattle.law_drives.specs.Tables.{part-flat, length-addresses, addresses-ext}
+use Rattle.law_drives.specs.Tests.{cond-true, cond-false}
+use Rattle.proof_tables.specs.Ranks.{cands-append}
 
 module _ (p : Params) (v : View) (tb : List ℕ) (cs : List Cand) where
   -- what an address gets

@@ -12,8 +12,9 @@ use Rattle.spec.specs.Lists.Opt.{none, some}
 use Rattle.spec.specs.Rank.{Cand, beats, better, best, candsOf}
 use Rattle.law_basic.specs.Ranges.{Test, test, and-left, and-right, keep-append}
 use Rattle.law_basic.specs.Ranges.Test.{yes!, no! }
-use Rattle.proof_tables.specs.Members.{In, in-keep, keep-in}
-use Rattle.proof_tables.specs.Tests.{clash, or-cases}
+use Rattle.law_drives.specs.Best.{Tied, ApartIn, At, Apart, at-of}
+use Rattle.law_drives.specs.Members.{In, in-keep}
+use Rattle.law_drives.specs.Tests.{clash, or-cases}
 
 -- ---- the rule as a statement
 
@@ -22,13 +23,6 @@ pub data Beats (a b : Cand) : Type 0 where
   by-serial : a .stamp ≡ b .stamp → b .serial < a .serial → Beats a b
   by-drive : a .stamp ≡ b .stamp → a .serial ≡ b .serial → a .drive < b .drive → Beats a b
   by-offset : a .stamp ≡ b .stamp → a .serial ≡ b .serial → a .drive ≡ b .drive → a .offset < b .offset → Beats a b
-
--- two records that the rule doesn't tell apart
-pub record Tied (a b : Cand) : Type 0 where
-  pub same-stamp : a .stamp ≡ b .stamp
-  pub same-serial : a .serial ≡ b .serial
-  pub same-drive : a .drive ≡ b .drive
-  pub same-offset : a .offset ≡ b .offset
 
 pub beats-yes : (a b : Cand) → beats a b ≡ true → Beats a b
 unfolding beats
@@ -119,10 +113,6 @@ abbrev pub TopOf : (Cand → Type 0) → Opt Cand → Type 0
 TopOf P none = (d : Cand) → P d → ⊥
 TopOf P (some c) = P c × ((d : Cand) → P d → (d ≡ c) ⊎ Beats c d)
 
--- records of P that are tied are the same
-abbrev pub ApartIn : (Cand → Type 0) → Type 0
-ApartIn P = (c d : Cand) → P c → P d → Tied c d → c ≡ d
-
 better-top : (P : Cand → Type 0) (b : Opt Cand) (c : Cand) → ApartIn (λ (d : Cand). P d ⊎ (d ≡ c)) → TopOf P b → TopOf (λ (d : Cand). P d ⊎ (d ≡ c)) (better b c)
 unfolding better
 better-top P none c ap! t = (inr refl, λ d x. ⊎-elim (λ y. absurd (t d y)) (λ y. inl y) x)
@@ -160,19 +150,6 @@ best-top P b (c ∷ cs) ap! t =
     top-same (λ (d : Cand). Q d ⊎ In d cs) (λ (d : Cand). P d ⊎ ((d ≡ c) ⊎ In d cs)) (best (better b c) cs) f g
     (best-top Q (better b c) cs (λ x y u w k. ap! x y (f x u) (f y w) k)
     (better-top P b c (λ x y u w k. ap! x y (h x u) (h y w) k) t))
-
--- ---- by address
-
--- the records of an address in a list
-abbrev pub At : ℕ → List Cand → Cand → Type 0
-At a cs d = In d cs × (d .address ≡ a)
-
-abbrev pub Apart : List Cand → Type 0
-Apart cs = ApartIn (λ (d : Cand). In d cs)
-
-pub at-of : (a : ℕ) (cs : List Cand) (d : Cand) → In d (candsOf a cs) → At a cs d
-unfolding candsOf
-at-of a cs d m = let (i, q) = keep-in (λ (c : Cand). eqb (c .address) a) cs d m in (i, eqb-true (d .address) a q)
 
 pub of-at : (a : ℕ) (cs : List Cand) (d : Cand) → At a cs d → In d (candsOf a cs)
 unfolding candsOf
@@ -218,42 +195,6 @@ fewer-best a xs ys ap! f g =
     go : (o : Opt Cand) → best none (candsOf a xs) ≡ o → TopOf (At a xs) o → TopOf (At a ys) o
     go none e t = λ d x. t d (f d (x .0), x .1)
     go (some c) e t = ((g c e, t .0 .1), λ d x. t .1 d (f d (x .0), x .1))
-
-some-is : {b c : Cand} → some b ≡ some c → b ≡ c
-some-is e = cc
-
-better-is : (b : Opt Cand) (d c : Cand) → better b d ≡ some c → (b ≡ some c) ⊎ (c ≡ d)
-unfolding better
-better-is none d c q = inr (sym (some-is q))
-better-is (some h) d c q = go (test (beats d h))
-  where
-    go : Test (beats d h) → (some h ≡ some c) ⊎ (c ≡ d)
-    go (yes! e) = let x : some d ≡ some c = rw e at q in inr (sym (some-is x))
-    go (no! e) = let x : some h ≡ some c = rw e at q in inl x
-
-best-of : (b : Opt Cand) (l : List Cand) (c : Cand) → best b l ≡ some c → (b ≡ some c) ⊎ In c l
-unfolding best
-best-of b [] c q = inl q
-best-of b (d ∷ l) c q = two (best-of (better b d) l c q)
-  where
-    two : (better b d ≡ some c) ⊎ In c l → (b ≡ some c) ⊎ ((c ≡ d) ⊎ In c l)
-    two (inr m) = inr (inr m)
-    two (inl w) = ⊎-elim (λ x. inl x) (λ x. inr (inl x)) (better-is b d c w)
-
--- what holds is of the list, and of the address
-pub best-in : (a : ℕ) (cs : List Cand) (c : Cand) → best none (candsOf a cs) ≡ some c → In c cs × (c .address ≡ a)
-best-in a cs c e = at-of a cs c (go (best-of none (candsOf a cs) c e))
-  where
-    go : (none ≡ some c) ⊎ In c (candsOf a cs) → In c (candsOf a cs)
-    go (inl x) = absurd (let z : _≡_ {A = ℕ} 0 1 = cc in let q : ⊥ = omega arith in q)
-    go (inr m) = m
-
--- ---- one list after the other
-
-pub best-append : (b : Opt Cand) (xs ys : List Cand) → best b (xs ++ ys) ≡ best (best b xs) ys
-unfolding best
-best-append b [] ys = refl
-best-append b (x ∷ xs) ys = best-append (better b x) xs ys
 
 pub cands-append : (a : ℕ) (xs ys : List Cand) → candsOf a (xs ++ ys) ≡ candsOf a xs ++ candsOf a ys
 unfolding candsOf

@@ -1,23 +1,23 @@
 -- The read calls on the lent bytes: they change nothing, are never refused 9, and give what the drives say. Assumes nothing.
-use mathlib.Core.Path.{_≡_, refl, sym, ap, ap₂, _∙_, subst}
+use mathlib.Core.Path.{_≡_, refl, sym, ap, _∙_, subst}
 use mathlib.Core.List.{List, [], _∷_, _++_}
 use mathlib.Core.Bool.{true, false, cond, not, _&&_}
 use Prim.Native.Nat.{ℕ, _<_}
 use borrow.Author.Tests.{lt-leb, eq-eqb, leb-false}
 use lib.Dec.{leb, eqb, leb·zero}
 use lib.ListN.{length, replicate, length-replicate}
-use Rattle.spec.specs.declared.Params.{Params}
-use Rattle.spec.specs.declared.State.{State}
 use Rattle.spec.specs.declared.Answer.{Answer}
 use Rattle.spec.specs.declared.Answer.the-variants.{Filled}
+use Rattle.spec.specs.declared.Params.{Params}
+use Rattle.spec.specs.declared.State.{State}
 use Rattle.spec.specs.Answers.{kind, isRefused, isRefusedAs}
 use Rattle.spec.specs.Calls.{Check, firstRefusal, Plan, mkPlan, Verdict, decided, After, mkAfter, limited, outcome}
 use Rattle.spec.specs.Calls.Check.{rule, zones}
 use Rattle.spec.specs.Calls.Verdict.{refused, due}
 use Rattle.spec.specs.Demands.{saidBlock, saidAt}
 use Rattle.spec.specs.Drives.{View, Store, Disk, storeDisk, storeAll}
-use Rattle.spec.specs.Engine.Call.{read, fill}
 use Rattle.spec.specs.Engine.{storeCount, lentBlock, verdict, lentOk, callOn, callDisk}
+use Rattle.spec.specs.Engine.Call.{read, fill}
 use Rattle.spec.specs.History.{mkWorld, seenFilled, seenAt}
 use Rattle.spec.specs.History.Seen.{unwritten, got}
 use Rattle.spec.specs.Lists.{Opt, consIf}
@@ -32,10 +32,11 @@ use Rattle.law_basic.specs.Geometry.{Ranged, ranged}
 use Rattle.law_basic.specs.Ranges.{and-both}
 use Rattle.law_basic.specs.Stores.{refused-same}
 use Rattle.law_views.specs.Views.{seen}
+use Rattle.law_drives.specs.Checks.{Clear, clear, Decided, decide, passed}
+use Rattle.law_drives.specs.Checks.Decided.{stops, goes}
+use Rattle.law_drives.specs.Members.{nil-append}
 use Rattle.proof_tables.specs.Base.{Base, Finds, finds, found-clear, said-here, said-away, decodes-clear}
 use Rattle.proof_tables.specs.Base.Finds.{finds-none, finds-here, finds-away}
-use Rattle.proof_tables.specs.Checks.{Clear, clear, Decided, decide, passed}
-use Rattle.proof_tables.specs.Checks.Decided.{stops, goes}
 
 -- a call that is decided: refused it leaves all; due, and with no store, it leaves the drives
 pub left-idle : {D : Type 0} (p : Params) (f : Store → D → D) (n : ℕ) (d : D) (m m′ : Memory) (b b′ : List ℕ) (a : Answer)
@@ -46,9 +47,6 @@ left-idle p f n d m m′ b b′ a = rw (leb·zero n)
 pub state-clear : (p : Params) (st : State) → stateOk p st ≡ true → stateFaults p st ≡ []
 unfolding stateFaults consIf
 state-clear p st q = rw q
-
-pub nil-append : {A : Type 0} (xs ys : List A) → xs ≡ [] → ys ≡ [] → xs ++ ys ≡ []
-nil-append xs ys p q = ap₂ _++_ p q
 
 -- demand 2: tables and reads, with the state as a value
 pub record Says (p : Params) (k : Disk) (m : Memory) : Type 0 where

@@ -4,7 +4,7 @@ use mathlib.Core.List.{List, [], _∷_, _++_, map}
 use mathlib.Core.Bool.{Bool, true, false, cond, not, _&&_, _||_}
 use mathlib.Core.Logic.{_⊎_, inl, inr, ⊎-elim}
 use Prim.Native.Nat.{ℕ, _+_, _-_, _^_, _<_}
-use borrow.Author.Tests.{leb-false, eqb-true}
+use borrow.Author.Tests.{leb-false}
 use native.Mathlib.Omega.{arith}
 use lib.Dec.{ltb, eqb}
 use lib.ListN.{length}
@@ -13,13 +13,12 @@ use Rattle.spec.specs.declared.State.{State}
 use Rattle.spec.specs.Answers.{kind, isRefused, isRefusedAs}
 use Rattle.spec.specs.Calls.{Check, firstRefusal, Plan, decided, outcome}
 use Rattle.spec.specs.Calls.Check.{rule, zones}
-use Rattle.spec.specs.Drives.{View, zoneAt, pointerAt, chunkAt, Store, storeView, Disk, storeDisk, storeAll, segmentNumbers, zoneOn, placeSegment, emptyZones}
-use Rattle.spec.specs.Drives.{sealedIn, recordIn, recordAt, resetStores}
-use Rattle.spec.specs.Engine.Call.{reclaim}
+use Rattle.spec.specs.Drives.{View, zoneAt, chunkAt, Store, storeView, Disk, storeDisk, storeAll, segmentNumbers, zoneOn, placeSegment, emptyZones, sealedIn, recordIn, recordAt, resetStores}
 use Rattle.spec.specs.Engine.{storeCount, lentBlock, verdict, lentOk, callOn, callDisk}
+use Rattle.spec.specs.Engine.Call.{reclaim}
 use Rattle.spec.specs.History.{step}
 use Rattle.spec.specs.Layout.{dataDrive, Rec}
-use Rattle.spec.specs.Lists.{Opt, below, all, isMember, keep, isNil, firstOr, isIn}
+use Rattle.spec.specs.Lists.{Opt, below, isMember, keep, isNil, firstOr, isIn}
 use Rattle.spec.specs.Lists.Opt.{none, some}
 use Rattle.spec.specs.Memory.{Memory, mkMemory, stateFaults}
 use Rattle.spec.specs.Params.{between, inRange, capacity, placeOf, placeBlock, placeZone, placeDrive, drivesOf, present}
@@ -34,26 +33,28 @@ use Rattle.law_basic.specs.Mask.{isIn-empty}
 use Rattle.law_basic.specs.Ranges.{Test, test}
 use Rattle.law_basic.specs.Ranges.Test.{yes!, no! }
 use Rattle.law_views.specs.Views.{seen}
-use Rattle.proof_tables.specs.Base.{cand-zone}
-use Rattle.proof_tables.specs.Bounds.{record-low}
-use Rattle.proof_tables.specs.Checks.{Passes, clear}
+use Rattle.law_drives.specs.Checks.{Passes, clear}
+use Rattle.law_drives.specs.Fewest.{sealed-full}
+use Rattle.law_drives.specs.Lengths.{whole-of}
+use Rattle.law_drives.specs.Members.{In, in-map, map-in, in-flat, in-keep, keep-in, keep-nothing, in-below, below-in, first-in, nil-is, is-member, member-is, nil-append}
+use Rattle.law_drives.specs.Range.{capacity-over}
+use Rattle.law_drives.specs.Records.{record-low}
+use Rattle.law_drives.specs.Resets.{reset-roomy, reset-within}
+use Rattle.law_drives.specs.Segs.{remaining-low, CandAt}
+use Rattle.law_drives.specs.Settled.{its-drive, its-offset, chunk-of-it}
+use Rattle.law_drives.specs.Spots.{cand-zone, spot-of, spot-block, spot-zone, spot-drive}
+use Rattle.law_drives.specs.Tests.{true-false, or-left, or-right, cond-true, cond-false}
+use Rattle.law_drives.specs.Tidy.{Tidy}
 use Rattle.proof_tables.specs.Going.{well-run, address-table, compact-table, buffer-long, sent-run}
-use Rattle.proof_tables.specs.Idle.{StateOk, state-of, whole-of}
+use Rattle.proof_tables.specs.Idle.{StateOk, state-of}
 use Rattle.proof_tables.specs.Live.{Pointed, places-pointed, holds-place, table-clear}
 use Rattle.proof_tables.specs.Losing.{refused-kept, cut-kept}
-use Rattle.proof_tables.specs.Members.{In, in-map, map-in, in-flat, in-keep, keep-in, all-in, keep-nothing, in-below, below-in, first-in, nil-is, is-member, member-is}
 use Rattle.proof_tables.specs.Outcomes.{Ended, ended}
 use Rattle.proof_tables.specs.Outcomes.Ended.{ended-refused, ended-done, ended-cut}
-use Rattle.proof_tables.specs.Range.{capacity-over}
-use Rattle.proof_tables.specs.Reading.{state-clear, nil-append}
-use Rattle.proof_tables.specs.Reads.{spot-of, spot-block, spot-zone, spot-drive}
-use Rattle.proof_tables.specs.Resetting.{reset-roomy, reset-within, reset-addresses, reset-rows, reset-healthy, cleared-is}
-use Rattle.proof_tables.specs.Run.{Tidy, Well, Run, Kept}
-use Rattle.proof_tables.specs.Segs.{remaining-low, CandAt}
+use Rattle.proof_tables.specs.Reading.{state-clear}
+use Rattle.proof_tables.specs.Resetting.{reset-addresses, reset-rows, reset-healthy, cleared-is}
+use Rattle.proof_tables.specs.Run.{Well, Run, Kept}
 use Rattle.proof_tables.specs.Sending.{sends}
-use Rattle.proof_tables.specs.Settled.{present-all, its-drive, its-offset, chunk-of-it}
-use Rattle.proof_tables.specs.Tables.{remains}
-use Rattle.proof_tables.specs.Tests.{true-false, or-left, or-right, cond-true, cond-false}
 
 -- ---- the segment that it takes
 
@@ -138,12 +139,6 @@ dead-segment p r v tb e g n a c k ha b eo =
     let l : 1 + c .offset < capacity p = (let x = t .offset-low in let y = capacity-over p r in omega arith) in
     subst (λ (x : List ℕ). In (placeOf p (c .drive) g (1 + c .offset)) x) n
     (in-live p (placesIn p tb) g (c .drive) (1 + c .offset) (t .drive-low) l (subst (λ (x : ℕ). In x (placesIn p tb)) ep m))
-
-pub sealed-full : (p : Params) (v : View) (g : ℕ) → sealedIn p v 0 g ≡ true → (d : ℕ) → d < p .N → pointerAt v d g ≡ capacity p
-sealed-full p v g q d h = eqb-true (pointerAt v d g) (capacity p) (all-in (λ d. eqb (pointerAt v d g) (capacity p)) (present p 0) (as! q) d (present-all p d h))
-  where
-    as! : sealedIn p v 0 g ≡ true → all (λ d. eqb (pointerAt v d g) (capacity p)) (present p 0) ≡ true
-    as! q = unfold sealedIn zoneOn in q
 
 -- the record of a candidate, as stored
 pub cand-record : (p : Params) (r : Ranged p) (v : View) (s : ℕ) (t : Tidy p v s) (c : Cand) (k : CandAt p v 0 c)

@@ -1,7 +1,7 @@
 -- A sealed segment with no live block is reset. Assumes nothing.
 use mathlib.Core.Path.{_≡_, refl, sym, ap, _∙_, subst}
-use mathlib.Core.List.{List, [], _∷_, map}
-use mathlib.Core.Bool.{true, false, cond, not}
+use mathlib.Core.List.{List, [], _∷_}
+use mathlib.Core.Bool.{cond}
 use mathlib.Core.Logic.{inl, inr, ⊎-elim}
 use Prim.Native.Nat.{ℕ, _+_, _-_, _*_, _≤_, _<_}
 use native.Mathlib.Decide.{decLt, ℕ-discrete}
@@ -12,119 +12,34 @@ use lib.ListN.{length, getD, replicate, length-replicate}
 use Rattle.spec.specs.declared.Params.{Params}
 use Rattle.spec.specs.declared.State.{State}
 use Rattle.spec.specs.Bytes.{splice}
-use Rattle.spec.specs.Drives.{Zone, View, zoneAt, pointerAt, Store, resetZone, storeView, storeAll, zoneOn, resetStores}
-use Rattle.spec.specs.Drives.Store.{reset}
-use Rattle.spec.specs.Layout.{headerSerial, headerCopied, Rec}
+use Rattle.spec.specs.Drives.{View, pointerAt, storeView, storeAll, zoneOn, resetStores}
+use Rattle.spec.specs.Layout.{Rec}
 use Rattle.spec.specs.Lists.Opt.{none, some}
-use Rattle.spec.specs.Lists.{below}
 use Rattle.spec.specs.Memory.{compactAt}
 use Rattle.spec.specs.Params.{capacity, compactLen, drivesOf}
 use Rattle.spec.specs.Rank.{Cand, best, candsOf}
 use Rattle.spec.specs.Reclaim.{clearedRow, cleared}
-use Rattle.spec.specs.Segments.{headerAt, segmentOf, segments, recsOn, candidates, addressTable, compactRow, compactTable}
+use Rattle.spec.specs.Segments.{segmentOf, segments, recsOn, candidates, addressTable, compactRow, compactTable}
 use Rattle.law_basic.specs.Geometry.{item, Ranged, compact-within}
-use Rattle.law_basic.specs.Ranges.{Test, test}
-use Rattle.law_basic.specs.Ranges.Test.{yes!, no! }
 use Rattle.law_basic.specs.Splice.{length-splice, getD-splice-below, getD-splice-in, getD-splice-past}
 use Rattle.law_views.specs.Pointers.{index-drive, index-zone}
+use Rattle.law_drives.specs.Best.{best-in}
+use Rattle.law_drives.specs.Members.{In, in-below, below-in}
+use Rattle.law_drives.specs.Resets.{reset-same, unused-after, reset-was, reset-tidy}
+use Rattle.law_drives.specs.Segs.{CandAt, cand-at, at-cand}
+use Rattle.law_drives.specs.Settled.{remains-used, remains-is-used, cands-apart, zones-pointer, zones-used, cand-goes, row-goes}
+use Rattle.law_drives.specs.Tables.{addresses-cong, zero-at, row-past, grid-ext, remains, rowAt, compact-is, compact-row-long, length-compact, compact-at}
+use Rattle.law_drives.specs.Tests.{cond-true, cond-false}
+use Rattle.law_drives.specs.Tidy.{Tidy}
+use Rattle.law_drives.specs.Zones.{Shaped}
 use Rattle.proof_tables.specs.Bounds.{open-view, open-short}
 use Rattle.proof_tables.specs.Idle.{StateOk}
-use Rattle.proof_tables.specs.Members.{In, map-in, in-below, below-in}
-use Rattle.proof_tables.specs.Puts.{hits-resets}
-use Rattle.proof_tables.specs.Ranks.{fewer-best, best-in}
-use Rattle.proof_tables.specs.Run.{usedAt, flies, Tidy, Healthy}
-use Rattle.proof_tables.specs.Segs.{CandAt, cand-at, at-cand}
-use Rattle.proof_tables.specs.Settled.{remains-used, remains-is-used, cands-apart, SameZones, zones-header, zones-pointer, zones-used, cand-goes, row-goes}
-use Rattle.proof_tables.specs.Tables.{addresses-cong, zero-at, row-past, grid-ext, remains, rowAt, compact-is, compact-row-long, length-compact, compact-at}
-use Rattle.proof_tables.specs.Tests.{clash, cond-true, cond-false, eqb-self}
-use Rattle.proof_tables.specs.Zones.{Shaped, zoneStore, hits, zone-after, Room, Within, reset-pointer, Roomy}
+use Rattle.proof_tables.specs.Ranks.{fewer-best}
+use Rattle.proof_tables.specs.Run.{flies, Healthy}
 
 module _ (p : Params) (r : Ranged p) (v : View) (sh : Shaped p v) (g : ℕ) (hg : g < p .Z) where
-  abbrev rs : List Store
-  rs = resetStores p g
-
   abbrev u : View
-  u = storeAll storeView rs v
-
-  pub reset-zone-at : (d : ℕ) → d < p .N → zoneAt u d g ≡ resetZone (zoneAt v d g)
-  reset-zone-at d hd =
-      zone-after p v d g rs (sh .sized) hd hg
-      ∙ ap (λ (l : List Store). storeAll zoneStore l (zoneAt v d g)) (hits-resets p d g g hd ∙ cond-true (eqb g g) (reset d g ∷ []) [] (eqb-self g)) ∙ once
-    where
-      once : storeAll zoneStore (reset d g ∷ []) (zoneAt v d g) ≡ resetZone (zoneAt v d g)
-      once = unfold storeAll zoneStore in refl
-
-  pub reset-same : (y : ℕ) → y < p .Z → (g ≡ y → ⊥) → SameZones p v u y
-  reset-same y hy n d hd =
-      sym (zone-after p v d y rs (sh .sized) hd hy
-      ∙ ap (λ (l : List Store). storeAll zoneStore l (zoneAt v d y)) (hits-resets p d y g hd ∙ cond-false (eqb g y) (reset d g ∷ []) [] (ne-eqb g y n)) ∙ nothing)
-    where
-      nothing : storeAll zoneStore [] (zoneAt v d y) ≡ zoneAt v d y
-      nothing = unfold storeAll in refl
-
-  pub reset-pointers : (d : ℕ) → d < p .N → pointerAt u d g ≡ 0
-  reset-pointers d hd = at (ap (λ (q : Zone). q .pointer) (reset-zone-at d hd) ∙ reset-pointer (zoneAt v d g))
-    where
-      at : zoneAt u d g .pointer ≡ 0 → pointerAt u d g ≡ 0
-      at e = unfold pointerAt in e
-
-  pub reset-roomy : Roomy p v rs
-  reset-roomy d y hd hy = go (test (eqb g y))
-    where
-      go : Test (eqb g y) → Room p (pointerAt v d y) (hits d y rs)
-      go (yes! q) = subst (λ (l : List Store). Room p (pointerAt v d y) l) (sym (hits-resets p d y g hd ∙ cond-true (eqb g y) (reset d g ∷ []) [] q)) tt
-      go (no! q) = subst (λ (l : List Store). Room p (pointerAt v d y) l) (sym (hits-resets p d y g hd ∙ cond-false (eqb g y) (reset d g ∷ []) [] q)) tt
-
-  pub reset-within : (s : Store) → In s rs → Within p s
-  reset-within s m = go (as! m)
-    where
-      as! : In s rs → In s (map (λ d. reset d g) (below (p .N)))
-      as! m = unfold resetStores drivesOf zoneOn in m
-
-      go : In s (map (λ d. reset d g) (below (p .N))) → Within p s
-      go m = let (d, i, e) = map-in (λ d. reset d g) (below (p .N)) s m in subst (λ (x : Store). Within p x) (sym e) (below-in (p .N) d i, hg)
-
-  unused-after : usedAt u g ≡ false
-  unused-after = ap not (eq-eqb (pointerAt u 0 g) 0 (reset-pointers 0 (omega (arith, r .drives-low))))
-
-  -- what is used after it was used, and isn't the segment
-  pub reset-was : (y : ℕ) → y < p .Z → usedAt u y ≡ true → (g ≡ y → ⊥) × (usedAt v y ≡ true)
-  reset-was y hy q = go (ℕ-discrete g y)
-    where
-      go : Dec (g ≡ y) → (g ≡ y → ⊥) × (usedAt v y ≡ true)
-      go (yes e) = clash q (subst (λ (x : ℕ). usedAt u x ≡ false) e unused-after)
-      go (no n) = (n, zones-used p r v u y (reset-same y hy n) ∙ q)
-
-  pub reset-tidy : (s : ℕ) → Tidy p v s → Tidy p u s
-  reset-tidy s t = record {
-    pointer-low = λ d z hd hz. low d z hd hz (ℕ-discrete g z);
-    together = λ d z hd hz. tog d z hd hz (ℕ-discrete g z);
-    copied-less = λ z hz q. let (n, w) = reset-was z hz q in subst (λ (x : List ℕ). headerCopied x < headerSerial x) (hdr z hz n) (t .copied-less z hz w);
-    serial-known = λ z hz q. let (n, w) = reset-was z hz q in subst (λ (x : List ℕ). headerSerial x ≤ s) (hdr z hz n) (t .serial-known z hz w);
-    serial-once = λ y z hy hz a b e.
-        let (n, w) = reset-was y hy a in
-        let (n′, w′) = reset-was z hz b in
-        t .serial-once y z hy hz w w′ (ap headerSerial (hdr y hy n) ∙ e ∙ ap headerSerial (sym (hdr z hz n′)));
-    no-copy = λ y z hy hz a b e.
-        let (n, w) = reset-was y hy a in
-        let (n′, w′) = reset-was z hz b in
-        t .no-copy y z hy hz w w′ (ap headerCopied (hdr y hy n) ∙ e ∙ ap headerSerial (sym (hdr z hz n′)));
-  }
-    where
-      h0 : 0 < p .N
-      h0 = omega (arith, r .drives-low)
-
-      hdr : (y : ℕ) → y < p .Z → (g ≡ y → ⊥) → headerAt v 0 y ≡ headerAt u 0 y
-      hdr y hy n = zones-header p r v u y (reset-same y hy n)
-
-      low : (d z : ℕ) → d < p .N → z < p .Z → Dec (g ≡ z) → pointerAt u d z ≤ capacity p
-      low d z hd hz (yes e) = subst (λ (x : ℕ). pointerAt u d x ≤ capacity p) e (let q = reset-pointers d hd in omega arith)
-      low d z hd hz (no n) = subst (λ (x : ℕ). x ≤ capacity p) (zones-pointer p r v u z (reset-same z hz n) d hd) (t .pointer-low d z hd hz)
-
-      tog : (d z : ℕ) → d < p .N → z < p .Z → Dec (g ≡ z) → eqb (pointerAt u d z) 0 ≡ eqb (pointerAt u 0 z) 0
-      tog d z hd hz (yes e) = subst (λ (x : ℕ). eqb (pointerAt u d x) 0 ≡ eqb (pointerAt u 0 x) 0) e (ap (λ (x : ℕ). eqb x 0) (reset-pointers d hd ∙ sym (reset-pointers 0 h0)))
-      tog d z hd hz (no n) =
-          ap (λ (x : ℕ). eqb x 0) (sym (zones-pointer p r v u z (reset-same z hz n) d hd)) ∙ t .together d z hd hz ∙ ap (λ (x : ℕ). eqb x 0) (zones-pointer p r v u z (reset-same z hz n) 0 h0)
+  u = storeAll storeView (resetStores p g) v
 
   -- none of its records holds: the address table stays
   pub reset-addresses : (s : ℕ) → Tidy p v s → ((a : ℕ) (c : Cand) (k : CandAt p v 0 c) → a < p .L → best none (candsOf a (candidates p 0 (segments p v 0))) ≡ some c → k .of ≡ g → ⊥)
@@ -138,46 +53,46 @@ module _ (p : Params) (r : Ranged p) (v : View) (sh : Shaped p v) (g : ℕ) (hg 
       ys = candidates p 0 (segments p u 0)
 
       tu : Tidy p u s
-      tu = reset-tidy s t
+      tu = reset-tidy p r v sh g hg s t
 
       sub : (d : Cand) → In d ys → In d xs
       sub d m =
           let k = cand-at p u 0 d m in
           let (hk, q) = remains-is-used p r u s tu (k .of) (k .remains) in
-          let (n, w) = reset-was (k .of) hk q in
-          at-cand p v 0 d (cand-goes p r u v s t d k (λ e he. sym (reset-same (k .of) hk n e he)) w)
+          let (n, w) = reset-was p r v sh g hg (k .of) hk q in
+          at-cand p v 0 d (cand-goes p r u v s t d k (λ e he. sym (reset-same p r v sh g hg (k .of) hk n e he)) w)
 
       win : (a : ℕ) → a < p .L → (c : Cand) → best none (candsOf a xs) ≡ some c → In c ys
       win a ha c e =
           let k = cand-at p v 0 c (best-in a xs c e .0) in
           let (hk, q) = remains-is-used p r v s t (k .of) (k .remains) in
           let n : g ≡ k .of → ⊥ = λ x. dead a c k ha e (sym x) in
-          at-cand p u 0 c (cand-goes p r v u s tu c k (reset-same (k .of) hk n) (sym (zones-used p r v u (k .of) (reset-same (k .of) hk n)) ∙ q))
+          at-cand p u 0 c (cand-goes p r v u s tu c k (reset-same p r v sh g hg (k .of) hk n) (sym (zones-used p r v u (k .of) (reset-same p r v sh g hg (k .of) hk n)) ∙ q))
 
   pub reset-rows : (s : ℕ) → Tidy p v s → (d y : ℕ) → d < p .N → y < p .Z → rowAt p u 0 d y ≡ cond (eqb y g) [] (rowAt p v 0 d y)
   reset-rows s t d y hd hy = go (ℕ-discrete g y)
     where
       empty : rowAt p u 0 d g ≡ []
-      empty = unfold rowAt in cond-false (remains p u 0 g) (recsOn (segmentOf p u 0 g) d) [] (remains-used p r u s (reset-tidy s t) g hg ∙ unused-after)
+      empty = unfold rowAt in cond-false (remains p u 0 g) (recsOn (segmentOf p u 0 g) d) [] (remains-used p r u s (reset-tidy p r v sh g hg s t) g hg ∙ unused-after p r v sh g hg)
 
       go : Dec (g ≡ y) → rowAt p u 0 d y ≡ cond (eqb y g) [] (rowAt p v 0 d y)
       go (yes e) = ap (rowAt p u 0 d) (sym e) ∙ empty ∙ sym (cond-true (eqb y g) [] (rowAt p v 0 d y) (eq-eqb y g (sym e)))
-      go (no n) = sym (row-goes p r v u s s t (reset-tidy s t) d y hy (reset-same y hy n)) ∙ sym (cond-false (eqb y g) [] (rowAt p v 0 d y) (ne-eqb y g (λ e. n (sym e))))
+      go (no n) = sym (row-goes p r v u s s t (reset-tidy p r v sh g hg s t) d y hy (reset-same p r v sh g hg y hy n)) ∙ sym (cond-false (eqb y g) [] (rowAt p v 0 d y) (ne-eqb y g (λ e. n (sym e))))
 
   -- the state needs no change
   pub reset-healthy : (st : State) → Healthy p v st → StateOk p st → ((d : ℕ) → d < p .N → pointerAt v d g ≡ capacity p) → Healthy p u st
   reset-healthy st h so full = record {
-    tidy = reset-tidy (st .serial .0) (h .tidy);
+    tidy = reset-tidy p r v sh g hg (st .serial .0) (h .tidy);
     sealed-but = λ z hz q.
-        let (n, w) = reset-was z hz q in
-        ⊎-elim (λ x. inl x) (λ x. inr (λ d hd. sym (zones-pointer p r v u z (reset-same z hz n) d hd) ∙ x d hd)) (h .sealed-but z hz w);
+        let (n, w) = reset-was p r v sh g hg z hz q in
+        ⊎-elim (λ x. inl x) (λ x. inr (λ d hd. sym (zones-pointer p r v u z (reset-same p r v sh g hg z hz n) d hd) ∙ x d hd)) (h .sealed-but z hz w);
     opens-at = λ z q.
         let o = h .opens-at z q in
         let n : g ≡ z → ⊥ =
         λ e. (let h0 : 0 < p .N = omega (arith, r .drives-low) in let x = open-short p r v st z so o 0 h0 in let y = full 0 h0
         ∙ refl in let w : pointerAt v 0 z ≡ capacity p = subst (λ (a : ℕ). pointerAt v 0 a ≡ capacity p) e y in let bad : ⊥ = omega arith in
         bad) in
-        open-view p v u st z (reset-same z (o .opened-zone) n) (flies st) o;
+        open-view p v u st z (reset-same p r v sh g hg z (o .opened-zone) n) (flies st) o;
     shut = h .shut;
     serial-fits = h .serial-fits;
     stamp-fits = h .stamp-fits;

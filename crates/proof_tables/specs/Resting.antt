@@ -24,38 +24,26 @@ use Rattle.spec.specs.Segments.{headerAt, remaining, Segment, segmentOf, segmen
 use Rattle.law_basic.specs.Geometry.{Ranged}
 use Rattle.law_basic.specs.Ranges.{Test, test, and-both}
 use Rattle.law_basic.specs.Ranges.Test.{yes!, no! }
-use Rattle.proof_tables.specs.Bounds.{record-low}
-use Rattle.proof_tables.specs.Counting.{in-greatest, greatest-low}
+use Rattle.law_drives.specs.Counting.{in-greatest, greatest-low}
+use Rattle.law_drives.specs.Fewest.{sealed-full}
+use Rattle.law_drives.specs.Laid.{serial-low}
+use Rattle.law_drives.specs.Members.{In, in-map, map-in, in-all, keep-cong, keep-nothing, keep-keep, keep-map, below-in}
+use Rattle.law_drives.specs.Puts.{keep-one-below}
+use Rattle.law_drives.specs.Range.{capacity-over}
+use Rattle.law_drives.specs.Records.{record-low}
+use Rattle.law_drives.specs.Segs.{present-in, remaining-low, seg-is, full-is, cand-at}
+use Rattle.law_drives.specs.Settled.{remains-used, used-remains, remains-is-used, serial-of, its-drive-low}
+use Rattle.law_drives.specs.Steady.{Steady, SealedAll, Rest}
+use Rattle.law_drives.specs.Steady.Rest.{rest-sealed, rest-open}
+use Rattle.law_drives.specs.Tables.{zero-at, remains, remaining-is}
+use Rattle.law_drives.specs.Tests.{clash, and-false-left, and-false-right, not-so, cond-true, eqb-self}
+use Rattle.law_drives.specs.Tidy.{spareAt, usedAt, Tidy}
+use Rattle.law_drives.specs.Zones.{Bytes, Shaped}
 use Rattle.proof_tables.specs.Idle.{idle-ok}
-use Rattle.proof_tables.specs.Laid.{serial-low}
-use Rattle.proof_tables.specs.Members.{In, in-map, map-in, in-all, keep-cong, keep-nothing, keep-keep, keep-map, below-in}
-use Rattle.proof_tables.specs.Puts.{keep-one-below}
-use Rattle.proof_tables.specs.Range.{capacity-over}
-use Rattle.proof_tables.specs.Reclaiming.{sealed-full, cand-record}
-use Rattle.proof_tables.specs.Run.{spareAt, usedAt, flies, awaits, Open, Lists, Tidy, Healthy}
-use Rattle.proof_tables.specs.Segs.{present-in, remaining-low, seg-is, full-is, cand-at}
-use Rattle.proof_tables.specs.Settled.{remains-used, used-remains, remains-is-used, serial-of, its-drive-low}
+use Rattle.proof_tables.specs.Reclaiming.{cand-record}
+use Rattle.proof_tables.specs.Run.{flies, awaits, Open, Lists, Healthy}
 use Rattle.proof_tables.specs.Slots.{none-flies}
-use Rattle.proof_tables.specs.Tables.{zero-at, remains, remaining-is}
 use Rattle.proof_tables.specs.Tallies.{tally-none}
-use Rattle.proof_tables.specs.Tests.{clash, and-false-left, and-false-right, not-so, cond-true, eqb-self}
-use Rattle.proof_tables.specs.Zones.{Bytes, Shaped}
-
--- an open segment with its stripes 0 to c - 1 on every drive, and nothing else
-pub record Steady (p : Params) (v : View) (g c : ℕ) : Type 0 where
-  pub steady-low : g < p .Z
-  pub steady-used : usedAt v g ≡ true
-  pub steady-few : c < p .S
-  pub steady-pointer : (d : ℕ) → d < p .N → pointerAt v d g ≡ 1 + c
-  pub steady-stripes : (d o : ℕ) → d < p .N → o < c → spareAt p v d g o .stripe < c
-  pub steady-count : length (counted p 0 (segmentOf p v 0 g)) ≡ c
-
-abbrev pub SealedAll : Params → View → ℕ → Type 0
-SealedAll p v z = (d : ℕ) → d < p .N → pointerAt v d z ≡ capacity p
-
-pub data Rest (p : Params) (v : View) : Type 0 where
-  rest-sealed : ((z : ℕ) → z < p .Z → usedAt v z ≡ true → SealedAll p v z) → Rest p v
-  rest-open : (g c : ℕ) → Steady p v g c → ((z : ℕ) → z < p .Z → usedAt v z ≡ true → (z ≡ g → ⊥) → SealedAll p v z) → Rest p v
 
 module _ (p : Params) (r : Ranged p) (v : View) (sh : Shaped p v) (b : ℕ) (t : Tidy p v b) where
   abbrev gs : List Segment

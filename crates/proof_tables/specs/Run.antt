@@ -3,20 +3,19 @@ use mathlib.Core.Path.{_≡_}
 use mathlib.Core.Bool.{Bool, true, false, not, _&&_}
 use mathlib.Core.Logic.{_⊎_}
 use Prim.Native.Nat.{ℕ, suc, _+_, _*_, _^_, _≤_, _<_}
-use lib.Dec.{eqb}
 use lib.ListN.{length}
 use Rattle.spec.specs.declared.Params.{Params}
 use Rattle.spec.specs.declared.State.{State}
 use Rattle.spec.specs.Answers.{isRefusedAs, isCut}
 use Rattle.spec.specs.Calls.{After}
-use Rattle.spec.specs.Drives.{View, zoneAt, pointerAt, Disk, recordIn}
-use Rattle.spec.specs.Layout.{dataPosition, isData, group, headerSerial, headerCopied, Rec}
+use Rattle.spec.specs.Drives.{View, pointerAt, Disk}
+use Rattle.spec.specs.Layout.{dataPosition, isData, group}
 use Rattle.spec.specs.Lists.{tally, isIn}
 use Rattle.spec.specs.Memory.{Memory, slots, stripeIn, filledIn, landedIn, entryIn, offsetIn, isFree}
 use Rattle.spec.specs.Params.{capacity, named}
-use Rattle.spec.specs.Segments.{headerAt}
 use Rattle.law_views.specs.Views.{seen}
-use Rattle.proof_tables.specs.Accept.{Accepted}
+use Rattle.law_drives.specs.Accept.{Accepted}
+use Rattle.law_drives.specs.Tidy.{spareAt, usedAt, Tidy}
 use Rattle.proof_tables.specs.Base.{Base}
 
 -- ---- one drive is missing: nothing is wrong on the others
@@ -26,16 +25,6 @@ pub record Lost (p : Params) (k : Disk) (m : Memory) : Type 0 where
   pub which-low : which < p .N
   pub names-it : m .state .missing ≡ named which
   pub accepts : Accepted p (seen p k) (m .state .missing)
-
--- ---- none is missing
-
--- the record of a data offset, by its spare
-abbrev pub spareAt : Params → View → ℕ → ℕ → ℕ → Rec
-spareAt p v d z o = recordIn p false (zoneAt v d z) o
-
--- a segment with a header
-abbrev pub usedAt : View → ℕ → Bool
-usedAt v z = not (eqb (pointerAt v 0 z) 0)
 
 -- an eighth in use
 abbrev pub flies : State → ℕ → Bool
@@ -80,15 +69,6 @@ pub record Lists (st : State) : Type 0 where
   pub addresses-long : length (st .addresses) ≡ 64
   pub stamps-long : length (st .stamps) ≡ 64
   pub offsets-long : length (st .offsets) ≡ 64
-
--- the segments by their zones and headers alone
-pub record Tidy (p : Params) (v : View) (serial : ℕ) : Type 0 where
-  pub pointer-low : (d z : ℕ) → d < p .N → z < p .Z → pointerAt v d z ≤ capacity p
-  pub together : (d z : ℕ) → d < p .N → z < p .Z → eqb (pointerAt v d z) 0 ≡ eqb (pointerAt v 0 z) 0
-  pub copied-less : (z : ℕ) → z < p .Z → usedAt v z ≡ true → headerCopied (headerAt v 0 z) < headerSerial (headerAt v 0 z)
-  pub serial-known : (z : ℕ) → z < p .Z → usedAt v z ≡ true → headerSerial (headerAt v 0 z) ≤ serial
-  pub serial-once : (y z : ℕ) → y < p .Z → z < p .Z → usedAt v y ≡ true → usedAt v z ≡ true → headerSerial (headerAt v 0 y) ≡ headerSerial (headerAt v 0 z) → y ≡ z
-  pub no-copy : (y z : ℕ) → y < p .Z → z < p .Z → usedAt v y ≡ true → usedAt v z ≡ true → headerCopied (headerAt v 0 y) ≡ headerSerial (headerAt v 0 z) → ⊥
 
 pub record Healthy (p : Params) (v : View) (st : State) : Type 0 where
   pub tidy : Tidy p v (st .serial .0)

@@ -13,8 +13,8 @@ use Rattle.spec.specs.declared.State.{State}
 use Rattle.spec.specs.Counts.{lastCount}
 use Rattle.spec.specs.Drives.{View, pointerAt, Store, storeView, storeAll, segmentNumbers, emptyOnAll, emptyZones, headerStores}
 use Rattle.spec.specs.Layout.{group}
-use Rattle.spec.specs.Lists.Opt.{none}
 use Rattle.spec.specs.Lists.{below, any, keep, tally, isNil, indexOf, firstOr}
+use Rattle.spec.specs.Lists.Opt.{none}
 use Rattle.spec.specs.Memory.{slotCount, slots, stripeIn, filledIn, landedIn, isFree, isFull, isFilling, inFlight, freeSlot, fillingSlot, hasFilling, setOpen, beginStripe, addEntry}
 use Rattle.spec.specs.Params.{dataCount, inflightLen}
 use Rattle.spec.specs.Segments.{segments, candidates, addressTable, compactTable}
@@ -23,18 +23,19 @@ use Rattle.law_basic.specs.Be.{room}
 use Rattle.law_basic.specs.Geometry.{Ranged}
 use Rattle.law_basic.specs.Ranges.{Test, test, and-left, and-right, length-below, getD-below}
 use Rattle.law_basic.specs.Ranges.Test.{yes!, no! }
+use Rattle.law_drives.specs.Headers.{header-roomy, header-within}
+use Rattle.law_drives.specs.Members.{In, in-keep, keep-in, none-in, in-any, below-in, index-below, index-passes, first-in, in-some}
+use Rattle.law_drives.specs.Range.{data-count}
+use Rattle.law_drives.specs.Tests.{clash, or-left, or-right, or-cases, not-so}
+use Rattle.law_drives.specs.Zones.{Shaped, hits, Room, Within, Roomy}
 use Rattle.proof_tables.specs.Carried.{begin-healthy}
 use Rattle.proof_tables.specs.Filling.{placed-long, add-ok, begin-ok, fill-healthy}
-use Rattle.proof_tables.specs.Heading.{header-roomy, header-within, empty-all, head-addresses, head-compact, head-healthy}
+use Rattle.proof_tables.specs.Heading.{empty-all, head-addresses, head-compact, head-healthy}
 use Rattle.proof_tables.specs.Idle.{StateOk, in-slots, slots-in}
-use Rattle.proof_tables.specs.Members.{In, in-keep, keep-in, none-in, in-any, below-in, index-below, index-passes, first-in, in-some}
-use Rattle.proof_tables.specs.Range.{data-count}
 use Rattle.proof_tables.specs.Reading.{found}
 use Rattle.proof_tables.specs.Run.{flies, Healthy}
 use Rattle.proof_tables.specs.Slots.{begin-filled, begin-lists}
 use Rattle.proof_tables.specs.Tallies.{tally-none, some-out}
-use Rattle.proof_tables.specs.Tests.{clash, or-left, or-right, or-cases, not-so}
-use Rattle.proof_tables.specs.Zones.{Shaped, hits, Room, Within, Roomy}
 
 -- ---- eighths found by a search
 

@@ -21,15 +21,16 @@ use Rattle.spec.specs.Restart.{freeZones, dropStores, mendStores, restartStores
 use Rattle.spec.specs.Segments.{Segment, segments, candidates, addressTable, compactTable, greatestStamp, greatestSerial, unsealed}
 use Rattle.law_basic.specs.Geometry.{ranged}
 use Rattle.law_views.specs.Views.{Whole, seen}
-use Rattle.proof_tables.specs.Accept.{Accepted, accepted-of, in-groups}
+use Rattle.law_drives.specs.Accept.{Accepted, accepted-of, in-groups}
+use Rattle.law_drives.specs.Checks.{Passes}
+use Rattle.law_drives.specs.Lengths.{lengths-of, whole-of}
+use Rattle.law_drives.specs.Masks.{named-low, named-ones, named-some}
+use Rattle.law_drives.specs.Tables.{length-addresses, length-compact}
+use Rattle.law_drives.specs.Tests.{or-left, or-right, cond-false}
+use Rattle.law_drives.specs.Zones.{Shaped}
 use Rattle.proof_tables.specs.Base.{Decodes, Base}
-use Rattle.proof_tables.specs.Checks.{Passes}
-use Rattle.proof_tables.specs.Idle.{idle-ok, lengths-of, of-lengths, whole-of}
-use Rattle.proof_tables.specs.Losing.{named-low, named-ones, named-some}
+use Rattle.proof_tables.specs.Idle.{idle-ok, of-lengths}
 use Rattle.proof_tables.specs.Run.{Run}
-use Rattle.proof_tables.specs.Tables.{length-addresses, length-compact}
-use Rattle.proof_tables.specs.Tests.{or-left, or-right, cond-false}
-use Rattle.proof_tables.specs.Zones.{Shaped}
 
 -- what a restart's memory says, by its definition
 module _ (p : Params) (v : View) (gone : ℕ) (fl : List ℕ) where

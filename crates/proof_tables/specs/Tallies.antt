@@ -11,8 +11,8 @@ use Rattle.spec.specs.Lists.{upFrom, below, consIf, keep, tally}
 use Rattle.spec.specs.Memory.{slotCount, slots}
 use Rattle.law_basic.specs.Ranges.{Test, test}
 use Rattle.law_basic.specs.Ranges.Test.{yes!, no! }
-use Rattle.proof_tables.specs.Members.{In, in-keep, keep-cong, keep-nothing, from-in}
-use Rattle.proof_tables.specs.Tests.{clash, not-so}
+use Rattle.law_drives.specs.Members.{In, in-keep, keep-cong, keep-nothing, from-in}
+use Rattle.law_drives.specs.Tests.{clash, not-so}
 
 pub tally-cong : {A : Type 0} (f g : A → Bool) (l : List A) → ((a : A) → In a l → f a ≡ g a) → tally f l ≡ tally g l
 unfolding tally

@@ -6,8 +6,8 @@ use mathlib.Core.Logic.{⊎-elim}
 use Prim.Native.Nat.{ℕ, _<_}
 use borrow.Author.Tests.{eq-eqb, ltb-true, eqb-true, not-false}
 use lib.Dec.{ltb, eqb}
-use Rattle.spec.specs.declared.Params.{Params}
 use Rattle.spec.specs.declared.Answer.the-variants.{Rebuilt}
+use Rattle.spec.specs.declared.Params.{Params}
 use Rattle.spec.specs.Answers.{isRefusedAs, isCut, finished}
 use Rattle.spec.specs.Calls.{Check, firstRefusal, Plan, mkPlan, decided, After, outcome}
 use Rattle.spec.specs.Calls.Check.{rule}
@@ -25,19 +25,20 @@ use Rattle.spec.specs.Segments.{segments}
 use Rattle.law_basic.specs.Geometry.{ranged}
 use Rattle.law_basic.specs.Ranges.{and-left, and-right}
 use Rattle.law_views.specs.Views.{Whole, seen}
-use Rattle.proof_tables.specs.Checks.{clear}
+use Rattle.law_drives.specs.Checks.{clear, refusal-kind}
+use Rattle.law_drives.specs.Masks.{named-some}
+use Rattle.law_drives.specs.Tests.{clash, or-right}
+use Rattle.law_drives.specs.Zones.{Shaped}
 use Rattle.proof_tables.specs.Going.{well-write, well-close}
 use Rattle.proof_tables.specs.Landings.{well-land}
-use Rattle.proof_tables.specs.Losing.{named-some, idle-kept, refused-kept, lost-write, lost-land, lost-close, lost-reclaim, lost-rebuild}
-use Rattle.proof_tables.specs.Outcomes.{Ended, ended, refusal-kind, refused-unfinished, cut-unfinished, cut-cut}
+use Rattle.proof_tables.specs.Losing.{idle-kept, refused-kept, lost-write, lost-land, lost-close, lost-reclaim, lost-rebuild}
+use Rattle.proof_tables.specs.Outcomes.{Ended, ended, refused-unfinished, cut-unfinished, cut-cut}
 use Rattle.proof_tables.specs.Outcomes.Ended.{ended-refused, ended-done, ended-cut}
 use Rattle.proof_tables.specs.Reading.{read-idle, fill-idle}
 use Rattle.proof_tables.specs.Reclaiming.{well-reclaim}
 use Rattle.proof_tables.specs.Restarting.{started}
 use Rattle.proof_tables.specs.Run.{Well, Run, Kept}
 use Rattle.proof_tables.specs.Starting.{startChecks, startPlan, begins}
-use Rattle.proof_tables.specs.Tests.{clash, or-right}
-use Rattle.proof_tables.specs.Zones.{Shaped}
 
 -- Reading order: Run (what holds between calls); lists and numbers: Tests, Members, Range, Masks, Tallies, Counting; what the drives say: Segs,
 -- Ranks, Tables, Accept, Frame, Settled, Growing; reads: Reads, Base, Reading; stores: Zones, Image, Laid, Puts, Sealing, Joins; checks and how a call

@@ -26,12 +26,11 @@ use Rattle.law_basic.specs.Xor.{xorAll-none, xorAll-snoc}
 use Rattle.law_views.specs.Views.{Whole}
 use Rattle.recover_groups.specs.Groups.{recsBad, recsFault}
 use Rattle.recover_segments.specs.Remains.{serialOf}
-use Rattle.proof_tables.specs.Base.{cand-zone}
-use Rattle.proof_tables.specs.Members.{In, in-map, none-in}
-use Rattle.proof_tables.specs.Reads.{Spot, counts-in, spot-of, spot-block, spot-drive, InGroups, shown-first}
-use Rattle.proof_tables.specs.Segs.{in-present, remaining-low, length-records, record-at, data-low, recs-here, serial-is, chunk-at, CandAt}
-use Rattle.proof_tables.specs.Tables.{length-compact}
-use Rattle.proof_tables.specs.Tests.{true-false, or-left, or-right, cond-true, cond-false}
+use Rattle.law_drives.specs.Members.{In, in-map, none-in}
+use Rattle.law_drives.specs.Segs.{in-present, remaining-low, length-records, record-at, data-low, recs-here, serial-is, chunk-at, CandAt}
+use Rattle.law_drives.specs.Spots.{cand-zone, Spot, counts-in, spot-of, spot-block, spot-drive, InGroups, shown-first}
+use Rattle.law_drives.specs.Tables.{length-compact}
+use Rattle.law_drives.specs.Tests.{true-false, or-left, or-right, cond-true, cond-false}
 
 -- what the walk over the records rests on: buffers of their lengths, records in order, and the compact table that the drives say
 pub record Ground (p : Params) (im ps : List ℕ) (gone : ℕ) (cs : List ℕ) : Type 0 where

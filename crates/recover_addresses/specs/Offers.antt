@@ -20,8 +20,8 @@ use Rattle.spec.specs.Segments.{addressTable}
 use Rattle.law_basic.specs.Be.{length-toBe}
 use Rattle.law_basic.specs.Ranges.{keep-append, keep-hit, keep-miss, keep-none}
 use Rattle.law_basic.specs.Splice.{length-splice, part-splice, part-splice-below, part-splice-above}
-use Rattle.proof_tables.specs.Ranks.{best-append}
-use Rattle.proof_tables.specs.Tables.{part-flat, length-addresses, addresses-cong, addresses-ext}
+use Rattle.law_drives.specs.Best.{best-append}
+use Rattle.law_drives.specs.Tables.{part-flat, length-addresses, addresses-cong, addresses-ext}
 
 -- ---- one candidate more
 

@@ -20,12 +20,12 @@ use Rattle.spec.specs.Rank.{Cand, beats, better, best, placeOr, candsOf}
 use Rattle.spec.specs.Segments.{addressTable}
 use Rattle.law_basic.specs.Geometry.{Ranged}
 use Rattle.law_basic.specs.Splice.{length-part, getD-part}
-use Rattle.proof_tables.specs.Members.{In, in-append}
-use Rattle.proof_tables.specs.Ranks.{best-in}
-use Rattle.proof_tables.specs.Reads.{spot-of, spot-low}
-use Rattle.proof_tables.specs.Segs.{CandAt}
-use Rattle.proof_tables.specs.Tables.{length-addresses, place-at, addresses-ext}
-use Rattle.proof_tables.specs.Tests.{cond-true, cond-false}
+use Rattle.law_drives.specs.Best.{best-in}
+use Rattle.law_drives.specs.Members.{In, in-append}
+use Rattle.law_drives.specs.Segs.{CandAt}
+use Rattle.law_drives.specs.Spots.{spot-of, spot-low}
+use Rattle.law_drives.specs.Tables.{length-addresses, place-at, addresses-ext}
+use Rattle.law_drives.specs.Tests.{cond-true, cond-false}
 use Rattle.recover_addresses.specs.Offers.{offer-high, offer-kept, offer-set}
 
 -- candidates of the drives, and the table of them

@@ -11,7 +11,7 @@ ghost use Rattle.spec.specs.Params.{present};
 ghost use Rattle.spec.specs.Segments.{segmentOf, storedRec, recOf};
 ghost use Rattle.disk_rank.specs.Ranked.{ranked};
 ghost use Rattle.recover_segments.specs.Remains.{Serials};
-ghost use Rattle.proof_tables.specs.Segs.{CandAt};
+ghost use Rattle.law_drives.specs.Segs.{CandAt};
 ghost use Rattle.recover_addresses.specs.Lies.{Ground, Counted, Lies, Somewhere};
 ghost use Rattle.recover_addresses.specs.Told.{Known, Tells, Placed, Found};
 use disk_rank::Cand;

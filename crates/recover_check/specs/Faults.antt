@@ -7,7 +7,7 @@ use native.Mathlib.Nat.{add-zero, zero-add, suc-mul}
 use native.Mathlib.Omega.{arith}
 use lib.Dec.{leb, eqb, lit≤}
 use lib.ListN.{length, getD}
-use Rattle.proof_tables.specs.Members.{keep-keep, keep-map}
+use Rattle.law_drives.specs.Members.{keep-keep, keep-map}
 use Rattle.law_basic.specs.Geometry.{prod-le, ranged}
 use Rattle.law_basic.specs.Ranges.{Test, test, length-below, map-append, map-map, keep-below-same, length-keep, total-append, keep-below-snoc}
 use Rattle.law_basic.specs.Ranges.Test.{yes!, no! }

@@ -19,9 +19,9 @@ use Rattle.law_basic.specs.Geometry.{item}
 use Rattle.law_basic.specs.Ranges.{below-none, length-below, map-below-snoc, map-map, flat-below-snoc}
 use Rattle.law_basic.specs.Splice.{splice-nil, splice-all, wrote-one, splice-next}
 use Rattle.recover_segments.specs.Remains.{remains as Remain, isLeft}
-use Rattle.proof_tables.specs.Tables.{remains, long-flat, gridOf, rowAt, compact-is, compact-row-long, length-compact}
-use Rattle.proof_tables.specs.Segs.{recs-here, recs-gone}
-use Rattle.proof_tables.specs.Tests.{cond-true, cond-false}
+use Rattle.law_drives.specs.Segs.{recs-here, recs-gone}
+use Rattle.law_drives.specs.Tables.{remains, long-flat, gridOf, rowAt, compact-is, compact-row-long, length-compact}
+use Rattle.law_drives.specs.Tests.{cond-true, cond-false}
 
 -- 01, What a zone holds: the entry of a data offset
 unfoldable pub entryOf : Params → Bool → Zone → ℕ → ℕ

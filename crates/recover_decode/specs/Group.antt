@@ -17,9 +17,9 @@ use Rattle.spec.specs.Segments.{lowDrive, Segment, segmentOf, recsOn, counts, s
 use Rattle.law_basic.specs.Geometry.{Ranged, zone-on-lt}
 use Rattle.law_basic.specs.Ranges.{upFrom-end, below-start, any-same}
 use Rattle.law_views.specs.Views.{Whole, pointer-view, AllFit, seen}
-use Rattle.proof_tables.specs.Frame.{Agree, same-sealed}
-use Rattle.proof_tables.specs.Members.{In}
-use Rattle.proof_tables.specs.Segs.{seg-is}
+use Rattle.law_drives.specs.Frame.{Agree, same-sealed}
+use Rattle.law_drives.specs.Members.{In}
+use Rattle.law_drives.specs.Segs.{seg-is}
 use Rattle.recover_reset.specs.Lost.{lost-start, lostStore, lostStores, lost-none, lost-append, lost-hit, lost-step, lost-end, lost-apart, same-lost}
 use Rattle.recover_drop.specs.Going.{going-first}
 use Rattle.disk_zones.specs.declared.Made.{Made}

@@ -12,11 +12,11 @@ use Rattle.spec.specs.Params.{named, present}
 use Rattle.spec.specs.Segments.{lowDrive}
 use Rattle.law_basic.specs.Geometry.{Ranged}
 use Rattle.law_views.specs.Views.{Whole, AllFit, seen}
-use Rattle.proof_tables.specs.Frame.{Agree}
-use Rattle.proof_tables.specs.Losing.{named-in, low-present}
-use Rattle.proof_tables.specs.Members.{In}
-use Rattle.proof_tables.specs.Tests.{clash, and-false-left}
-use Rattle.proof_tables.specs.Zones.{hits}
+use Rattle.law_drives.specs.Frame.{Agree}
+use Rattle.law_drives.specs.Masks.{named-in, low-present}
+use Rattle.law_drives.specs.Members.{In}
+use Rattle.law_drives.specs.Tests.{clash, and-false-left}
+use Rattle.law_drives.specs.Zones.{hits}
 use Rattle.recover_drop.specs.Going.{owes-cut, owes-done, Going, going-start, going-turn, going-kept, going-first}
 use Rattle.disk_zones.specs.declared.Made.{Made}
 use Rattle.disk_zones.specs.Made.{Storing}

@@ -6,7 +6,7 @@ use Rattle.spec.specs.declared.Params.{Params}
 use Rattle.law_basic.specs.Geometry.{Ranged}
 use Rattle.law_basic.specs.Ranges.{upFrom-step, upFrom-end, below-start, flat-none, flat-cons}
 use Rattle.law_restart.specs.Frames.{fits-split, seen-after, whole-after, zone-kept}
-use Rattle.proof_tables.specs.Zones.{hits}
+use Rattle.law_drives.specs.Zones.{hits}
 use Rattle.law_views.specs.Views.{Whole, AllFit, seen}
 use Rattle.disk_zones.specs.Made.{Storing, storing-all, storing-stop, storing-join, storing-none}
 use Rattle.disk_zones.specs.declared.Made.{Made}

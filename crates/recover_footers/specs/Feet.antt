@@ -9,11 +9,11 @@ use Rattle.spec.specs.Segments.{Segment, segmentOf}
 use Rattle.spec.specs.declared.Params.{Params}
 use Rattle.recover_drop.specs.Going.{owes-cut, owes-done, Going, going-start, going-as, going-turn, going-kept, flat-step, flat-end, flat-start}
 use Rattle.law_basic.specs.Geometry.{Ranged}
-use Rattle.proof_tables.specs.Puts.{putAt, hits-puts}
-use Rattle.proof_tables.specs.Sealing.{footerChunks, footer-puts}
-use Rattle.proof_tables.specs.Segs.{zone-by, seg-is}
-use Rattle.proof_tables.specs.Tests.{cond-false}
-use Rattle.proof_tables.specs.Zones.{hits}
+use Rattle.law_drives.specs.Footers.{footerChunks, footer-puts}
+use Rattle.law_drives.specs.Puts.{putAt, hits-puts}
+use Rattle.law_drives.specs.Segs.{zone-by, seg-is}
+use Rattle.law_drives.specs.Tests.{cond-false}
+use Rattle.law_drives.specs.Zones.{hits}
 use Rattle.law_views.specs.Views.{Whole, pointer-view, AllFit, seen}
 use Rattle.disk_zones.specs.Made.{Storing}
 use Rattle.disk_zones.specs.declared.Made.{Made}

@@ -13,7 +13,7 @@ use Rattle.spec.specs.declared.Params.{Params}
 use Rattle.spec.specs.Layout.{group, inGroupOf}
 use Rattle.spec.specs.Lists.{upFrom, below}
 use Rattle.law_basic.specs.Ranges.{and-left, and-right, and-both, upFrom-add, upFrom-end, map-same}
-use Rattle.proof_tables.specs.Tests.{same-test}
+use Rattle.law_drives.specs.Tests.{same-test}
 use Rattle.recover_groups.specs.Groups.{groupLen, groupsLeft, basesFrom}
 
 pub group-len-le : (p : Params) (base : ℕ) → groupLen p base ≤ p .G

@@ -20,11 +20,10 @@ use Rattle.spec.specs.Params.{inRange, capacity, drivesOf, present}
 use Rattle.spec.specs.Segments.{Segment, recordsIn, segmentOf, recsOn, offsetOn, hasChunk, counts, counted}
 use Rattle.law_basic.specs.Ranges.{Test, test, not-both, length-below, any-append, length-keep}
 use Rattle.law_basic.specs.Ranges.Test.{yes!, no! }
-use Rattle.proof_tables.specs.Counting.{different-few, stripes-different}
-use Rattle.proof_tables.specs.Members.{In, map-in, all-in, in-all, none-in, in-none, in-any, keep-cong, keep-all, keep-keep, below-in, in-getD, getD-in}
-use Rattle.proof_tables.specs.Members.{index-below, index-passes, index-first, index-is}
-use Rattle.proof_tables.specs.Segs.{present-in, in-present, length-records, record-at, recs-here, recs-gone}
-use Rattle.proof_tables.specs.Tests.{and-false-right, or-left, or-right, not-so, same-test, cond-true}
+use Rattle.law_drives.specs.Counting.{different-few, stripes-different}
+use Rattle.law_drives.specs.Members.{In, map-in, all-in, in-all, none-in, in-none, in-any, keep-cong, keep-all, keep-keep, below-in, in-getD, getD-in, index-below, index-passes, index-first, index-is}
+use Rattle.law_drives.specs.Segs.{present-in, in-present, length-records, record-at, recs-here, recs-gone}
+use Rattle.law_drives.specs.Tests.{and-false-right, or-left, or-right, not-so, same-test, cond-true}
 use Rattle.recover_groups.specs.Bases.{group-len-le, group-of, group-back, base-is, in-group}
 use Rattle.recover_groups.specs.Faulty.{stripe-group, length-group}
 use Rattle.recover_groups.specs.Groups.{groupLen, groupRecs, recsBad, recsFault, Indexed, Entered, AllEntered, entryOf, Row}

@@ -19,7 +19,7 @@ use Rattle.spec.specs.Segments.{Segment, recsOn}
 use Rattle.law_basic.specs.Ranges.{Test, test, and-left, and-right}
 use Rattle.law_basic.specs.Ranges.Test.{yes!, no! }
 use Rattle.law_scans.specs.Scans.{any-keep}
-use Rattle.proof_tables.specs.Tests.{or-neither, or-true-left, or-true-right}
+use Rattle.law_drives.specs.Tests.{or-neither, or-true-left, or-true-right}
 use Rattle.recover_groups.specs.Chunks.{entry-none, entry-zero, entry-new, entry-old, in-group-of}
 use Rattle.recover_groups.specs.Faulty.{bad-more, nextBad, bad-next, bad-none}
 use Rattle.recover_groups.specs.Groups.{groupLen, groupRecs, recsBad, groupFault, entryOf, Row, SameBelow}

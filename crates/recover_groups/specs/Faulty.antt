@@ -18,8 +18,8 @@ use Rattle.spec.specs.Lists.{any}
 use Rattle.spec.specs.Params.{present, absent}
 use Rattle.spec.specs.Segments.{Segment, recsOn, counted}
 use Rattle.law_basic.specs.Ranges.{and-left, and-right, not-both, any-append, any-same}
-use Rattle.proof_tables.specs.Members.{none-in, in-none, any-in, in-any, getD-in}
-use Rattle.proof_tables.specs.Tests.{or-left, or-right, or-neither, same-test}
+use Rattle.law_drives.specs.Members.{none-in, in-none, any-in, in-any, getD-in}
+use Rattle.law_drives.specs.Tests.{or-left, or-right, or-neither, same-test}
 use Rattle.recover_groups.specs.Bases.{group-len-whole, group-len-last, group-of, group-back, bases-step, bases-end}
 use Rattle.recover_groups.specs.Groups.{groupLen, basesFrom, groupRecs, recsBad, groupFault, recsFault}
 

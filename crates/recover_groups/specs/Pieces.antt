@@ -21,9 +21,9 @@ use Rattle.law_basic.specs.Ranges.{map-append, map-map, keep-below-snoc}
 use Rattle.law_basic.specs.Splice.{length-part}
 use Rattle.law_basic.specs.Xor.{AllLong, parity-snoc, xorAll-snoc}
 use Rattle.law_views.specs.Views.{block-view}
-use Rattle.proof_tables.specs.Members.{In, keep-in, below-in}
-use Rattle.proof_tables.specs.Segs.{zone-by, chunk-at}
-use Rattle.proof_tables.specs.Tests.{cond-true}
+use Rattle.law_drives.specs.Members.{In, keep-in, below-in}
+use Rattle.law_drives.specs.Segs.{zone-by, chunk-at}
+use Rattle.law_drives.specs.Tests.{cond-true}
 use Rattle.recover_groups.specs.declared.Group.{Group}
 use Rattle.recover_groups.specs.Bases.{group-len-fits}
 use Rattle.recover_groups.specs.Chunks.{chunk-present, entered-chunk}

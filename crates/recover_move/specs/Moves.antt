@@ -14,10 +14,10 @@ use Rattle.recover_groups.specs.Groups.{groupLen, Indexed, segmentIn, Reads}
 use Rattle.recover_groups.specs.declared.Group.{Group}
 use Rattle.law_basic.specs.Geometry.{Ranged}
 use Rattle.law_basic.specs.Ranges.{upFrom-step, upFrom-end, below-start, keep-miss, keep-none}
-use Rattle.proof_tables.specs.Puts.{hits-append, hits-drives}
-use Rattle.proof_tables.specs.Settled.{zones-sealed, zones-segment}
-use Rattle.proof_tables.specs.Tests.{and-false-right, cond-false}
-use Rattle.proof_tables.specs.Zones.{hitsAt, hits}
+use Rattle.law_drives.specs.Puts.{hits-append, hits-drives}
+use Rattle.law_drives.specs.Settled.{zones-sealed, zones-segment}
+use Rattle.law_drives.specs.Tests.{and-false-right, cond-false}
+use Rattle.law_drives.specs.Zones.{hitsAt, hits}
 use Rattle.law_views.specs.Views.{Whole, pointer-view, AllFit, seen}
 use Rattle.disk_zones.specs.Made.{Storing}
 use Rattle.disk_zones.specs.declared.Made.{Made}

@@ -15,7 +15,7 @@ use Rattle.law_basic.specs.Geometry.{Ranged, data-drive-lt, position-lt}
 use Rattle.law_basic.specs.Mask.{isIn-empty}
 use Rattle.law_basic.specs.Ranges.{below-none, map-below-snoc, map-map, getD-map-below}
 use Rattle.law_basic.specs.Xor.{long-below, parity-none, parity-snoc, xorAll-none, xorAll-below-snoc}
-use Rattle.proof_tables.specs.Tests.{cond-true, cond-false}
+use Rattle.law_drives.specs.Tests.{cond-true, cond-false}
 use lib.Bits.{bitXor}
 use lib.ListN.{length, getD, replicate}
 use mathlib.Core.Bool.{true, false}

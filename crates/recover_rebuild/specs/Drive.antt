@@ -17,14 +17,14 @@ use Rattle.spec.specs.Segments.{segmentOf, segments}
 use Rattle.law_basic.specs.Geometry.{Ranged}
 use Rattle.law_views.specs.Views.{Whole, pointer-view, AllFit, seen}
 use Rattle.recover_segments.specs.Remains.{Keeps, remains}
-use Rattle.proof_tables.specs.Frame.{Agree}
-use Rattle.proof_tables.specs.Image.{sized-of}
-use Rattle.proof_tables.specs.Losing.{named-in, low-present}
-use Rattle.proof_tables.specs.Members.{map-in, flat-cong, keep-nothing, keep-map, flat-map, below-in}
-use Rattle.proof_tables.specs.Puts.{keep-one-below}
-use Rattle.proof_tables.specs.Segs.{seg-is}
-use Rattle.proof_tables.specs.Tests.{and-false-left, and-false-right, eqb-self}
-use Rattle.proof_tables.specs.Zones.{hitsAt, zoneStore, hits, zone-after, reset-pointer}
+use Rattle.law_drives.specs.Frame.{Agree}
+use Rattle.law_drives.specs.Image.{sized-of}
+use Rattle.law_drives.specs.Masks.{named-in, low-present}
+use Rattle.law_drives.specs.Members.{map-in, flat-cong, keep-nothing, keep-map, flat-map, below-in}
+use Rattle.law_drives.specs.Puts.{keep-one-below}
+use Rattle.law_drives.specs.Segs.{seg-is}
+use Rattle.law_drives.specs.Tests.{and-false-left, and-false-right, eqb-self}
+use Rattle.law_drives.specs.Zones.{hitsAt, zoneStore, hits, zone-after, reset-pointer}
 use Rattle.law_restart.specs.Frames.{seen-after}
 use Rattle.recover_drop.specs.Going.{going-kept, going-first, flat-step, flat-end, flat-start}
 use Rattle.disk_zones.specs.declared.Made.{Made}

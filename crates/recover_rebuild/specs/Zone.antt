@@ -16,11 +16,11 @@ use Rattle.spec.specs.Segments.{lowDrive, headerAt, Segment, segmentOf, recsOn,
 use Rattle.law_basic.specs.Geometry.{Ranged}
 use Rattle.law_views.specs.Pointers.{pointer-set}
 use Rattle.law_views.specs.Views.{Whole, AllFit, seen}
-use Rattle.proof_tables.specs.Frame.{same-sealed}
-use Rattle.proof_tables.specs.Losing.{named-in, low-present}
-use Rattle.proof_tables.specs.Range.{capacity-over}
-use Rattle.proof_tables.specs.Segs.{seg-is, serial-is, copied-is, full-is}
-use Rattle.proof_tables.specs.Tests.{or-left, cond-false}
+use Rattle.law_drives.specs.Frame.{same-sealed}
+use Rattle.law_drives.specs.Masks.{named-in, low-present}
+use Rattle.law_drives.specs.Range.{capacity-over}
+use Rattle.law_drives.specs.Segs.{seg-is, serial-is, copied-is, full-is}
+use Rattle.law_drives.specs.Tests.{or-left, cond-false}
 use Rattle.recover_drop.specs.Going.{going-first}
 use Rattle.disk_zones.specs.declared.Made.{Made}
 use Rattle.disk_zones.specs.Made.{Storing, storing-all, put-pointers}

@@ -13,12 +13,12 @@ use Rattle.spec.specs.Params.{present}
 use Rattle.spec.specs.Parity.{Piece}
 use Rattle.spec.specs.Segments.{lowDrive, Segment, segmentOf, counts, pieceOf, putPiece}
 use Rattle.law_basic.specs.Ranges.{upFrom-add, map-append, map-same, map-map, keep-append, keep-hit, keep-miss, keep-none}
-use Rattle.proof_tables.specs.Frame.{Agree}
-use Rattle.proof_tables.specs.Members.{In, keep-cong}
-use Rattle.proof_tables.specs.Puts.{putAt, hits-puts}
-use Rattle.proof_tables.specs.Rebuilding.{pieceChunk, put-pieces}
-use Rattle.proof_tables.specs.Tests.{cond-false}
-use Rattle.proof_tables.specs.Zones.{hits}
+use Rattle.law_drives.specs.Frame.{Agree}
+use Rattle.law_drives.specs.Members.{In, keep-cong}
+use Rattle.law_drives.specs.Puts.{putAt, hits-puts}
+use Rattle.law_drives.specs.Rebuilding.{pieceChunk, put-pieces}
+use Rattle.law_drives.specs.Tests.{cond-false}
+use Rattle.law_drives.specs.Zones.{hits}
 use Rattle.recover_reset.specs.Same.{same-seg, same-counts, same-piece}
 
 -- 01, Rebuild: the store of stripe s's chunk

@@ -20,15 +20,14 @@ use Rattle.spec.specs.Segments.{lowDrive, Segment, segmentOf, counts, counted, 
 use Rattle.law_basic.specs.Geometry.{Ranged}
 use Rattle.law_basic.specs.Ranges.{and-both, length-below, map-same, map-map, getD-map}
 use Rattle.law_views.specs.Views.{Whole, pointer-view, blocks-long, AllFit, seen}
-use Rattle.proof_tables.specs.Frame.{Agree}
-use Rattle.proof_tables.specs.Image.{sized-of}
-use Rattle.proof_tables.specs.Members.{In, keep-cong}
-use Rattle.proof_tables.specs.Puts.{hits-append, putAt, hits-puts, putAll, puts-pointer, puts-new}
-use Rattle.proof_tables.specs.Range.{capacity-is, capacity-over}
-use Rattle.proof_tables.specs.Reading.{nil-append}
-use Rattle.proof_tables.specs.Rebuilding.{pieceChunk}
-use Rattle.proof_tables.specs.Tests.{cond-true, cond-false, eqb-self}
-use Rattle.proof_tables.specs.Zones.{hitsAt, zoneStore, hits, zone-after}
+use Rattle.law_drives.specs.Frame.{Agree}
+use Rattle.law_drives.specs.Image.{sized-of}
+use Rattle.law_drives.specs.Members.{In, keep-cong, nil-append}
+use Rattle.law_drives.specs.Puts.{hits-append, putAt, hits-puts, putAll, puts-pointer, puts-new}
+use Rattle.law_drives.specs.Range.{capacity-is, capacity-over}
+use Rattle.law_drives.specs.Rebuilding.{pieceChunk}
+use Rattle.law_drives.specs.Tests.{cond-true, cond-false, eqb-self}
+use Rattle.law_drives.specs.Zones.{hitsAt, zoneStore, hits, zone-after}
 use Rattle.law_restart.specs.Frames.{seen-after, whole-after}
 use Rattle.recover_reset.specs.Lost.{lostStore, lostStores, lost-puts, lost-apart, same-lost}
 use Rattle.recover_reset.specs.Same.{same-seg, same-serial, same-copied, same-full, same-counts, same-piece}

@@ -13,10 +13,10 @@ use Rattle.spec.specs.Params.{present}
 use Rattle.spec.specs.Parity.{mkPiece, parityPiece}
 use Rattle.spec.specs.Segments.{lowDrive, Segment, segmentOf, recsOn, offsetOn, hasChunk, counts, storedPiece, pieceOf}
 use Rattle.law_basic.specs.Ranges.{all-same}
-use Rattle.proof_tables.specs.Frame.{Agree, core, same-core}
-use Rattle.proof_tables.specs.Members.{In, map-cong}
-use Rattle.proof_tables.specs.Segs.{present-in, zone-by, seg-is}
-use Rattle.proof_tables.specs.Tests.{cond-true}
+use Rattle.law_drives.specs.Frame.{Agree, core, same-core}
+use Rattle.law_drives.specs.Members.{In, map-cong}
+use Rattle.law_drives.specs.Segs.{present-in, zone-by, seg-is}
+use Rattle.law_drives.specs.Tests.{cond-true}
 
 module _ (p : Params) (gone : ℕ) (v u : View) (low : In (lowDrive p gone) (present p gone)) (ag : Agree p gone v u) (g : ℕ) (hg : g < p .Z) where
   abbrev x : Segment

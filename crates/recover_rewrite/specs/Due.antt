@@ -13,7 +13,7 @@ use Rattle.law_basic.specs.Ranges.{length-upFrom, below-start, keep-append, len
 use Rattle.recover_move.specs.Moves.{moved-none, moved-one, moved-append, moved-misses, Moves, moves-start, moves-as, moves-turn, moves-cut, moves-done}
 use Rattle.recover_move.specs.Moves.{moves-first, moves-sealed, moves-in, moves-reads}
 use Rattle.recover_rewrite.specs.declared.Moved.{Moved}
-use Rattle.proof_tables.specs.Tests.{clash}
+use Rattle.law_drives.specs.Tests.{clash}
 use Rattle.law_views.specs.Views.{Whole, AllFit, seen}
 use Rattle.disk_zones.specs.Made.{Storing, storing-none}
 use Rattle.disk_zones.specs.declared.Made.{Made}

@@ -10,10 +10,10 @@ use Rattle.spec.specs.declared.Params.{Params}
 use Rattle.recover_groups.specs.Groups.{recsFault}
 use Rattle.law_basic.specs.Geometry.{Ranged, capacity-low}
 use Rattle.recover_move.specs.Moves.{moved-misses, Moves, moves-start, moves-as, moves-turn, moves-cut, moves-first, moves-found, moves-sealed}
-use Rattle.proof_tables.specs.Puts.{hits-headers}
-use Rattle.proof_tables.specs.Segs.{seg-is}
-use Rattle.proof_tables.specs.Tests.{cond-false}
-use Rattle.proof_tables.specs.Zones.{hits}
+use Rattle.law_drives.specs.Puts.{hits-headers}
+use Rattle.law_drives.specs.Segs.{seg-is}
+use Rattle.law_drives.specs.Tests.{cond-false}
+use Rattle.law_drives.specs.Zones.{hits}
 use Rattle.law_views.specs.Views.{Whole, AllFit, seen}
 use Rattle.disk_zones.specs.Made.{Storing}
 use Rattle.disk_zones.specs.declared.Made.{Made}

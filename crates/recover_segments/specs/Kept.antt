@@ -23,9 +23,9 @@ use Rattle.law_basic.specs.Ranges.{all-keep-same, greatest-snoc, all-keep, keep
 use Rattle.law_basic.specs.Ranges.Test.{yes!, no! }
 use Rattle.law_views.specs.Views.{pointer-view, block-view}
 use Rattle.law_scans.specs.Scans.{any-keep}
-use Rattle.proof_tables.specs.Frame.{any-map}
-use Rattle.proof_tables.specs.Members.{keep-in, in-none, in-any, any-cong, map-cong, keep-keep, keep-map, in-below, below-in}
-use Rattle.proof_tables.specs.Tests.{and-false-right}
+use Rattle.law_drives.specs.Frame.{any-map}
+use Rattle.law_drives.specs.Members.{keep-in, in-none, in-any, any-cong, map-cong, keep-keep, keep-map, in-below, below-in}
+use Rattle.law_drives.specs.Tests.{and-false-right}
 use Rattle.recover_segments.specs.Remains.{isLeft, remains, serialOf, LeftFlags, Keeps, Serials, otherSerial}
 
 -- ---- lists

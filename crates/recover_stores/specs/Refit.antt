@@ -18,16 +18,16 @@ use Rattle.recover_segments.specs.Kept.{is-segment}
 use Rattle.recover_segments.specs.Remains.{serialOf, Keeps}
 use Rattle.law_restart.specs.Frames.{seen-after}
 use Rattle.law_restart.specs.Settled.{healthy-stores, settled}
-use Rattle.proof_tables.specs.Accept.{Accepted, pointer-ok, faults-apart}
-use Rattle.proof_tables.specs.Dropping.{free-are, drop-same, drop-empty}
-use Rattle.proof_tables.specs.Members.{In, keep-in, in-any, below-in, first-in}
-use Rattle.proof_tables.specs.Segs.{seg-is, serial-is}
-use Rattle.proof_tables.specs.Settled.{SameZones, zones-sealed, zones-pointer, zones-segment}
-use Rattle.proof_tables.specs.Tables.{remains, in-remaining}
-use Rattle.proof_tables.specs.Tests.{clash, true-false}
-use Rattle.proof_tables.specs.Unsealed.{Loose, loose, whole-pointer}
-use Rattle.proof_tables.specs.Unsealed.Loose.{loose-none, loose-one}
-use Rattle.proof_tables.specs.Zones.{Shaped}
+use Rattle.law_drives.specs.Accept.{Accepted, pointer-ok, faults-apart}
+use Rattle.law_drives.specs.Dropping.{free-are, drop-same, drop-empty}
+use Rattle.law_drives.specs.Members.{In, keep-in, in-any, below-in, first-in}
+use Rattle.law_drives.specs.Segs.{seg-is, serial-is}
+use Rattle.law_drives.specs.Settled.{SameZones, zones-sealed, zones-pointer, zones-segment}
+use Rattle.law_drives.specs.Tables.{remains, in-remaining}
+use Rattle.law_drives.specs.Tests.{clash, true-false}
+use Rattle.law_drives.specs.Unsealed.{Loose, loose, whole-pointer}
+use Rattle.law_drives.specs.Unsealed.Loose.{loose-none, loose-one}
+use Rattle.law_drives.specs.Zones.{Shaped}
 use Rattle.law_views.specs.Views.{Whole, pointer-view, AllFit, seen}
 use Rattle.disk_zones.specs.Made.{Storing, storing-all}
 use Rattle.disk_zones.specs.declared.Made.{Made}

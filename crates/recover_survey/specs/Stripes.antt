@@ -25,7 +25,7 @@ use Rattle.spec.specs.Lists.{upFrom, below, any, consIf, keep, tally, greatest,
 use Rattle.spec.specs.Params.{pointersLen, drivesOf, present, absent}
 use Rattle.spec.specs.Parity.{parityRec}
 use Rattle.recover_survey.specs.declared.Tally.{Tally}
-use Rattle.proof_tables.specs.Members.{keep-nothing}
+use Rattle.law_drives.specs.Members.{keep-nothing}
 use Rattle.recover_survey.specs.Tops.{lastOf, topOf, Surveyed, last-le}
 
 -- ---- decoded addresses, by stripe

@@ -18,10 +18,10 @@ use Rattle.spec.specs.Memory.{mkMemory, idleState}
 use Rattle.spec.specs.Restart.{openOf, nextOf, restartMemory}
 use Rattle.spec.specs.Segments.{remaining, Segment, segmentOf, segments, counted, candidates, addressTable, compactTable, greatestStamp, greatestSerial, unsealed}
 use Rattle.law_basic.specs.Ranges.{and-both}
-use Rattle.proof_tables.specs.Tables.{remains, remaining-in}
-use Rattle.proof_tables.specs.Members.{In, keep-in, keep-map}
-use Rattle.proof_tables.specs.Segs.{seg-is}
-use Rattle.proof_tables.specs.Tests.{and-false-left, and-false-right, cond-true, cond-false, cond-same}
+use Rattle.law_drives.specs.Members.{In, keep-in, keep-map}
+use Rattle.law_drives.specs.Segs.{seg-is}
+use Rattle.law_drives.specs.Tables.{remains, remaining-in}
+use Rattle.law_drives.specs.Tests.{and-false-left, and-false-right, cond-true, cond-false, cond-same}
 
 unsealed-is : (p : Params) (v : View) (gone : ℕ) → unsealed (segments p v gone) ≡ map (segmentOf p v gone) (keep (λ g. not (segmentOf p v gone g .full)) (remaining p v gone))
 unfolding unsealed segments

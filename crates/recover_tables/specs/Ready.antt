@@ -28,11 +28,11 @@ use Rattle.recover_groups.specs.Groups.{groupLen, AllEntered, segmentIn, Reads}
 use Rattle.recover_segments.specs.Remains.{remains as Remain, isLeft, serialOf}
 use Rattle.recover_addresses.specs.Lies.{Counted}
 use Rattle.recover_addresses.specs.Told.{Tells}
-use Rattle.proof_tables.specs.Members.{In}
-use Rattle.proof_tables.specs.Reads.{counts-in}
-use Rattle.proof_tables.specs.Segs.{remaining-low, serial-is, CandAt}
-use Rattle.proof_tables.specs.Tables.{remains, in-remaining}
-use Rattle.proof_tables.specs.Tests.{and-false-right, cond-true, cond-false}
+use Rattle.law_drives.specs.Members.{In}
+use Rattle.law_drives.specs.Segs.{remaining-low, serial-is, CandAt}
+use Rattle.law_drives.specs.Spots.{counts-in}
+use Rattle.law_drives.specs.Tables.{remains, in-remaining}
+use Rattle.law_drives.specs.Tests.{and-false-right, cond-true, cond-false}
 use Rattle.recover_tables.specs.Walk.{firstCands, most-append, most-one, tells-join, first-more}
 
 -- the index is that of the group, whose stripe k counts

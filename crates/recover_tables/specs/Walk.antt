@@ -15,9 +15,9 @@ use Rattle.spec.specs.Params.{dataCount, addressesLen}
 use Rattle.spec.specs.Rank.{Cand}
 use Rattle.spec.specs.Segments.{remaining, Segment, segmentOf, segments, counts, counted, candOf, segmentCands, candidates, addressTable, greatestStamp}
 use Rattle.law_basic.specs.Ranges.{upFrom-snoc, below-snoc, map-append, map-below-snoc, keep-append, keep-hit, keep-miss, keep-none, length-keep, flat-append, greatest-append}
-use Rattle.proof_tables.specs.Tables.{remains, remaining-is}
+use Rattle.law_drives.specs.Members.{flat-map}
+use Rattle.law_drives.specs.Tables.{remains, remaining-is}
 use Rattle.recover_addresses.specs.Told.{Told, Known, Tells, nothing-told}
-use Rattle.proof_tables.specs.Members.{flat-map}
 
 -- 01, The calls: the candidates of a stripe
 unfoldable pub stripeCands : Params → ℕ → Segment → ℕ → List Cand

@@ -4,7 +4,6 @@ use mathlib.Core.Bool.{not}
 use borrow.Author.Tests.{not-true, not-false}
 use Rattle.spec.specs.Engine.Call.{close}
 use Rattle.spec.specs.History.{before}
-use Rattle.proof_tables.specs.Reclaiming.{taken}
 use Rattle.call_rebuild.specs.Order.{numbers-bad, numbers-named}
 use Rattle.call_rebuild.proofs.bad_numbers.Statement.{statement}
 use Rattle.call_rebuild.proofs.bad_numbers.Tie as tie

@@ -10,8 +10,7 @@ use Rattle.spec.specs.History.{before}
 use Rattle.spec.specs.Lists.{firstOr}
 use Rattle.spec.specs.Memory.{mkMemory}
 use Rattle.spec.specs.Params.{named}
-use Rattle.proof_tables.specs.Idle.{whole-of}
-use Rattle.proof_tables.specs.Reclaiming.{taken}
+use Rattle.law_drives.specs.Lengths.{whole-of}
 use Rattle.call_rebuild.specs.Order.{lengths-fail, numbers-good, numbers-fail, pointers-fail, pointers-pass, only-named}
 use Rattle.call_rebuild.proofs.checks.Statement.{statement}
 use Rattle.call_rebuild.proofs.checks.Tie as tie

@@ -13,8 +13,7 @@ use Rattle.spec.specs.Memory.{mkMemory}
 use Rattle.spec.specs.Params.{named}
 use Rattle.spec.specs.Segments.{segments}
 use Rattle.recover_segments.specs.Remains.{Keeps}
-use Rattle.proof_tables.specs.Idle.{whole-of}
-use Rattle.proof_tables.specs.Reclaiming.{taken}
+use Rattle.law_drives.specs.Lengths.{whole-of}
 use Rattle.recover_check.specs.Faults.{Examined}
 use Rattle.recover_check.specs.Mends.{no-faults, names-zone, zone-le}
 use Rattle.call_rebuild.specs.Ends.{ends-refused}

@@ -10,8 +10,7 @@ use Rattle.spec.specs.History.{before}
 use Rattle.call_rebuild.specs.Order.{ready, only-named}
 use Rattle.spec.specs.Memory.{mkMemory}
 use Rattle.law_basic.specs.Geometry.{ranged}
-use Rattle.proof_tables.specs.Idle.{whole-of}
-use Rattle.proof_tables.specs.Reclaiming.{taken}
+use Rattle.law_drives.specs.Lengths.{whole-of}
 use Rattle.call_rebuild.specs.Ends.{ends-cut, ends-done, good-recs, stores-fit, all-passed}
 use Rattle.call_rebuild.proofs.restore.Statement.{statement}
 use Rattle.call_rebuild.proofs.restore.Tie as tie

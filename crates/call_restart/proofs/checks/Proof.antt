@@ -8,8 +8,8 @@ use Rattle.spec.specs.Memory.{mkMemory, zeroState}
 use Rattle.spec.specs.Params.{inRange}
 use Rattle.spec.specs.Restart.{namesDrive}
 use Rattle.call_restart.specs.Order.{numbers-fail, lengths-fail, pointers-fail, pointers-pass, named-is}
-use Rattle.proof_tables.specs.Idle.{whole-of}
-use Rattle.proof_tables.specs.Tests.{or-left}
+use Rattle.law_drives.specs.Lengths.{whole-of}
+use Rattle.law_drives.specs.Tests.{or-left}
 use Rattle.law_views.specs.Views.{seen}
 use borrow.Author.Needs.{needs}
 use borrow.Author.Tests.{not-true, not-false}

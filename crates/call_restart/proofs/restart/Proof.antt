@@ -10,7 +10,7 @@ use Rattle.spec.specs.Params.{named}
 use Rattle.spec.specs.Segments.{segments}
 use Rattle.call_restart.specs.Ends.{recovered, restart-refused, restart-recovers}
 use Rattle.call_restart.specs.Order.{front-passed, named-is}
-use Rattle.proof_tables.specs.Idle.{lengths-of, whole-of}
+use Rattle.law_drives.specs.Lengths.{lengths-of, whole-of}
 use Rattle.law_views.specs.Views.{seen}
 use borrow.Author.Needs.{needs}
 use mathlib.Core.List.{[]}

@@ -5,7 +5,7 @@ use Rattle.spec.specs.Segments.{segments}
 use Rattle.law_basic.specs.Geometry.{ranged}
 use Rattle.call_restart.specs.Ends.{settles-refused, is-sane, settles-stored}
 use Rattle.call_restart.specs.Order.{rested, zone-all}
-use Rattle.proof_tables.specs.Image.{shaped-of}
+use Rattle.law_drives.specs.Image.{shaped-of}
 use Rattle.law_views.specs.Views.{seen}
 use borrow.Author.Needs.{needs}
 use mathlib.Core.Path.{sym, ap, _∙_}

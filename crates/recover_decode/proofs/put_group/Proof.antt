@@ -6,7 +6,6 @@ use Rattle.spec.specs.Drives.{mkDisk}
 use Rattle.spec.specs.Engine.Call.{close}
 use Rattle.spec.specs.History.{before}
 use Rattle.law_basic.specs.Geometry.{ranged}
-use Rattle.proof_tables.specs.Reclaiming.{taken}
 use Rattle.recover_groups.specs.Groups.{groupLen, Reads}
 use Rattle.recover_decode.specs.Group.{Stripes, stripes-start, stripes-done, stripes-fit, stripes-read, stripes-cut, stripes-turn}
 use Rattle.recover_decode.proofs.put_group.Statement.{statement}

@@ -7,7 +7,6 @@ use Rattle.spec.specs.Drives.{mkDisk}
 use Rattle.spec.specs.Engine.Call.{close}
 use Rattle.spec.specs.History.{before}
 use Rattle.law_basic.specs.Geometry.{ranged}
-use Rattle.proof_tables.specs.Reclaiming.{taken}
 use Rattle.recover_decode.specs.Group.{Groups, groups-start, groups-done, groups-fit, groups-full, groups-sound, groups-cut, groups-turn}
 use Rattle.recover_decode.proofs.put_groups_with.Statement.{statement}
 use Rattle.recover_decode.proofs.put_groups_with.Tie as tie

@@ -11,7 +11,6 @@ use Rattle.spec.specs.Engine.Call.{close}
 use Rattle.spec.specs.History.{before}
 use Rattle.spec.specs.Segments.{counts}
 use Rattle.law_basic.specs.Geometry.{ranged}
-use Rattle.proof_tables.specs.Reclaiming.{taken}
 use Rattle.disk_zones.specs.Made.{Storing, storing-none}
 use Rattle.recover_groups.specs.Bases.{group-len-le}
 use Rattle.recover_groups.specs.Groups.{segmentIn}

@@ -5,7 +5,7 @@ use Rattle.spec.specs.Bytes.{xors}
 use Rattle.spec.specs.History.{before}
 use Rattle.spec.specs.Lists.{isIn}
 use Rattle.spec.specs.Segments.{storedPiece}
-use Rattle.proof_tables.specs.Tests.{cond-true, cond-false}
+use Rattle.law_drives.specs.Tests.{cond-true, cond-false}
 use Rattle.recover_groups.specs.Groups.{segmentIn}
 use borrow.Author.Needs.{needs}
 use Rattle.recover_groups.proofs.add_block.Statement.{statement}

@@ -5,7 +5,7 @@ use Rattle.spec.specs.History.{before}
 use Rattle.spec.specs.Layout.{mkRec}
 use Rattle.spec.specs.Lists.{isIn}
 use Rattle.spec.specs.Segments.{storedRec}
-use Rattle.proof_tables.specs.Tests.{cond-true, cond-false}
+use Rattle.law_drives.specs.Tests.{cond-true, cond-false}
 use Rattle.recover_groups.specs.Groups.{segmentIn}
 use Rattle.recover_groups.specs.Pieces.{addRec}
 use Rattle.disk_records.specs.Record.{recOf as recVal}

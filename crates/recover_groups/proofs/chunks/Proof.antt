@@ -10,7 +10,6 @@ use Rattle.spec.specs.Params.{drivesOf}
 use Rattle.spec.specs.Segments.{Segment, hasChunk}
 use Rattle.law_basic.specs.Geometry.{ranged}
 use Rattle.law_scans.specs.Scans.{kept-one, kept-none, kept-ended, kept-start}
-use Rattle.proof_tables.specs.Segs.{has-chunk}
 use Rattle.recover_groups.specs.Groups.{groupLen, Indexed}
 use Rattle.recover_groups.proofs.chunks.Statement.{statement}
 use Rattle.recover_groups.proofs.chunks.Tie as tie

@@ -13,7 +13,7 @@ use Rattle.spec.specs.Layout.{mkRec}
 use Rattle.spec.specs.Segments.{recsOn}
 use Rattle.law_basic.specs.Geometry.{ranged, zone-on-lt}
 use Rattle.law_basic.specs.Ranges.{not-both}
-use Rattle.proof_tables.specs.Tests.{cond-true, cond-false}
+use Rattle.law_drives.specs.Tests.{cond-true, cond-false}
 use Rattle.recover_groups.specs.Bases.{group-len-le, group-len-fits}
 use Rattle.recover_groups.specs.Chunks.{group-record}
 use Rattle.recover_groups.specs.Entering.{Entering, entering-start, entering-end, entering-bad-data, entering-bad, entering-next}

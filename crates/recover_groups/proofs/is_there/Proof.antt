@@ -5,7 +5,6 @@ use Prim.Native.Nat.{_+_, _*_}
 use lib.Dec.{eqb}
 use lib.ListN.{getD}
 use Rattle.spec.specs.History.{before}
-use Rattle.proof_tables.specs.Segs.{has-chunk}
 use borrow.Author.Needs.{needs}
 use Rattle.recover_groups.proofs.is_there.Statement.{statement}
 use Rattle.recover_groups.proofs.is_there.Tie as tie

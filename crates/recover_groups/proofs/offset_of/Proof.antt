@@ -4,7 +4,7 @@ use Prim.Native.Nat.{_+_}
 use Rattle.spec.specs.History.{before}
 use Rattle.spec.specs.Lists.{isIn}
 use Rattle.spec.specs.Segments.{offsetOn, offsetOf}
-use Rattle.proof_tables.specs.Tests.{cond-true, cond-false}
+use Rattle.law_drives.specs.Tests.{cond-true, cond-false}
 use borrow.Author.Needs.{needs}
 use Rattle.recover_groups.proofs.offset_of.Statement.{statement}
 use Rattle.recover_groups.proofs.offset_of.Tie as tie

@@ -7,7 +7,7 @@ use Rattle.spec.specs.Lists.{isIn}
 use Rattle.spec.specs.Params.{present}
 use Rattle.spec.specs.Parity.{parityRec}
 use Rattle.spec.specs.Segments.{storedRec, recOf}
-use Rattle.proof_tables.specs.Tests.{cond-true, cond-false}
+use Rattle.law_drives.specs.Tests.{cond-true, cond-false}
 use Rattle.recover_groups.specs.Groups.{segmentIn}
 use borrow.Author.Needs.{needs}
 use Rattle.recover_groups.proofs.rec_of.Statement.{statement}

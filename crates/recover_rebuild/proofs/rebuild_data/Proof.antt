@@ -13,7 +13,6 @@ use Rattle.spec.specs.Params.{footers, capacity, named}
 use Rattle.spec.specs.Segments.{segmentOf}
 use Rattle.law_basic.specs.Geometry.{ranged, zone-on-lt}
 use Rattle.law_views.specs.Views.{AllFit}
-use Rattle.proof_tables.specs.Reclaiming.{taken}
 use Rattle.disk_zones.specs.Made.{Storing}
 use Rattle.recover_groups.specs.Groups.{recsFault}
 use Rattle.recover_reset.specs.Lost.{lostStores}

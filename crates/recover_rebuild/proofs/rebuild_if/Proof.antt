@@ -11,8 +11,7 @@ use Rattle.spec.specs.Params.{named}
 use Rattle.spec.specs.Rebuild.{rebuiltZone}
 use Rattle.spec.specs.Segments.{segmentOf}
 use Rattle.law_views.specs.Views.{AllFit}
-use Rattle.proof_tables.specs.Reclaiming.{taken}
-use Rattle.proof_tables.specs.Tests.{cond-true, cond-false}
+use Rattle.law_drives.specs.Tests.{cond-true, cond-false}
 use Rattle.disk_zones.specs.Made.{Storing, storing-none}
 use Rattle.recover_rebuild.proofs.rebuild_if.Statement.{statement}
 use Rattle.recover_rebuild.proofs.rebuild_if.Tie as tie

@@ -4,7 +4,6 @@ use Rattle.spec.specs.Drives.{mkDisk}
 use Rattle.spec.specs.Engine.Call.{close}
 use Rattle.spec.specs.History.{before}
 use Rattle.law_basic.specs.Geometry.{ranged}
-use Rattle.proof_tables.specs.Reclaiming.{taken}
 use Rattle.recover_rebuild.specs.Drive.{driveResets, resets-cut, resets-whole, resets-fit, resets-good, resets-empty, resets-made}
 use Rattle.recover_rebuild.proofs.rebuild_stores.Statement.{statement}
 use Rattle.recover_rebuild.proofs.rebuild_stores.Tie as tie

@@ -11,7 +11,6 @@ use Rattle.spec.specs.Layout.{headerBlock, headerSerial, headerCopied}
 use Rattle.spec.specs.Params.{capacity, named}
 use Rattle.spec.specs.Segments.{lowDrive, headerAt, segmentOf}
 use Rattle.law_basic.specs.Geometry.{ranged, zone-on-lt}
-use Rattle.proof_tables.specs.Reclaiming.{taken}
 use Rattle.disk_zones.specs.Made.{Storing}
 use Rattle.recover_reset.specs.Rebuilt.{headStore}
 use Rattle.recover_rebuild.specs.Zone.{head-room, head-is, head-cut, head-whole, head-fits, head-good, head-sealed, head-one, rest-made}

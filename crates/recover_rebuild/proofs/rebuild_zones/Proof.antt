@@ -8,7 +8,6 @@ use Rattle.spec.specs.Drives.{mkDisk}
 use Rattle.spec.specs.Engine.Call.{close}
 use Rattle.spec.specs.History.{before}
 use Rattle.law_basic.specs.Geometry.{ranged}
-use Rattle.proof_tables.specs.Reclaiming.{taken}
 use Rattle.recover_rebuild.specs.Drive.{Zones, zones-start, zones-done, zones-fit, zones-good, zones-cut, zones-turn}
 use Rattle.recover_rebuild.proofs.rebuild_zones.Statement.{statement}
 use Rattle.recover_rebuild.proofs.rebuild_zones.Tie as tie

@@ -8,7 +8,6 @@ use Rattle.spec.specs.Drives.Store.{reset}
 use Rattle.spec.specs.Drives.{mkDisk}
 use Rattle.spec.specs.Engine.Call.{close}
 use Rattle.spec.specs.History.{before}
-use Rattle.proof_tables.specs.Reclaiming.{taken}
 use Rattle.disk_zones.specs.Made.{Rest, rest-start, rest-turn, rest-cut, rest-done, reset-disk}
 use Rattle.recover_reset.proofs.reset_drive.Statement.{statement}
 use Rattle.recover_reset.proofs.reset_drive.Tie as tie

@@ -4,7 +4,7 @@ use Prim.Native.Nat.{max}
 use borrow.Author.Tests.{not-true, not-false}
 use native.Mathlib.Omega.{arith}
 use Rattle.spec.specs.History.{before}
-use Rattle.proof_tables.specs.Tests.{cond-true, cond-false}
+use Rattle.law_drives.specs.Tests.{cond-true, cond-false}
 use Rattle.recover_segments.proofs.greater_if.Statement.{statement}
 use Rattle.recover_segments.proofs.greater_if.Tie as tie
 

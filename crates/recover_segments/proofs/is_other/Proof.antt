@@ -4,7 +4,7 @@ use mathlib.Core.Bool.{Bool, not, _&&_}
 use borrow.Author.Tests.{not-true, not-false, eq-eqb, ne-eqb}
 use lib.Dec.{eqb}
 use Rattle.spec.specs.History.{before}
-use Rattle.proof_tables.specs.Tests.{and-false-right}
+use Rattle.law_drives.specs.Tests.{and-false-right}
 use Rattle.recover_segments.proofs.is_other.Statement.{statement}
 use Rattle.recover_segments.proofs.is_other.Tie as tie
 

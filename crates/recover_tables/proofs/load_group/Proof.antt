@@ -9,7 +9,7 @@ use Rattle.spec.specs.Lists.{upFrom}
 use Rattle.recover_groups.specs.Groups.{groupLen, recsFault, segmentIn, Reads}
 use Rattle.law_basic.specs.Ranges.{length-upFrom}
 use Rattle.recover_addresses.specs.Lies.{seg-clean}
-use Rattle.proof_tables.specs.Segs.{remaining-low}
+use Rattle.law_drives.specs.Segs.{remaining-low}
 use Rattle.recover_tables.specs.Walk.{Walked, walkCands, walked-turn, walked-low, walked-start, tells-known}
 use Rattle.recover_tables.proofs.load_group.Statement.{statement}
 use Rattle.recover_tables.proofs.load_group.Tie as tie

@@ -13,7 +13,7 @@ use Rattle.recover_groups.specs.Groups.{groupLen}
 use Rattle.law_basic.specs.Geometry.{Ranged, ranged}
 use Rattle.law_basic.specs.Ranges.{length-upFrom, upFrom-end, below-start}
 use Rattle.recover_addresses.specs.Told.{Known}
-use Rattle.proof_tables.specs.Segs.{remaining-low}
+use Rattle.law_drives.specs.Segs.{remaining-low}
 use Rattle.recover_tables.specs.Ready.{bases-turn}
 use Rattle.recover_tables.specs.Walk.{Walked, walkCands, walked-none, walked-join, walked-low, tells-known}
 use Rattle.recover_tables.proofs.load_groups.Statement.{statement}

@@ -7,7 +7,7 @@ use lib.ListN.{length}
 use Rattle.spec.specs.Drives.{View, viewOf}
 use Rattle.spec.specs.Segments.{segmentOf, counted}
 use Rattle.law_basic.specs.Ranges.{and-both}
-use Rattle.proof_tables.specs.Tests.{and-false-left, and-false-right, cond-true, cond-false}
+use Rattle.law_drives.specs.Tests.{and-false-left, and-false-right, cond-true, cond-false}
 use Rattle.recover_tables.specs.Ready.{kept-in}
 use Rattle.recover_tables.specs.Walk.{toured-hit, toured-miss, walked-all}
 use Rattle.recover_tables.proofs.load_segment.Statement.{statement}

@@ -8,7 +8,7 @@ use borrow.Author.Tests.{eq-eqb, ne-eqb, lt-ltb, le-ltb}
 use lib.Dec.{ltb, eqb}
 use Rattle.spec.specs.Memory.{idleState}
 use Rattle.law_basic.specs.Ranges.{and-both}
-use Rattle.proof_tables.specs.Tests.{and-false-left, and-false-right, cond-true, cond-false}
+use Rattle.law_drives.specs.Tests.{and-false-left, and-false-right, cond-true, cond-false}
 use Rattle.recover_tables.proofs.state_of.Statement.{statement}
 use Rattle.recover_tables.proofs.state_of.Tie as tie
 

@@ -1,4 +1,4 @@
--- Lists of different numbers below a bound, and lists that hold all of them; the greatest of a list. Assumes nothing.
+-- Lists of different numbers below a bound, and lists that hold all of them; the greatest of a list.
 use mathlib.Core.Path.{_≡_, refl, sym, ap, _∙_, subst}
 use mathlib.Core.List.{List, [], _∷_, map}
 use mathlib.Core.Bool.{Bool, true, false, not}
@@ -14,8 +14,8 @@ use Rattle.spec.specs.Layout.{Rec}
 use Rattle.spec.specs.Lists.{any, consIf, keep, greatest}
 use Rattle.law_basic.specs.Ranges.{Test, test, length-keep}
 use Rattle.law_basic.specs.Ranges.Test.{yes!, no! }
-use Rattle.proof_tables.specs.Members.{In, map-in, in-keep, keep-in, none-in, keep-all}
-use Rattle.proof_tables.specs.Tests.{or-left, or-right}
+use Rattle.law_drives.specs.Members.{In, map-in, in-keep, keep-in, none-in, keep-all}
+use Rattle.law_drives.specs.Tests.{or-left, or-right}
 
 abbrev pub Different : List ℕ → Type 0
 Different [] = Unit {0}

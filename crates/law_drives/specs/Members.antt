@@ -1,4 +1,4 @@
--- Members of lists, and the tests and lists made of them. Assumes nothing.
+-- Members of lists, and the tests and lists made of them.
 use mathlib.Core.Path.{_≡_, refl, sym, ap, ap₂, _∙_, subst}
 use mathlib.Core.List.{List, [], _∷_, _++_, map}
 use mathlib.Core.Bool.{Bool, true, false, _&&_, _||_}
@@ -12,7 +12,7 @@ use lib.ListN.{length, getD}
 use Rattle.spec.specs.Lists.{upFrom, below, all, any, isMember, consIf, keep, isNil, sucUnless, indexOf, flat, firstOr}
 use Rattle.law_basic.specs.Ranges.{Test, test, and-left, and-right, and-both, keep-append}
 use Rattle.law_basic.specs.Ranges.Test.{yes!, no! }
-use Rattle.proof_tables.specs.Tests.{clash, true-false, false-true, or-left, or-right, or-neither, or-true-left, or-true-right, not-so, eqb-self}
+use Rattle.law_drives.specs.Tests.{clash, true-false, false-true, or-left, or-right, or-neither, or-true-left, or-true-right, not-so, eqb-self}
 
 abbrev pub In : {A : Type 0} → A → List A → Type 0
 In a [] = ⊥
@@ -307,3 +307,6 @@ is-member n l q = let (k, m, e) = any-in (λ k. eqb n k) l q in subst (λ x. In 
 pub member-is : (n : ℕ) (l : List ℕ) → In n l → isMember n l ≡ true
 unfolding isMember
 member-is n l m = in-any (λ k. eqb n k) l n m (eqb-self n)
+
+pub nil-append : {A : Type 0} (xs ys : List A) → xs ≡ [] → ys ≡ [] → xs ++ ys ≡ []
+nil-append xs ys p q = ap₂ _++_ p q

@@ -1,4 +1,4 @@
--- What a restart's or rebuild's check of the drives gives. Assumes nothing.
+-- What a restart's or rebuild's check of the drives gives.
 use mathlib.Core.Path.{_≡_, refl, sym, ap, ap₂, _∙_, subst}
 use mathlib.Core.List.{List, [], _∷_, _++_, map}
 use mathlib.Core.Bool.{true, false, not, _&&_, _||_}
@@ -17,11 +17,11 @@ use Rattle.spec.specs.Lists.{below, any, keep, isNil, isIn}
 use Rattle.spec.specs.Params.{capacity, present}
 use Rattle.spec.specs.Segments.{remaining, Segment, recordsIn, segmentOf, segments, recsOn}
 use Rattle.law_basic.specs.Ranges.{and-both}
-use Rattle.proof_tables.specs.Checks.{Passes}
-use Rattle.proof_tables.specs.Members.{In, in-map, none-in, keep-nil-in, in-below}
-use Rattle.proof_tables.specs.Reads.{InGroups}
-use Rattle.proof_tables.specs.Segs.{in-present, length-records, record-at, recs-here, seg-is}
-use Rattle.proof_tables.specs.Tests.{clash, or-left, or-right, cond-true}
+use Rattle.law_drives.specs.Checks.{Passes}
+use Rattle.law_drives.specs.Members.{In, in-map, none-in, keep-nil-in, in-below}
+use Rattle.law_drives.specs.Segs.{in-present, length-records, record-at, recs-here, seg-is}
+use Rattle.law_drives.specs.Spots.{InGroups}
+use Rattle.law_drives.specs.Tests.{clash, or-left, or-right, cond-true}
 
 -- nothing is wrong on the drives
 pub record Accepted (p : Params) (v : View) (gone : ℕ) : Type 0 where

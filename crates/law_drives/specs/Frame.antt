@@ -1,4 +1,4 @@
--- Views that agree but on the missing drives say the same. Assumes nothing.
+-- Views that agree but on the missing drives say the same.
 use mathlib.Core.Path.{_≡_, refl, sym, ap, ap₂, _∙_}
 use mathlib.Core.List.{List, [], _∷_, map}
 use mathlib.Core.Bool.{Bool, false, cond, not, _&&_, _||_}
@@ -15,9 +15,9 @@ use Rattle.spec.specs.Segments.{lowDrive, headerAt, leftBy1, isCopy, remaining,
 use Rattle.spec.specs.Segments.{counted, storedRec, recOf, offsetOf, candOf, segmentCands, candidates, compactRow, rowOf, compactTable, unsealed}
 use Rattle.law_basic.specs.Ranges.{Test, test, map-map, getD-map-below}
 use Rattle.law_basic.specs.Ranges.Test.{yes!, no! }
-use Rattle.proof_tables.specs.Accept.{Accepted, segment-ok}
-use Rattle.proof_tables.specs.Members.{In, keep-in, all-cong, any-cong, keep-cong, map-cong, flat-cong, keep-nothing, keep-map, flat-map, below-in}
-use Rattle.proof_tables.specs.Segs.{present-in, remaining-low, zone-by, seg-is, serial-is, copied-is, full-is}
+use Rattle.law_drives.specs.Accept.{Accepted, segment-ok}
+use Rattle.law_drives.specs.Members.{In, keep-in, all-cong, any-cong, keep-cong, map-cong, flat-cong, keep-nothing, keep-map, flat-map, below-in}
+use Rattle.law_drives.specs.Segs.{present-in, remaining-low, zone-by, seg-is, serial-is, copied-is, full-is}
 
 abbrev pub Agree : Params → ℕ → View → View → Type 0
 Agree p gone v u = (d z : ℕ) → d < p .N → z < p .Z → isIn gone d ≡ false → zoneAt v d z ≡ zoneAt u d z

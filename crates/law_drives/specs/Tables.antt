@@ -1,4 +1,4 @@
--- The tables that the drives say, entry by entry. Assumes nothing.
+-- The tables that the drives say, entry by entry.
 use mathlib.Core.Path.{_≡_, refl, sym, ap, ap₂, _∙_, subst}
 use mathlib.Core.List.{List, [], _∷_, _++_, map, append-nil}
 use mathlib.Core.Bool.{Bool, true, false, cond, not, _&&_}
@@ -26,9 +26,9 @@ use Rattle.law_basic.specs.Be.{length-toBe, beOf-toBe}
 use Rattle.law_basic.specs.Ranges.{Test, test, length-below, getD-map}
 use Rattle.law_basic.specs.Ranges.Test.{yes!, no! }
 use Rattle.law_basic.specs.Splice.{length-part, getD-part}
-use Rattle.proof_tables.specs.Members.{In, in-keep, keep-in, flat-cong, flat-nothing, keep-keep, flat-map, from-in, in-below, below-in}
-use Rattle.proof_tables.specs.Segs.{length-records, recs-here, recs-gone, seg-is}
-use Rattle.proof_tables.specs.Tests.{cond-true, cond-false}
+use Rattle.law_drives.specs.Members.{In, in-keep, keep-in, flat-cong, flat-nothing, keep-keep, flat-map, from-in, in-below, below-in}
+use Rattle.law_drives.specs.Segs.{length-records, recs-here, recs-gone, seg-is}
+use Rattle.law_drives.specs.Tests.{cond-true, cond-false}
 
 -- ---- rows of equal length
 

@@ -1,4 +1,4 @@
--- Parameters in range: what follows for sizes and places. Assumes nothing.
+-- Parameters in range: what follows for sizes and places.
 use mathlib.Core.Path.{_≡_, refl}
 use Prim.Native.Nat.{ℕ, _+_, _*_, _^_, _≤_, _<_}
 use native.Mathlib.Nat.{mul-le-mul}

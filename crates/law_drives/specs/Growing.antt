@@ -1,4 +1,4 @@
--- One segment that is used and stays so changes: the others, and the order of what remains, stay. Assumes nothing.
+-- One segment that is used and stays so changes: the others, and the order of what remains, stay.
 use mathlib.Core.Path.{_≡_, refl, sym, ap, _∙_, subst}
 use mathlib.Core.List.{List, [], map}
 use mathlib.Core.Bool.{false, cond, not}
@@ -17,11 +17,11 @@ use Rattle.spec.specs.Segments.{lowDrive, headerAt, remaining, Segment, records
 use Rattle.spec.specs.Segments.{recOf, offsetOf, candOf, segmentCands, candidates, compactRow, rowOf, compactTable}
 use Rattle.law_basic.specs.Geometry.{Ranged}
 use Rattle.law_basic.specs.Ranges.{map-map, getD-map-below}
-use Rattle.proof_tables.specs.Members.{keep-cong, map-cong, flat-cong, flat-map, below-in}
-use Rattle.proof_tables.specs.Run.{usedAt, Tidy}
-use Rattle.proof_tables.specs.Segs.{remaining-low, seg-is, serial-is, copied-is}
-use Rattle.proof_tables.specs.Settled.{low-first, remains-used, SameZones, zones-header, zones-pointer, zones-used, zones-segment}
-use Rattle.proof_tables.specs.Tables.{remains, remaining-is}
+use Rattle.law_drives.specs.Members.{keep-cong, map-cong, flat-cong, flat-map, below-in}
+use Rattle.law_drives.specs.Segs.{remaining-low, seg-is, serial-is, copied-is}
+use Rattle.law_drives.specs.Settled.{low-first, remains-used, SameZones, zones-header, zones-pointer, zones-used, zones-segment}
+use Rattle.law_drives.specs.Tables.{remains, remaining-is}
+use Rattle.law_drives.specs.Tidy.{usedAt, Tidy}
 
 -- a segment without its zones, sealed or not: what the tables see of it
 unfoldable pub slim : Segment → Segment

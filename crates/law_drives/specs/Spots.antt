@@ -1,4 +1,4 @@
--- What the two read calls find, where the tables are what the drives say. Assumes nothing.
+-- Where a candidate lies on the drives, and the offset that the compact table shows first.
 use mathlib.Core.Path.{_≡_, refl, sym, ap, ap₂, _∙_, subst}
 use mathlib.Core.List.{List, []}
 use mathlib.Core.Bool.{Bool, true, false, cond, not, _&&_}
@@ -24,11 +24,11 @@ use Rattle.spec.specs.Segments.{remaining, Segment, recordsIn, segmentOf, segme
 use Rattle.law_basic.specs.Geometry.{between-of, Ranged, place-block, place-zone, place-drive, data-drive-lt}
 use Rattle.law_basic.specs.Ranges.{Test, test, and-left, and-right, and-both}
 use Rattle.law_basic.specs.Ranges.Test.{yes!, no! }
-use Rattle.proof_tables.specs.Members.{In, all-in, keep-keep}
-use Rattle.proof_tables.specs.Range.{capacity-over, place-low}
-use Rattle.proof_tables.specs.Segs.{in-present, remaining-low, length-records, record-at, data-low, low-data, recs-here, seg-is, chunk-at, CandAt}
-use Rattle.proof_tables.specs.Tables.{row-at, remains, remaining-in, rowAt, compact-at}
-use Rattle.proof_tables.specs.Tests.{true-false, not-so, cond-true}
+use Rattle.law_drives.specs.Members.{In, all-in, keep-keep}
+use Rattle.law_drives.specs.Range.{capacity-over, place-low}
+use Rattle.law_drives.specs.Segs.{in-present, remaining-low, length-records, record-at, data-low, low-data, recs-here, seg-is, chunk-at, CandAt}
+use Rattle.law_drives.specs.Tables.{row-at, remains, remaining-in, rowAt, compact-at}
+use Rattle.law_drives.specs.Tests.{true-false, not-so, cond-true}
 
 -- ---- the spot of a candidate
 
@@ -193,3 +193,23 @@ module _ (p : Params) (r : Ranged p) (v : View) (gone : ℕ) (groups : InGroups 
 
           mod-same : (t : ℕ) → compactEntry p t ≡ compactEntry p s → t % p .G ≡ s % p .G
           mod-same t q = unfold compactEntry in q
+
+module _ (p : Params) (r : Ranged p) (v : View) (gone : ℕ) where
+  module _ (c : Cand) (k : CandAt p v gone c) (t : Spot p v gone c) where
+    cand-drive : c .drive ≡ dataDrive p (k .stripe) (k .position)
+    unfolding candOf
+    cand-drive = ap (λ (x : Cand). x .drive) (k .it-is)
+
+    pub cand-offset : c .offset ≡ offsetOf gone (segmentOf p v gone (k .of)) (k .stripe) (c .drive)
+    unfolding candOf
+    cand-offset = ap (λ (x : Cand). x .offset) (k .it-is) ∙ ap (offsetOf gone (segmentOf p v gone (k .of)) (k .stripe)) (sym cand-drive)
+
+    cand-place : c .place ≡ placeOf p (c .drive) (k .of) (1 + c .offset)
+    unfolding candOf zoneOn
+    cand-place = ap (λ (x : Cand). x .place) (k .it-is)
+        ∙ ap₂ (λ (x y : ℕ). placeOf p x (segmentOf p v gone (k .of) .seg) (1 + y)) (sym cand-drive) (sym (ap (λ (x : Cand). x .offset) (k .it-is)))
+        ∙ ap (λ (x : ℕ). placeOf p (c .drive) x (1 + c .offset)) (seg-is p v gone (k .of))
+
+    pub cand-zone : placeZone p (c .place) ≡ k .of
+    cand-zone = ap (placeZone p) cand-place
+        ∙ place-zone p (c .drive) (k .of) (1 + c .offset) (remaining-low p v gone (k .of) (k .remains)) (omega (arith, capacity-over p r, t .offset-low))

@@ -1,4 +1,4 @@
--- The view of lent bytes has its shape. Assumes nothing.
+-- The view of lent bytes has its shape.
 use mathlib.Core.Path.{_≡_, refl, sym, ap, _∙_, subst}
 use mathlib.Core.List.{List, [], _∷_}
 use mathlib.Core.Bool.{true}
@@ -18,7 +18,7 @@ use Rattle.law_basic.specs.Geometry.{block-within}
 use Rattle.law_basic.specs.Ranges.{and-left, and-right, length-pieces, getD-zipped, length-zipped}
 use Rattle.law_basic.specs.Splice.{length-part}
 use Rattle.law_views.specs.Views.{Whole, blocks-long, block-view, spare-view, seen}
-use Rattle.proof_tables.specs.Zones.{Sized, Bytes, Sound, Shaped}
+use Rattle.law_drives.specs.Zones.{Sized, Bytes, Sound, Shaped}
 
 pub bytes-take : (n : ℕ) (l : List ℕ) → Bytes l → Bytes (take n l)
 bytes-take zero l h i = omega arith

@@ -1,4 +1,4 @@
--- Segments as read: records by drive, the offset of a stripe, members of what remains, candidates. Assumes nothing.
+-- Segments as read: records by drive, the offset of a stripe, members of what remains, candidates.
 use mathlib.Core.Path.{_≡_, refl, sym, ap, ap₂, _∙_, subst}
 use mathlib.Core.List.{List, [], map}
 use mathlib.Core.Bool.{Bool, true, false, cond, not}
@@ -16,8 +16,8 @@ use Rattle.spec.specs.Rank.{Cand}
 use Rattle.spec.specs.Segments.{lowDrive, headerAt, leftBy1, isCopy, remaining, Segment, recordsIn, segmentOf, segments, recsOn, offsetOn, hasChunk, counts}
 use Rattle.spec.specs.Segments.{counted, storedRec, candOf, segmentCands, candidates}
 use Rattle.law_basic.specs.Ranges.{length-below, getD-map-below}
-use Rattle.proof_tables.specs.Members.{In, in-map, map-in, in-flat, flat-in, in-keep, keep-in, in-any, in-below, below-in, in-getD, index-below, index-passes, index-first, index-is}
-use Rattle.proof_tables.specs.Tests.{not-so, cond-true, cond-false}
+use Rattle.law_drives.specs.Members.{In, in-map, map-in, in-flat, flat-in, in-keep, keep-in, in-any, in-below, below-in, in-getD, index-below, index-passes, index-first, index-is}
+use Rattle.law_drives.specs.Tests.{not-so, cond-true, cond-false}
 
 -- ---- drives that are present
 

@@ -1,4 +1,4 @@
--- Headers, records and footers as bytes: lengths, that they are bytes, and that they are read back. Assumes nothing.
+-- Headers, records and footers as bytes: lengths, that they are bytes, and that they are read back.
 use mathlib.Core.Path.{_≡_, refl, sym, ap, _∙_, subst}
 use mathlib.Core.List.{List, [], _∷_, _++_, append-nil, append-assoc}
 use mathlib.Core.Logic.{inl, inr}
@@ -19,10 +19,10 @@ use Rattle.law_basic.specs.Fields.{widths, length-bytesOf, readField-bytesOf}
 use Rattle.law_basic.specs.Geometry.{Ranged, spare-len, per-footer-low, per-footer-fits}
 use Rattle.law_basic.specs.Ranges.{length-padTo}
 use Rattle.law_basic.specs.Splice.{part-append-right}
-use Rattle.proof_tables.specs.Image.{bytes-part}
-use Rattle.proof_tables.specs.Members.{In}
-use Rattle.proof_tables.specs.Tables.{length-flat-in, zero-at}
-use Rattle.proof_tables.specs.Zones.{Bytes}
+use Rattle.law_drives.specs.Image.{bytes-part}
+use Rattle.law_drives.specs.Members.{In}
+use Rattle.law_drives.specs.Tables.{length-flat-in, zero-at}
+use Rattle.law_drives.specs.Zones.{Bytes}
 
 -- ---- bytes
 

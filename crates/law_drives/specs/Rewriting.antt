@@ -1,4 +1,4 @@
--- A healthy restart rewrites the counted stripes of a ragged segment into an empty zone and resets the old one. Assumes nothing.
+-- A healthy restart rewrites the counted stripes of a ragged segment into an empty zone and resets the old one.
 use mathlib.Core.Path.{_≡_, refl, sym, ap, ap₂, _∙_, subst}
 use mathlib.Core.List.{List, [], _∷_, _++_, map, append-nil}
 use mathlib.Core.Bool.{Bool, true, false, cond, not, _&&_}
@@ -26,26 +26,26 @@ use Rattle.law_basic.specs.Mask.{isIn-empty}
 use Rattle.law_basic.specs.Ranges.{Test, test, length-upFrom, length-below, getD-map, getD-map-below}
 use Rattle.law_basic.specs.Ranges.Test.{yes!, no! }
 use Rattle.law_views.specs.Views.{blocks-long}
-use Rattle.proof_tables.specs.Accept.{Accepted}
-use Rattle.proof_tables.specs.Dropping.{drop-same, drop-empty, drop-used, kept-less, kept-once, kept-known, kept-no-copy, drop-tidy}
-use Rattle.proof_tables.specs.Heading.{header-within}
-use Rattle.proof_tables.specs.Laid.{header-serial, header-copied, record-stripe}
-use Rattle.proof_tables.specs.Members.{In, in-append, map-in, in-all, keep-cong, keep-nothing, from-in, below-in}
-use Rattle.proof_tables.specs.Mending.{Mended, shaped-a}
-use Rattle.proof_tables.specs.Puts.{hits-append, putAt, hits-drives, hits-resets, hits-headers, putAll, puts-pointer, puts-new, room-puts, header-sound, data-sound}
-use Rattle.proof_tables.specs.Range.{capacity-over}
-use Rattle.proof_tables.specs.Reads.{counts-in}
-use Rattle.proof_tables.specs.Rebuilding.{parity-length, counted-low, counted-in, pieceChunk, stored-long}
-use Rattle.proof_tables.specs.Reclaiming.{sealed-full}
-use Rattle.proof_tables.specs.Resetting.{reset-within}
-use Rattle.proof_tables.specs.Resting.{Steady, SealedAll}
-use Rattle.proof_tables.specs.Resting.Rest.{rest-open}
-use Rattle.proof_tables.specs.Run.{spareAt, usedAt, Tidy}
-use Rattle.proof_tables.specs.Segs.{present-in, data-low, low-data, seg-is, serial-is, has-chunk, no-chunk}
-use Rattle.proof_tables.specs.Settled.{low-first, SameZones, zones-header, zones-pointer, zones-used}
-use Rattle.proof_tables.specs.Tables.{remains}
-use Rattle.proof_tables.specs.Tests.{clash, not-so, cond-true, cond-false, cond-same, eqb-self}
-use Rattle.proof_tables.specs.Zones.{Sound, Shaped, hitsAt, zoneStore, hits, zone-after, Room, Within, reset-pointer, Roomy}
+use Rattle.law_drives.specs.Accept.{Accepted}
+use Rattle.law_drives.specs.Dropping.{drop-same, drop-empty, drop-used, kept-less, kept-once, kept-known, kept-no-copy, drop-tidy}
+use Rattle.law_drives.specs.Fewest.{sealed-full}
+use Rattle.law_drives.specs.Headers.{header-within}
+use Rattle.law_drives.specs.Laid.{header-serial, header-copied, record-stripe}
+use Rattle.law_drives.specs.Members.{In, in-append, map-in, in-all, keep-cong, keep-nothing, from-in, below-in}
+use Rattle.law_drives.specs.Mending.{Mended, shaped-a}
+use Rattle.law_drives.specs.Puts.{hits-append, putAt, hits-drives, hits-resets, hits-headers, putAll, puts-pointer, puts-new, room-puts, header-sound, data-sound}
+use Rattle.law_drives.specs.Range.{capacity-over}
+use Rattle.law_drives.specs.Rebuilding.{parity-length, counted-low, counted-in, pieceChunk, stored-long}
+use Rattle.law_drives.specs.Resets.{reset-within}
+use Rattle.law_drives.specs.Segs.{present-in, data-low, low-data, seg-is, serial-is, has-chunk, no-chunk}
+use Rattle.law_drives.specs.Settled.{low-first, SameZones, zones-header, zones-pointer, zones-used}
+use Rattle.law_drives.specs.Spots.{counts-in}
+use Rattle.law_drives.specs.Steady.{Steady, SealedAll}
+use Rattle.law_drives.specs.Steady.Rest.{rest-open}
+use Rattle.law_drives.specs.Tables.{remains}
+use Rattle.law_drives.specs.Tests.{clash, not-so, cond-true, cond-false, cond-same, eqb-self}
+use Rattle.law_drives.specs.Tidy.{spareAt, usedAt, Tidy}
+use Rattle.law_drives.specs.Zones.{Sound, Shaped, hitsAt, zoneStore, hits, zone-after, Room, Within, reset-pointer, Roomy}
 
 keep-firsts : (c i n : ℕ) → i ≤ c → c ≤ i + n → keep (λ s. ltb s c) (upFrom i n) ≡ upFrom i (c - i)
 unfolding keep consIf upFrom

@@ -1,4 +1,4 @@
--- A rebuild's stores: they are on the named drive alone, and fit. Assumes nothing.
+-- A rebuild's stores: they are on the named drive alone, and fit.
 use mathlib.Core.Path.{_≡_, refl, sym, ap, ap₂, _∙_, subst}
 use mathlib.Core.List.{List, [], _∷_, _++_, map}
 use mathlib.Core.Bool.{Bool, true, false, cond, _&&_}
@@ -23,17 +23,16 @@ use Rattle.spec.specs.Segments.{remaining, Segment, segmentOf, segments, offset
 use Rattle.law_basic.specs.Geometry.{Ranged}
 use Rattle.law_basic.specs.Ranges.{length-below, map-append, map-map, getD-map, getD-map-below, length-keep}
 use Rattle.law_basic.specs.Xor.{AllLong, length-parity}
-use Rattle.proof_tables.specs.Frame.{Agree}
-use Rattle.proof_tables.specs.Laid.{length-record, bytes-record, Long}
-use Rattle.proof_tables.specs.Members.{In, in-append, map-in, flat-in, keep-in, flat-cong, keep-nothing, flat-nothing, keep-map, flat-map, below-in, in-getD}
-use Rattle.proof_tables.specs.Puts.{hits-append, hits-flat, putAt, hits-puts, keep-one-below, flat-one, room-puts, room-append, header-sound, data-sound, footer-sound}
-use Rattle.proof_tables.specs.Range.{capacity-is, capacity-over}
-use Rattle.proof_tables.specs.Reading.{nil-append}
-use Rattle.proof_tables.specs.Reads.{counts-in}
-use Rattle.proof_tables.specs.Segs.{present-in, remaining-low, data-low, zone-by, seg-is, chunk-at}
-use Rattle.proof_tables.specs.Tables.{remains, remaining-is}
-use Rattle.proof_tables.specs.Tests.{clash, and-false-left, cond-false, eqb-self}
-use Rattle.proof_tables.specs.Zones.{Bytes, Sound, Shaped, hitsAt, zoneStore, hits, zone-after, Room, Within, Roomy}
+use Rattle.law_drives.specs.Frame.{Agree}
+use Rattle.law_drives.specs.Laid.{length-record, bytes-record, Long}
+use Rattle.law_drives.specs.Members.{In, in-append, map-in, flat-in, keep-in, flat-cong, keep-nothing, flat-nothing, keep-map, flat-map, below-in, in-getD, nil-append}
+use Rattle.law_drives.specs.Puts.{hits-append, hits-flat, putAt, hits-puts, keep-one-below, flat-one, room-puts, room-append, header-sound, data-sound, footer-sound}
+use Rattle.law_drives.specs.Range.{capacity-is, capacity-over}
+use Rattle.law_drives.specs.Segs.{present-in, remaining-low, data-low, zone-by, seg-is, chunk-at}
+use Rattle.law_drives.specs.Spots.{counts-in}
+use Rattle.law_drives.specs.Tables.{remains, remaining-is}
+use Rattle.law_drives.specs.Tests.{clash, and-false-left, cond-false, eqb-self}
+use Rattle.law_drives.specs.Zones.{Bytes, Sound, Shaped, hitsAt, zoneStore, hits, zone-after, Room, Within, Roomy}
 
 all-long : (n : ℕ) (bs : List (List ℕ)) → Long n bs → AllLong n bs
 all-long n [] h = tt

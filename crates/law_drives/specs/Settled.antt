@@ -1,4 +1,4 @@
--- With no drive missing and the segments tidy: what remains is what is used, and no two candidates are tied. Assumes nothing.
+-- With no drive missing and the segments tidy: what remains is what is used, and no two candidates are tied.
 use mathlib.Core.Path.{_≡_, refl, sym, ap, ap₂, _∙_, subst}
 use mathlib.Core.List.{[], map}
 use mathlib.Core.Bool.{Bool, true, false, cond, not, _&&_}
@@ -17,13 +17,13 @@ use Rattle.spec.specs.Segments.{lowDrive, headerAt, leftBy1, isCopy, remaining,
 use Rattle.law_basic.specs.Geometry.{Ranged, position-drive, data-drive-lt}
 use Rattle.law_basic.specs.Mask.{isIn-empty}
 use Rattle.law_basic.specs.Ranges.{and-left, and-both}
-use Rattle.proof_tables.specs.Ranks.{Apart}
-use Rattle.proof_tables.specs.Members.{In, keep-in, all-in, in-all, in-none, all-cong, map-cong, keep-all, below-in}
-use Rattle.proof_tables.specs.Reads.{counts-in}
-use Rattle.proof_tables.specs.Run.{usedAt, Tidy}
-use Rattle.proof_tables.specs.Segs.{present-in, in-present, remaining-low, serial-is, ChunkAt, chunk-at, CandAt, cand-at}
-use Rattle.proof_tables.specs.Tables.{remains, in-remaining, remaining-in, rowAt}
-use Rattle.proof_tables.specs.Tests.{and-false-right, same-test, cond-false}
+use Rattle.law_drives.specs.Best.{Apart}
+use Rattle.law_drives.specs.Members.{In, keep-in, all-in, in-all, in-none, all-cong, map-cong, keep-all, below-in}
+use Rattle.law_drives.specs.Segs.{present-in, in-present, remaining-low, serial-is, ChunkAt, chunk-at, CandAt, cand-at}
+use Rattle.law_drives.specs.Spots.{counts-in}
+use Rattle.law_drives.specs.Tables.{remains, in-remaining, remaining-in, rowAt}
+use Rattle.law_drives.specs.Tests.{and-false-right, same-test, cond-false}
+use Rattle.law_drives.specs.Tidy.{usedAt, Tidy}
 
 pub present-all : (p : Params) (d : ℕ) → d < p .N → In d (present p 0)
 present-all p d h = in-present p 0 d h (isIn-empty d)

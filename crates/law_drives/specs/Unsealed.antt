@@ -1,4 +1,4 @@
--- The unsealed segment that a healthy restart finds: at most one; its zones where all its stripes count, or 0 to c - 1 and nothing else. Assumes nothing.
+-- The unsealed segment that a healthy restart finds: at most one; its zones where all its stripes count, or 0 to c - 1 and nothing else.
 use mathlib.Core.Path.{_≡_, refl, sym, ap, _∙_, subst}
 use mathlib.Core.List.{List, [], _∷_, map}
 use mathlib.Core.Bool.{Bool, true, false, not, _&&_, _||_}
@@ -20,18 +20,18 @@ use Rattle.law_basic.specs.Geometry.{Ranged}
 use Rattle.law_basic.specs.Mask.{isIn-empty}
 use Rattle.law_basic.specs.Ranges.{Test, test, and-left, and-both, length-below, length-keep, sameList-true}
 use Rattle.law_basic.specs.Ranges.Test.{yes!, no! }
-use Rattle.proof_tables.specs.Accept.{Accepted, faults-apart, zone-stripes, in-groups}
-use Rattle.proof_tables.specs.Counting.{Different, different-few, holds-many, stripes-different}
-use Rattle.proof_tables.specs.Members.{In, in-map, map-in, in-keep, keep-in, in-any, in-below, below-in, in-getD, getD-in, nil-is}
-use Rattle.proof_tables.specs.Reads.{counts-in}
-use Rattle.proof_tables.specs.Rebuilding.{counted-low, counted-in}
-use Rattle.proof_tables.specs.Resting.{Steady}
-use Rattle.proof_tables.specs.Run.{spareAt, usedAt}
-use Rattle.proof_tables.specs.Segs.{length-records, record-at, seg-is, full-is, chunk-at, has-chunk}
-use Rattle.proof_tables.specs.Settled.{present-all}
-use Rattle.proof_tables.specs.Tables.{remains, in-remaining, remaining-in}
-use Rattle.proof_tables.specs.Tests.{clash, or-left, or-right}
-use Rattle.proof_tables.specs.Zones.{Shaped}
+use Rattle.law_drives.specs.Accept.{Accepted, faults-apart, zone-stripes, in-groups}
+use Rattle.law_drives.specs.Counting.{Different, different-few, holds-many, stripes-different}
+use Rattle.law_drives.specs.Members.{In, in-map, map-in, in-keep, keep-in, in-any, in-below, below-in, in-getD, getD-in, nil-is}
+use Rattle.law_drives.specs.Rebuilding.{counted-low, counted-in}
+use Rattle.law_drives.specs.Segs.{length-records, record-at, seg-is, full-is, chunk-at, has-chunk}
+use Rattle.law_drives.specs.Settled.{present-all}
+use Rattle.law_drives.specs.Spots.{counts-in}
+use Rattle.law_drives.specs.Steady.{Steady}
+use Rattle.law_drives.specs.Tables.{remains, in-remaining, remaining-in}
+use Rattle.law_drives.specs.Tests.{clash, or-left, or-right}
+use Rattle.law_drives.specs.Tidy.{spareAt, usedAt}
+use Rattle.law_drives.specs.Zones.{Shaped}
 
 -- all are kept
 keep-full : {A : Type 0} (f : A → Bool) (l : List A) → length (keep f l) ≡ length l → (a : A) → In a l → f a ≡ true

@@ -1,4 +1,4 @@
--- Tests taken apart. Assumes nothing.
+-- Tests taken apart.
 use mathlib.Core.Path.{_≡_, refl, sym, _∙_}
 use mathlib.Core.Bool.{Bool, true, false, cond, _&&_, _||_, true≢false, false≢true}
 use mathlib.Core.Logic.{_⊎_, inl, inr}

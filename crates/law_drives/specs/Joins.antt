@@ -1,4 +1,4 @@
--- Stores one list after the other. Assumes nothing.
+-- Stores one list after the other.
 use mathlib.Core.Path.{_≡_, refl, sym, subst}
 use mathlib.Core.List.{List, [], _∷_, _++_}
 use mathlib.Core.Logic.{⊎-elim}
@@ -7,9 +7,9 @@ use Rattle.spec.specs.declared.Params.{Params}
 use Rattle.spec.specs.Drives.{Zone, View, zoneAt, pointerAt, Store, putZone, resetZone, storeView, storeAll}
 use Rattle.spec.specs.Drives.Store.{put, reset}
 use Rattle.spec.specs.Lists.{keep}
-use Rattle.proof_tables.specs.Members.{In, in-append}
-use Rattle.proof_tables.specs.Puts.{hits-append}
-use Rattle.proof_tables.specs.Zones.{Sized, zoneStore, hits, zone-after, Room, Within, put-pointer, reset-pointer, Roomy}
+use Rattle.law_drives.specs.Members.{In, in-append}
+use Rattle.law_drives.specs.Puts.{hits-append}
+use Rattle.law_drives.specs.Zones.{Sized, zoneStore, hits, zone-after, Room, Within, put-pointer, reset-pointer, Roomy}
 
 room-join : (p : Params) (xs ys : List Store) (q : Zone) → Room p (q .pointer) xs → Room p (storeAll zoneStore xs q .pointer) ys → Room p (q .pointer) (xs ++ ys)
 unfolding storeAll zoneStore

@@ -1,4 +1,4 @@
--- A healthy restart's unsealed segment: tidy as it is, or whole and then sealed by its missing footers. Assumes nothing.
+-- A healthy restart's unsealed segment: tidy as it is, or whole and then sealed by its missing footers.
 use mathlib.Core.Path.{_≡_, refl, sym, ap, ap₂, _∙_, subst}
 use mathlib.Core.List.{List, [], map}
 use mathlib.Core.Bool.{Bool, true, false, cond}
@@ -12,31 +12,31 @@ use lib.ListN.{length, getD}
 use Rattle.spec.specs.declared.Params.{Params}
 use Rattle.spec.specs.Drives.{Chunk, noChunk, Zone, noZone, View, zoneAt, pointerAt, chunkAt, Store, storeView, storeAll, zoneOn, sealedIn, recordIn, footerStores}
 use Rattle.spec.specs.Faults.{footersStored}
-use Rattle.spec.specs.Lists.Opt.{some}
 use Rattle.spec.specs.Lists.{below, flat}
+use Rattle.spec.specs.Lists.Opt.{some}
 use Rattle.spec.specs.Params.{footers, capacity, drivesOf}
 use Rattle.spec.specs.Restart.{isWhole, isRagged, missingFooters, dropStores}
 use Rattle.spec.specs.Segments.{headerAt, Segment, segmentOf, segments, counted, greatestSerial}
 use Rattle.law_basic.specs.Geometry.{Ranged}
 use Rattle.law_basic.specs.Mask.{isIn-empty}
-use Rattle.proof_tables.specs.Accept.{Accepted, pointer-ok}
-use Rattle.proof_tables.specs.Dropping.{drop-same, drop-roomy, kept-pointer, drop-used, drop-tidy}
-use Rattle.proof_tables.specs.Growing.{Grows, grows-used, grows-tidy}
-use Rattle.proof_tables.specs.Joins.{roomy-none, stores-none}
-use Rattle.proof_tables.specs.Members.{In, flat-cong, below-in}
-use Rattle.proof_tables.specs.Puts.{putAt, putAll, puts-pointer, puts-old}
-use Rattle.proof_tables.specs.Range.{capacity-is, capacity-over}
-use Rattle.proof_tables.specs.Reclaiming.{sealed-full}
-use Rattle.proof_tables.specs.Resting.{Steady, SealedAll, Rest}
-use Rattle.proof_tables.specs.Resting.Rest.{rest-sealed, rest-open}
-use Rattle.proof_tables.specs.Run.{usedAt, Tidy}
-use Rattle.proof_tables.specs.Sealing.{hits-each, within-each, footerChunks, footer-puts, footers-count, footer-rooms}
-use Rattle.proof_tables.specs.Segs.{zone-by, seg-is}
-use Rattle.proof_tables.specs.Settled.{SameZones, zones-pointer, zones-used, zones-segment}
-use Rattle.proof_tables.specs.Tables.{remains}
-use Rattle.proof_tables.specs.Tests.{cond-true, cond-false, eqb-self}
-use Rattle.proof_tables.specs.Unsealed.{whole-pointer, tidy-steady}
-use Rattle.proof_tables.specs.Zones.{Shaped, zoneStore, hits, zone-after, Room, Within, Roomy, shaped-after}
+use Rattle.law_drives.specs.Accept.{Accepted, pointer-ok}
+use Rattle.law_drives.specs.Dropping.{drop-same, drop-roomy, kept-pointer, drop-used, drop-tidy}
+use Rattle.law_drives.specs.Fewest.{sealed-full}
+use Rattle.law_drives.specs.Footers.{hits-each, within-each, footerChunks, footer-puts, footers-count, footer-rooms}
+use Rattle.law_drives.specs.Growing.{Grows, grows-used, grows-tidy}
+use Rattle.law_drives.specs.Joins.{roomy-none, stores-none}
+use Rattle.law_drives.specs.Members.{In, flat-cong, below-in}
+use Rattle.law_drives.specs.Puts.{putAt, putAll, puts-pointer, puts-old}
+use Rattle.law_drives.specs.Range.{capacity-is, capacity-over}
+use Rattle.law_drives.specs.Segs.{zone-by, seg-is}
+use Rattle.law_drives.specs.Settled.{SameZones, zones-pointer, zones-used, zones-segment}
+use Rattle.law_drives.specs.Steady.{Steady, SealedAll, Rest}
+use Rattle.law_drives.specs.Steady.Rest.{rest-sealed, rest-open}
+use Rattle.law_drives.specs.Tables.{remains}
+use Rattle.law_drives.specs.Tests.{cond-true, cond-false, eqb-self}
+use Rattle.law_drives.specs.Tidy.{usedAt, Tidy}
+use Rattle.law_drives.specs.Unsealed.{whole-pointer, tidy-steady}
+use Rattle.law_drives.specs.Zones.{Shaped, zoneStore, hits, zone-after, Room, Within, Roomy, shaped-after}
 
 -- what the stores behind the resets leave
 pub record Mended (p : Params) (v : View) (ts : List Store) : Type 0 where

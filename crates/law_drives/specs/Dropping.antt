@@ -1,4 +1,4 @@
--- A healthy restart resets what doesn't remain: the rest is tidy. Assumes nothing.
+-- A healthy restart resets what doesn't remain: the rest is tidy.
 use mathlib.Core.Path.{_≡_, refl, sym, ap, _∙_, subst}
 use mathlib.Core.List.{List, [], _∷_, map}
 use mathlib.Core.Bool.{Bool, true, false, cond, not, _&&_}
@@ -19,17 +19,17 @@ use Rattle.law_basic.specs.Geometry.{Ranged}
 use Rattle.law_basic.specs.Mask.{isIn-empty}
 use Rattle.law_basic.specs.Ranges.{Test, test, and-left, and-right, and-both}
 use Rattle.law_basic.specs.Ranges.Test.{yes!, no! }
-use Rattle.proof_tables.specs.Accept.{Accepted, pointer-ok, copied-low, serials-differ}
-use Rattle.proof_tables.specs.Counting.{in-greatest}
-use Rattle.proof_tables.specs.Members.{In, in-map, map-in, flat-in, in-keep, keep-in, all-in, in-all, any-in, in-any, keep-cong, flat-cong, in-below, below-in}
-use Rattle.proof_tables.specs.Puts.{hits-flat, hits-resets, flat-one}
-use Rattle.proof_tables.specs.Resetting.{reset-within}
-use Rattle.proof_tables.specs.Run.{usedAt, Tidy}
-use Rattle.proof_tables.specs.Segs.{present-in, seg-is, serial-is, copied-is}
-use Rattle.proof_tables.specs.Settled.{present-all, low-first, SameZones, zones-header, zones-pointer}
-use Rattle.proof_tables.specs.Tables.{remains, in-remaining, remaining-in}
-use Rattle.proof_tables.specs.Tests.{clash, same-test, cond-true, cond-false}
-use Rattle.proof_tables.specs.Zones.{Shaped, zoneStore, hits, zone-after, Room, Within, reset-pointer, Roomy}
+use Rattle.law_drives.specs.Accept.{Accepted, pointer-ok, copied-low, serials-differ}
+use Rattle.law_drives.specs.Counting.{in-greatest}
+use Rattle.law_drives.specs.Members.{In, in-map, map-in, flat-in, in-keep, keep-in, all-in, in-all, any-in, in-any, keep-cong, flat-cong, in-below, below-in}
+use Rattle.law_drives.specs.Puts.{hits-flat, hits-resets, flat-one}
+use Rattle.law_drives.specs.Resets.{reset-within}
+use Rattle.law_drives.specs.Segs.{present-in, seg-is, serial-is, copied-is}
+use Rattle.law_drives.specs.Settled.{present-all, low-first, SameZones, zones-header, zones-pointer}
+use Rattle.law_drives.specs.Tables.{remains, in-remaining, remaining-in}
+use Rattle.law_drives.specs.Tests.{clash, same-test, cond-true, cond-false}
+use Rattle.law_drives.specs.Tidy.{usedAt, Tidy}
+use Rattle.law_drives.specs.Zones.{Shaped, zoneStore, hits, zone-after, Room, Within, reset-pointer, Roomy}
 
 module _ (p : Params) (r : Ranged p) (v : View) (sh : Shaped p v) (acc : Accepted p v 0) where
   abbrev gs : List Segment

@@ -1,4 +1,4 @@
--- What a list of stores does to one zone, and when it fits. Assumes nothing.
+-- What a list of stores does to one zone, and when it fits.
 use mathlib.Core.Path.{_≡_, refl, sym, ap, ap₂, _∙_, subst}
 use mathlib.Core.List.{List, [], _∷_}
 use mathlib.Core.Bool.{Bool, true, false, cond, _&&_}
@@ -17,8 +17,8 @@ use Rattle.spec.specs.Params.{spareLen, capacity}
 use Rattle.law_basic.specs.Ranges.{Test, test, and-left, and-right, and-both}
 use Rattle.law_basic.specs.Ranges.Test.{yes!, no! }
 use Rattle.law_views.specs.Views.{Fits, AllFit}
-use Rattle.proof_tables.specs.Members.{In}
-use Rattle.proof_tables.specs.Tests.{cond-true, cond-false, eqb-self}
+use Rattle.law_drives.specs.Members.{In}
+use Rattle.law_drives.specs.Tests.{cond-true, cond-false, eqb-self}
 
 -- the view has N drives of Z zones
 pub record Sized (p : Params) (v : View) : Type 0 where

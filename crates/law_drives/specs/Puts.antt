@@ -1,4 +1,4 @@
--- Puts in a row on one zone, resets, and which stores of a list fall on a zone. Assumes nothing.
+-- Puts in a row on one zone, resets, and which stores of a list fall on a zone.
 use mathlib.Core.Path.{_≡_, refl, sym, ap, ap₂, _∙_, subst}
 use mathlib.Core.List.{List, [], _∷_, _++_, map}
 use mathlib.Core.Bool.{Bool, true, false, cond, _&&_}
@@ -21,11 +21,11 @@ use Rattle.law_basic.specs.Be.{room}
 use Rattle.law_basic.specs.Geometry.{Ranged}
 use Rattle.law_basic.specs.Ranges.{Test, test, keep-append}
 use Rattle.law_basic.specs.Ranges.Test.{yes!, no! }
-use Rattle.proof_tables.specs.Laid.{length-header, bytes-header, length-zeroSpare, bytes-zeroSpare, length-record, bytes-record, Long, length-footer, bytes-footer}
-use Rattle.proof_tables.specs.Members.{In, map-in, keep-nothing, keep-all, keep-flat, keep-map, from-in}
-use Rattle.proof_tables.specs.Tables.{the-row}
-use Rattle.proof_tables.specs.Tests.{and-false-right}
-use Rattle.proof_tables.specs.Zones.{Bytes, Sound, hitsAt, zoneStore, hits, Room}
+use Rattle.law_drives.specs.Laid.{length-header, bytes-header, length-zeroSpare, bytes-zeroSpare, length-record, bytes-record, Long, length-footer, bytes-footer}
+use Rattle.law_drives.specs.Members.{In, map-in, keep-nothing, keep-all, keep-flat, keep-map, from-in}
+use Rattle.law_drives.specs.Tables.{the-row}
+use Rattle.law_drives.specs.Tests.{and-false-right}
+use Rattle.law_drives.specs.Zones.{Bytes, Sound, hitsAt, zoneStore, hits, Room}
 
 -- ---- which fall on a zone
 

@@ -1,0 +1,74 @@
+-- The best record of an address: it is one of the list, and a list in two parts has the better of two.
+use mathlib.Core.Path.{_≡_, refl, sym}
+use mathlib.Core.List.{List, [], _∷_, _++_}
+use mathlib.Core.Logic.{_⊎_, inl, inr, ⊎-elim}
+use Prim.Native.Nat.{ℕ}
+use borrow.Author.Tests.{eqb-true}
+use native.Mathlib.Omega.{arith}
+use lib.Dec.{eqb}
+use Rattle.spec.specs.Lists.{Opt}
+use Rattle.spec.specs.Lists.Opt.{none, some}
+use Rattle.spec.specs.Rank.{Cand, beats, better, best, candsOf}
+use Rattle.law_basic.specs.Ranges.{Test, test}
+use Rattle.law_basic.specs.Ranges.Test.{yes!, no! }
+use Rattle.law_drives.specs.Members.{In, keep-in}
+
+-- two records that the rule doesn't tell apart
+pub record Tied (a b : Cand) : Type 0 where
+  pub same-stamp : a .stamp ≡ b .stamp
+  pub same-serial : a .serial ≡ b .serial
+  pub same-drive : a .drive ≡ b .drive
+  pub same-offset : a .offset ≡ b .offset
+
+-- records of P that are tied are the same
+abbrev pub ApartIn : (Cand → Type 0) → Type 0
+ApartIn P = (c d : Cand) → P c → P d → Tied c d → c ≡ d
+
+-- ---- by address
+
+-- the records of an address in a list
+abbrev pub At : ℕ → List Cand → Cand → Type 0
+At a cs d = In d cs × (d .address ≡ a)
+
+abbrev pub Apart : List Cand → Type 0
+Apart cs = ApartIn (λ (d : Cand). In d cs)
+
+pub at-of : (a : ℕ) (cs : List Cand) (d : Cand) → In d (candsOf a cs) → At a cs d
+unfolding candsOf
+at-of a cs d m = let (i, q) = keep-in (λ (c : Cand). eqb (c .address) a) cs d m in (i, eqb-true (d .address) a q)
+
+some-is : {b c : Cand} → some b ≡ some c → b ≡ c
+some-is e = cc
+
+better-is : (b : Opt Cand) (d c : Cand) → better b d ≡ some c → (b ≡ some c) ⊎ (c ≡ d)
+unfolding better
+better-is none d c q = inr (sym (some-is q))
+better-is (some h) d c q = go (test (beats d h))
+  where
+    go : Test (beats d h) → (some h ≡ some c) ⊎ (c ≡ d)
+    go (yes! e) = let x : some d ≡ some c = rw e at q in inr (sym (some-is x))
+    go (no! e) = let x : some h ≡ some c = rw e at q in inl x
+
+best-of : (b : Opt Cand) (l : List Cand) (c : Cand) → best b l ≡ some c → (b ≡ some c) ⊎ In c l
+unfolding best
+best-of b [] c q = inl q
+best-of b (d ∷ l) c q = two (best-of (better b d) l c q)
+  where
+    two : (better b d ≡ some c) ⊎ In c l → (b ≡ some c) ⊎ ((c ≡ d) ⊎ In c l)
+    two (inr m) = inr (inr m)
+    two (inl w) = ⊎-elim (λ x. inl x) (λ x. inr (inl x)) (better-is b d c w)
+
+-- what holds is of the list, and of the address
+pub best-in : (a : ℕ) (cs : List Cand) (c : Cand) → best none (candsOf a cs) ≡ some c → In c cs × (c .address ≡ a)
+best-in a cs c e = at-of a cs c (go (best-of none (candsOf a cs) c e))
+  where
+    go : (none ≡ some c) ⊎ In c (candsOf a cs) → In c (candsOf a cs)
+    go (inl x) = absurd (let z : _≡_ {A = ℕ} 0 1 = cc in let q : ⊥ = omega arith in q)
+    go (inr m) = m
+
+-- ---- one list after the other
+
+pub best-append : (b : Opt Cand) (xs ys : List Cand) → best b (xs ++ ys) ≡ best (best b xs) ys
+unfolding best
+best-append b [] ys = refl
+best-append b (x ∷ xs) ys = best-append (better b x) xs ys

@@ -1,0 +1,44 @@
+-- The lent buffers have their lengths: as a test and as facts.
+use mathlib.Core.Path.{_≡_}
+use mathlib.Core.Bool.{true, _&&_}
+use borrow.Author.Tests.{eqb-true}
+use lib.Dec.{eqb}
+use lib.ListN.{length}
+use Rattle.spec.specs.declared.Params.{Params}
+use Rattle.spec.specs.Drives.{Disk}
+use Rattle.spec.specs.Engine.{lentOk}
+use Rattle.spec.specs.Memory.{Memory}
+use Rattle.spec.specs.Params.{imageLen, pointersLen, addressesLen, compactLen, inflightLen}
+use Rattle.law_basic.specs.Ranges.{and-left, and-right}
+use Rattle.law_views.specs.Views.{Whole}
+
+-- ---- lengths
+
+pub record Lengths (p : Params) (k : Disk) (m : Memory) : Type 0 where
+  pub image-ok : length (k .image) ≡ imageLen p
+  pub pointers-ok : length (k .pointers) ≡ pointersLen p
+  pub addresses-ok : length (m .addresses) ≡ addressesLen p
+  pub compact-ok : length (m .compact) ≡ compactLen p
+  pub inflight-ok : length (m .inflight) ≡ inflightLen p
+
+pub lengths-of : (p : Params) (k : Disk) (m : Memory) → lentOk p k m ≡ true → Lengths p k m
+unfolding lentOk
+lengths-of p k m q =
+    let t1 = eqb (length (k .image)) (imageLen p) in
+    let t2 = eqb (length (k .pointers)) (pointersLen p) in
+    let t3 = eqb (length (m .addresses)) (addressesLen p) in
+    let t4 = eqb (length (m .compact)) (compactLen p) in
+    let t5 = eqb (length (m .inflight)) (inflightLen p) in
+    let q4 = and-left (t1 && t2 && t3 && t4) t5 q in
+    let q3 = and-left (t1 && t2 && t3) t4 q4 in
+    let q2 = and-left (t1 && t2) t3 q3 in
+    record {
+      image-ok = eqb-true (length (k .image)) (imageLen p) (and-left t1 t2 q2);
+      pointers-ok = eqb-true (length (k .pointers)) (pointersLen p) (and-right t1 t2 q2);
+      addresses-ok = eqb-true (length (m .addresses)) (addressesLen p) (and-right (t1 && t2) t3 q3);
+      compact-ok = eqb-true (length (m .compact)) (compactLen p) (and-right (t1 && t2 && t3) t4 q4);
+      inflight-ok = eqb-true (length (m .inflight)) (inflightLen p) (and-right (t1 && t2 && t3 && t4) t5 q);
+    }
+
+pub whole-of : (p : Params) (k : Disk) (m : Memory) → lentOk p k m ≡ true → Whole p k
+whole-of p k m q = record { image-long = lengths-of p k m q .image-ok; pointers-long = lengths-of p k m q .pointers-ok }
