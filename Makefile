@@ -4,7 +4,9 @@
 # make install    header, archive and pkg-config file under PREFIX (DESTDIR is put before it)
 PREFIX ?= /usr/local
 DESTDIR ?=
-VERSION = 1.0
+VERSION = $(shell sed -n 's/^\#define SORGIZHED_VERSION "\(.*\)"/\1/p' include/sorgizhed.h)
+# the logic of the kit that the text is proved with
+LOGIC = $(lastword $(shell cat kit.txt))
 OUT = target/c
 CC ?= gcc
 CFLAGS ?= -O2 -g
@@ -13,7 +15,11 @@ SANE = -fsanitize=address,undefined -fno-sanitize-recover=all
 
 all: $(OUT)/libsorgizhed.a $(OUT)/box
 
-$(OUT)/libsorgizhed.a: crates.txt $(shell find crates -type f -not -path '*/wrong/*' -not -path '*/must-fail/*')
+kit:
+	@rt version >/dev/null 2>&1 || { echo "rt, the command of the Rattle kit, is not there: this text is proved and compiled with $$(cat kit.txt)" >&2; exit 1; }
+	@rt version | grep -q '$(LOGIC)' || { echo "this machine has $$(rt version); this text is proved with $$(cat kit.txt): the logics differ, so the proofs may not hold there. Install that kit, or change kit.txt and run make test" >&2; exit 1; }
+
+$(OUT)/libsorgizhed.a: crates.txt $(shell find crates -type f -not -path '*/wrong/*' -not -path '*/must-fail/*') | kit
 	@mkdir -p $(OUT)
 	@echo "proving and compiling the engine: about ten minutes from nothing on two cores"
 	@{ rt staticlib api_c 2>&1; echo $$? >$(OUT)/status; } | tee $(OUT)/staticlib.log | grep --line-buffered '^rt:' | grep --line-buffered -v unchanged; \
@@ -45,4 +51,4 @@ install: $(OUT)/libsorgizhed.a
 	install -m 644 $(OUT)/libsorgizhed.a $(DESTDIR)$(PREFIX)/lib/libsorgizhed.a
 	sed -e 's|@PREFIX@|$(PREFIX)|' -e 's|@VERSION@|$(VERSION)|' sorgizhed.pc.in >$(DESTDIR)$(PREFIX)/lib/pkgconfig/sorgizhed.pc
 
-.PHONY: all demo test install
+.PHONY: all demo test install kit

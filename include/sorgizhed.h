@@ -13,6 +13,9 @@
 #include <stddef.h>
 #include <stdint.h>
 
+/* The version of this interface and of the layout on the drives. */
+#define SORGIZHED_VERSION "1.1"
+
 #ifdef __cplusplus
 extern "C" {
 #endif
