@@ -245,20 +245,6 @@ pub fn same(a: &[u8], b: &[u8]) -> bool
     off == 0
 }
 
-// Whether a is all zeros.
-pub fn is_zero(a: &[u8]) -> bool
-    ensures { λ r. ⌜ r ≡ sameList (now (a .entry)) (replicate (length (now (a .entry))) 0) ⌝ }
-{
-    let mut i = 0;
-    while i < a.len() {
-        if a[i] != 0 {
-            return false;
-        }
-        i += 1;
-    }
-    true
-}
-
 // Byte offset of a data position's block in its eighth.
 fn data_byte(p: Params, slot: usize, stripe: usize, position: usize) -> usize
     requires { ⌜ inRange p ≡ true ⌝ }

@@ -3,13 +3,11 @@ ghost use mathlib.Core.Path.{_≡_};
 ghost use mathlib.Core.Bool.{true};
 ghost use lib.ListN.{length, replicate};
 ghost use Rattle.spec.specs.declared.State.{State as StateOf};
-ghost use Rattle.spec.specs.declared.Answer.the-variants.{Refused, Cut};
+ghost use Rattle.spec.specs.declared.Answer.the-variants.{Cut};
 ghost use Rattle.spec.specs.Drives.{mkDisk};
 ghost use Rattle.spec.specs.Engine.{lentOk};
-ghost use Rattle.spec.specs.Lists.Opt.{some};
 ghost use Rattle.spec.specs.Memory.{mkMemory, zeroState};
 ghost use Rattle.spec.specs.Params.{inRange};
-ghost use Rattle.mem_calls.specs.Left.{checked};
 use spec::Answer;
 use spec::Params;
 use spec::State;
@@ -24,13 +22,6 @@ pub struct Done {
 pub enum Check {
     Pass,
     Fail(Answer),
-}
-
-// A refusal by its number.
-pub fn rule(n: u64) -> Check
-    ensures { λ r. ⌜ checked r ≡ some (Refused n) ⌝ }
-{
-    Check::Fail(Answer::Refused(n))
 }
 
 // 01, Refusals, 2: the lent buffers' lengths.

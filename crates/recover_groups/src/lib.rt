@@ -1,15 +1,14 @@
 // Groups of a segment: the index of a group's chunks, its records and blocks, stored and lost (01, What a zone holds; Restart, 3; Refusals, 9).
 ghost use mathlib.Core.Path.{_≡_};
-ghost use mathlib.Core.Bool.{Bool, true, false, cond, not, _&&_, _||_};
+ghost use mathlib.Core.Bool.{true, false, cond, not, _||_};
 ghost use mathlib.Core.List.{List, map};
 ghost use Prim.Native.Nat.{ℕ, _+_, _-_, _*_, _%_, _≤_, _<_};
 ghost use lib.Bits.{bitXor};
-ghost use lib.Dec.{leb, ltb, eqb};
-ghost use lib.ListN.{length, getD, set, replicate};
+ghost use lib.Dec.{eqb};
+ghost use lib.ListN.{length, getD, set};
 ghost use Rattle.spec.specs.Bytes.{xors};
 ghost use Rattle.spec.specs.Drives.{viewOf, mkDisk, sealedIn, zoneAt, recordIn};
 ghost use Rattle.spec.specs.Faults.{badRec, storedBad};
-ghost use Rattle.spec.specs.Layout.{Rec};
 ghost use Rattle.spec.specs.declared.Params.{Params};
 ghost use Rattle.spec.specs.Lists.{keep, isIn};
 ghost use Rattle.spec.specs.Params.{inRange, imageLen, pointersLen, drivesOf, present};
@@ -248,21 +247,6 @@ pub fn chunks(p: Params, at: &[u16], k: usize) -> usize
     let mut d = 0;
     while d < p.N {
         if has_chunk(at, d, k) {
-            n += 1;
-        }
-        d += 1;
-    }
-    n
-}
-
-// How many drives are present.
-pub fn present(p: Params, gone: u8) -> usize
-    ensures { λ r. ⌜ (r ≡ length (present p gone)) × (r ≤ p .N) ⌝ }
-{
-    let mut n = 0;
-    let mut d = 0;
-    while d < p.N {
-        if !bits_masks::has_drive(gone, d) {
             n += 1;
         }
         d += 1;
