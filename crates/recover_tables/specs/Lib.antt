@@ -1,3 +1,4 @@
 pub mod Walk
 pub mod Ready
 pub mod Head
+pub mod Index

@@ -2,13 +2,13 @@
 ghost use mathlib.Core.Path.{_≡_};
 ghost use mathlib.Core.Bool.{Bool, true, false, cond, _&&_};
 ghost use mathlib.Core.List.{List, [], _∷_};
-ghost use Prim.Native.Nat.{ℕ, _+_, _%_, max, _≤_, _<_};
+ghost use Prim.Native.Nat.{ℕ, _+_, _*_, _%_, max, _≤_, _<_};
 ghost use lib.Dec.{ltb, eqb};
-ghost use lib.ListN.{length, replicate};
+ghost use lib.ListN.{length, getD, replicate};
 ghost use Rattle.spec.specs.Drives.{viewOf, mkDisk, sealedIn};
-ghost use Rattle.spec.specs.Lists.{upFrom, below, any};
-ghost use Rattle.spec.specs.Memory.{mkMemory, idleState};
-ghost use Rattle.spec.specs.Params.{inRange, imageLen, addressesLen, compactLen};
+ghost use Rattle.spec.specs.Lists.{upFrom, below, any, isIn};
+ghost use Rattle.spec.specs.Memory.{mkMemory, idleState, compactAt};
+ghost use Rattle.spec.specs.Params.{inRange, imageLen, pointersLen, addressesLen, compactLen};
 ghost use Rattle.spec.specs.Restart.{restartMemory};
 ghost use Rattle.spec.specs.Segments.{remaining, segmentOf, segments, counted, candOf, greatestStamp};
 ghost use Rattle.recover_groups.specs.Groups.{groupLen, recsFault, segmentIn, Reads};
@@ -20,6 +20,7 @@ ghost use Rattle.law_drives.specs.Members.{In};
 ghost use Rattle.law_drives.specs.Tables.{remains};
 ghost use Rattle.law_views.specs.Views.{Whole};
 ghost use Rattle.recover_tables.specs.Head.{SaidTables};
+ghost use Rattle.recover_tables.specs.Index.{Rowed, Grouped};
 ghost use Rattle.recover_tables.specs.Ready.{Reading, Indexing, Standing};
 ghost use Rattle.recover_tables.specs.Walk.{stripeCands, Walked, Toured};
 use disk_rank::Cand;
@@ -168,6 +169,62 @@ fn load_if(
     }
 }
 
+// What the compact table holds of data offset i of a group on a drive.
+fn entry_at(p: Params, compact: &[u8], w: Group, drive: usize, i: usize) -> usize
+    requires { ⌜ inRange p ≡ true ⌝ }
+    requires { ⌜ (length (now compact) ≡ compactLen p) × (drive < p .N) × (w .seg < p .Z) × (w .base < p .S) × (i < groupLen p (w .base)) ⌝ }
+    ensures { λ r. ⌜ (r ≡ getD (now (compact .entry)) (compactAt p drive (w .seg) (w .base) + i) 0) × (r < 256) ⌝ }
+{
+    let zone = disk_shape::zone_on(w.seg, drive);
+    let from = disk_shape::compact_at(p, drive, zone, w.base);
+    compact[from + i] as usize
+}
+
+// The index of a present drive, whose row is clear: the compact table has it, so that no record is read again.
+fn index_drive(p: Params, pointers: &[u8], compact: &[u8], w: Group, drive: usize, at: &mut [u16])
+    requires { ⌜ inRange p ≡ true ⌝ }
+    requires { ⌜ (length (now pointers) ≡ pointersLen p) × (length (now compact) ≡ compactLen p) × (length (now at) ≡ 2048) ⌝ }
+    requires { ⌜ (drive < p .N) × (w .seg < p .Z) × (w .base < p .S) × (w .base % p .G ≡ 0) × (isIn (w .gone) drive ≡ false) ⌝ }
+    requires { ⌜ ((k : ℕ) → k < groupLen p (w .base) → getD (now at) (256 * drive + k) 0 ≡ 0) ⌝ }
+    ensures { λ _. ⌜ ((im : List ℕ) → Rowed p im (now (pointers .entry)) (w .gone) (now (compact .entry)) (w .seg) (w .base) drive (now (at .entry)) (now (at .exit))) ⌝ }
+{
+    let n = recover_groups::group_stored(p, pointers, w, drive);
+    let mut i = 0;
+    while i < n {
+        let j = 256 * drive + entry_at(p, compact, w, drive, i);
+        at[j] = (i + 1) as u16;
+        i += 1;
+    }
+}
+
+// The same of any drive; a missing one has no chunks.
+fn index_any(p: Params, pointers: &[u8], compact: &[u8], w: Group, drive: usize, at: &mut [u16])
+    requires { ⌜ inRange p ≡ true ⌝ }
+    requires { ⌜ (length (now pointers) ≡ pointersLen p) × (length (now compact) ≡ compactLen p) × (length (now at) ≡ 2048) ⌝ }
+    requires { ⌜ (drive < p .N) × (w .seg < p .Z) × (w .base < p .S) × (w .base % p .G ≡ 0) ⌝ }
+    ensures { λ _. ⌜ ((im : List ℕ) → Rowed p im (now (pointers .entry)) (w .gone) (now (compact .entry)) (w .seg) (w .base) drive (now (at .entry)) (now (at .exit))) ⌝ }
+{
+    recover_groups::clear_row(p, at, drive);
+    if bits_masks::has_drive(w.gone, drive) {
+        return;
+    }
+    index_drive(p, pointers, compact, w, drive, at);
+}
+
+// The index of the group.
+fn index_group(p: Params, pointers: &[u8], compact: &[u8], w: Group, at: &mut [u16])
+    requires { ⌜ inRange p ≡ true ⌝ }
+    requires { ⌜ (length (now pointers) ≡ pointersLen p) × (length (now compact) ≡ compactLen p) × (length (now at) ≡ 2048) ⌝ }
+    requires { ⌜ (w .seg < p .Z) × (w .base < p .S) × (w .base % p .G ≡ 0) ⌝ }
+    ensures { λ _. ⌜ ((im : List ℕ) → Grouped p im (now (pointers .entry)) (now (compact .entry)) w (now (at .exit))) ⌝ }
+{
+    let mut d = 0;
+    while d < p.N {
+        index_any(p, pointers, compact, w, d, at);
+        d += 1;
+    }
+}
+
 // One group.
 fn load_group(
     p: Params,
@@ -194,7 +251,7 @@ fn load_group(
         Walked p (viewOf p (now (image .entry)) (now (pointers .entry))) (w .gone) (w .seg) (upFrom (w .base) (groupLen p (w .base)))
         (now (addresses .entry)) (now (addresses .exit)) (t .stamp .0) (r .stamp .0) (t .counted) (r .counted) ⌝ }
 {
-    recover_groups::index_group(p, image, pointers, w, at);
+    index_group(p, pointers, compact, w, at);
     let len = recover_groups::group_len(p, w.base);
     let mut next = t;
     let mut k = 0;

@@ -1,15 +1,15 @@
--- `load_group`: the k stripes from base on are walked; the segment is clean, so the index stands, and one turn walks stripe k. Assumes nothing.
-use mathlib.Core.Path.{_≡_, refl, _∙_, subst}
-use mathlib.Core.Bool.{false}
+-- Stripe by stripe, by the law walked-turn; the index is that of the group, which the ground of the tables gives (index_group).
+use mathlib.Core.Path.{_≡_, refl, ap, _∙_, subst}
 use Prim.Native.Nat.{ℕ, _-_, _≤_, _<_}
 use native.Mathlib.Omega.{arith}
 use lib.ListN.{length}
 use Rattle.spec.specs.Drives.{View, viewOf}
 use Rattle.spec.specs.Lists.{upFrom}
-use Rattle.recover_groups.specs.Groups.{groupLen, recsFault, segmentIn, Reads}
+use Rattle.spec.specs.Params.{compactLen}
+use Rattle.recover_groups.specs.Groups.{groupLen, segmentIn, Reads}
 use Rattle.law_basic.specs.Ranges.{length-upFrom}
-use Rattle.recover_addresses.specs.Lies.{seg-clean}
 use Rattle.law_drives.specs.Segs.{remaining-low}
+use Rattle.law_drives.specs.Tables.{length-compact}
 use Rattle.recover_tables.specs.Walk.{Walked, walkCands, walked-turn, walked-low, walked-start, tells-known}
 use Rattle.recover_tables.proofs.load_group.Statement.{statement}
 use Rattle.recover_tables.proofs.load_group.Tie as tie
@@ -27,12 +27,14 @@ index-group-requires c κs =
     let a = c .before .before .before .before .before .before .before .args in
     let q = c .before .before .before .before .before .before .before .pre in
     let x = q .1 .1 .0 in
-    (q .0 .in-range, (q .0 .whole, ((x .0, remaining-low (a .p) (viewOf (a .p) (a .image .now) (a .pointers .now)) (a .w .gone) (a .w .seg) (x .4), x .1, x .2), x .3)))
+    let v : View = viewOf (a .p) (a .image .now) (a .pointers .now) in
+    let n : length (a .compact .now) ≡ compactLen (a .p) = ap length (q .0 .compact) ∙ length-compact (a .p) v (a .w .gone) in
+    (q .0 .in-range, ((q .0 .whole .pointers-long, n, x .0), (remaining-low (a .p) v (a .w .gone) (a .w .seg) (x .4), x .1, x .2)))
 
 group-len-requires : tie.Need-group-len-requires Inv-loop μ-loop
 group-len-requires c κs =
-    let pre = c .before .before .before .before .before .before .before .before .before .before .pre in
-    (pre .0 .in-range, pre .1 .1 .0 .1)
+    let q = c .before .before .before .before .before .before .before .before .before .before .pre in
+    (q .0 .in-range, q .1 .1 .0 .1)
 
 loop-holds : tie.Need-loop-holds Inv-loop μ-loop
 loop-holds c =
@@ -46,12 +48,11 @@ load-if-requires c κs =
     let loop-test = c .before .before .loop-test in
     let l = c .before .before .before .loop in
     let group-len = c .before .before .before .before .group-len in
-    let index-group = c .before .before .before .before .before .before .before .index-group in
+    let i = c .before .before .before .before .before .before .before .index-group in
     let x = q .1 .1 .0 in
     let v : View = viewOf (a .p) (a .image .now) (a .pointers .now) in
-    let cl : recsFault (a .p) (a .w .gone) (segmentIn (a .p) (a .image .now) (a .pointers .now) (a .w)) ≡ false = seg-clean (a .p) v (a .w .gone) (a .w .seg) (q .0 .clean) (x .4) in
-    let rd : Reads (a .p) (a .image .now) (a .pointers .now) (a .w) (index-group .last .1 .1 .1 .1 .0) =
-    record { long = q .0 .whole .pointers-long; full-right = x .3; indexed = index-group .ensures .1 cl } in (
+    let rd : Reads (a .p) (a .image .now) (a .pointers .now) (a .w) (i .last .1 .1 .1 .1 .0) =
+    record { long = q .0 .whole .pointers-long; full-right = x .3; indexed = i .ensures (a .image .now) (q .0) (x .4) } in (
       q .0,
       (
         q .1 .0,
@@ -59,22 +60,21 @@ load-if-requires c κs =
           (
             record {
               reads = rd;
-              long = index-group .kept .1 .1 .1 .1 .0 ∙ x .0;
+              long = i .kept .1 .1 .1 .1 .0 ∙ x .0;
               base-low = x .1;
               stripe-in = subst (λ (n : ℕ). l .k < n) (group-len .ensures .0) (loop-test .taken);
               remains = x .4;
             },
-            omega (
-              arith,
-              walked-low (a .p) v (a .w .gone) (a .w .seg) (upFrom (a .w .base) (l .k)) (a .addresses .now) (l .addresses) (a .t .stamp .0)
-                  (l .next .stamp .0) (a .t .counted) (l .next .counted) (l .inv .2),
-              length-upFrom (a .w .base) (l .k),
-              x .5,
-            ),
+            (
+                let w = a .w in
+                let t = a .t in
+                let y = l .next in
+                let low = walked-low (a .p) v (w .gone) (w .seg) (upFrom (w .base) (l .k)) (a .addresses .now) (l .addresses) (t .stamp .0) (y .stamp .0) (t .counted) (y .counted) (l .inv .2) in
+                omega (arith, low, length-upFrom (w .base) (l .k), x .5)
+                ),
           ),
           tells-known (a .p) v (a .w .gone) (a .addresses .now) (l .addresses)
-              (walkCands (a .p) (a .w .gone) (segmentIn (a .p) (a .image .now) (a .pointers .now) (a .w)) (upFrom (a .w .base) (l .k)))
-              (l .inv .2 .tells) (q .1 .1 .1),
+              (walkCands (a .p) (a .w .gone) (segmentIn (a .p) (a .image .now) (a .pointers .now) (a .w)) (upFrom (a .w .base) (l .k))) (l .inv .2 .tells) (q .1 .1 .1),
         ),
       ),
     )
@@ -89,14 +89,15 @@ loop-again : tie.Need-loop-again Inv-loop μ-loop
 loop-again c =
     let a = c .before .before .before .before .before .before .before .before .before .before .before .before .before .before .before .before .before .before .args in
     let l = c .before .before .before .before .before .before .loop in
-    let load-if = c .before .before .load-if in
+    let f = c .before .before .load-if in
     let loop-test = c .before .before .before .before .before .loop-test in
+    let r = f .result in
+    let w = a .w in
     let v : View = viewOf (a .p) (a .image .now) (a .pointers .now) in (
       omega (arith, loop-test .taken),
-      load-if .kept .1 .1 .1 .0 ∙ l .inv .1,
-      walked-turn (a .p) v (a .w .gone) (a .w .seg) (a .w .base) (l .k) (a .addresses .now) (l .addresses) (load-if .last .1 .1 .1 .0)
-          (a .t .stamp .0) (l .next .stamp .0) (load-if .result .stamp .0) (a .t .counted) (l .next .counted) (load-if .result .counted) (l .inv .2)
-          (load-if .ensures),
+      f .kept .1 .1 .1 .0 ∙ l .inv .1,
+      walked-turn (a .p) v (w .gone) (w .seg) (w .base) (l .k) (a .addresses .now) (l .addresses) (f .last .1 .1 .1 .0)
+          (a .t .stamp .0) (l .next .stamp .0) (r .stamp .0) (a .t .counted) (l .next .counted) (r .counted) (l .inv .2) (f .ensures),
     )
 
 same-length : tie.Need-same-length Inv-loop μ-loop
@@ -113,8 +114,10 @@ returns c =
     let l = c .before .loop in
     let v : View = viewOf (a .p) (a .image .now) (a .pointers .now) in
     let e : l .k ≡ groupLen (a .p) (a .w .base) = omega (arith, c .loop-test .left, c .before .before .group-len .ensures .0, l .inv .0) in
-    subst (λ (x : ℕ). Walked (a .p) v (a .w .gone) (a .w .seg) (upFrom (a .w .base) x) (a .addresses .now) (l .addresses) (a .t .stamp .0)
-    (l .next .stamp .0) (a .t .counted) (l .next .counted)) e (l .inv .2)
+    let w = a .w in
+    let t = a .t in
+    let y = l .next in
+    subst (λ (x : ℕ). Walked (a .p) v (w .gone) (w .seg) (upFrom (w .base) x) (a .addresses .now) (l .addresses) (t .stamp .0) (y .stamp .0) (t .counted) (y .counted)) e (l .inv .2)
 
 pub load-group-spec : {M : Type 1} → statement M
 load-group-spec =
