@@ -1,13 +1,8 @@
 /* The speed of the calls against the same work in plain C (plain.c), in one run. Each figure is the better of several turns, ours and C's in turn. */
-#define _DEFAULT_SOURCE
-#include <inttypes.h>
-#include <stdio.h>
-#include <stdlib.h>
-#include <string.h>
-#include <sys/mman.h>
-#include <time.h>
-
+#define _POSIX_C_SOURCE 199309L
+#include "clock.h"
 #include "plain.h"
+#include "tables.h"
 
 /* decodes a state and encodes it again (crates/bench_leaves) */
 void leaf_state(uint8_t *to, size_t to_length, const uint8_t *from, size_t from_length, size_t k, uint32_t v);
@@ -16,29 +11,6 @@ static const size_t small[6] = {3, 64, 4, 4, 2, 8};
 static sorgizhed_box box;
 static uint8_t data[8 * 4096];
 static uint8_t other[SORGIZHED_STATE_LENGTH];
-static uint64_t noise = 1;
-
-static double now(void) {
-    struct timespec t;
-    clock_gettime(CLOCK_MONOTONIC, &t);
-    return (double)t.tv_sec * 1e9 + (double)t.tv_nsec;
-}
-
-static uint64_t random_below(uint64_t n) {
-    noise = noise * UINT64_C(6364136223846793005) + UINT64_C(1442695040888963407);
-    return (noise >> 33) % n;
-}
-
-static void *room(size_t n) {
-    void *p = malloc(n);
-    if (p == NULL) { fprintf(stderr, "not enough memory\n"); exit(2); }
-    memset(p, 0, n);
-    return p;
-}
-
-static void must(const char *call, sorgizhed_answer r, uint64_t kind) {
-    if (r.kind != kind) { fprintf(stderr, "%s: kind %d, %d %d\n", call, (int)r.kind, (int)r.first, (int)r.second); exit(1); }
-}
 
 static void lend(const size_t v[6]) {
     free(box.image), free(box.pointers), free(box.addresses), free(box.compact), free(box.inflight), free(box.state);
@@ -87,8 +59,6 @@ static uint64_t *some_addresses(void) {
 
 /* how often a figure is taken */
 static size_t turns(void) { return box.l < 100 ? 2000 : box.l < 20000 ? 30 : 6; }
-
-static double least(double a, double b) { return a < b ? a : b; }
 
 static void line(const char *name, double ours, double plain, double target) {
     printf("  %-44s %12.0f ns %12.0f ns   %.2f%s\n", name, ours, plain, plain / ours, target == 0 ? "" : plain / ours >= target ? "  (target met)" : "  (BELOW THE TARGET)");
@@ -236,88 +206,6 @@ static void reclaims(const char *name, const size_t v[6]) {
     line(text, ours, plain, 0.4);
 }
 
-/* the table of a full box made another: what is left of its entries */
-enum table { EVERY_BLOCK, FOUR_IN_FIVE, A_THOUSAND_LEFT, NONE_LEFT, ONE_PLACE, ANY_PLACE, TABLES };
-static const char *const tables[TABLES] = {"every block live", "four of five live", "1,000 left in a segment", "none left in a segment", "all entries one place", "entries at random"};
-
-static void entry(size_t a, uint32_t q) {
-    uint8_t *e = box.addresses + 4 * a;
-    e[0] = (uint8_t)(q >> 24), e[1] = (uint8_t)(q >> 16), e[2] = (uint8_t)(q >> 8), e[3] = (uint8_t)q;
-}
-
-static void retable(enum table k, const uint8_t *full) {
-    size_t places = box.image_length / (box.b + 20), c = places / (box.n * box.z), left = k == A_THOUSAND_LEFT ? 1000 : 0;
-    memcpy(box.addresses, full, box.addresses_length);
-    for (size_t a = 0; a < box.l; a++) {
-        const uint8_t *e = full + 4 * a;
-        uint32_t q = (uint32_t)e[0] << 24 | (uint32_t)e[1] << 16 | (uint32_t)e[2] << 8 | e[3];
-        if (k == FOUR_IN_FIVE && random_below(5) == 0) entry(a, UINT32_MAX);
-        if (k == A_THOUSAND_LEFT || k == NONE_LEFT)
-            if (q / c % box.z == 1 && (left == 0 || left-- == 0)) entry(a, UINT32_MAX);
-        if (k == ONE_PLACE) entry(a, 1);
-        if (k == ANY_PLACE) entry(a, (uint32_t)random_below(places));
-    }
-}
-
-/* reclaim by what the table holds; against C's one pass over the table, which counts entries and not blocks */
-static void reclaims_by_table(const char *name, const size_t v[6]) {
-    static uint32_t live[1024];
-    char text[120];
-    lend(v);
-    fill();
-    uint8_t *state = room(box.state_length), *pointers = room(box.pointers_length), *inflight = room(box.inflight_length), *full = room(box.addresses_length);
-    memcpy(state, box.state, box.state_length), memcpy(pointers, box.pointers, box.pointers_length), memcpy(inflight, box.inflight, box.inflight_length);
-    memcpy(full, box.addresses, box.addresses_length);
-    for (int k = 0; k < TABLES; k++) {
-        double ours = 1e18, plain = 1e18;
-        size_t found = 0;
-        retable((enum table)k, full);
-        for (size_t turn = 0; turn < 4; turn++) {
-            double t = now();
-            sorgizhed_reclaim(SORGIZHED_LENT(&box), SORGIZHED_NO_LIMIT);
-            ours = least(ours, now() - t);
-            memcpy(box.state, state, box.state_length), memcpy(box.pointers, pointers, box.pointers_length), memcpy(box.inflight, inflight, box.inflight_length);
-            t = now();
-            found += plain_scan(&box, live);
-            plain = least(plain, now() - t);
-        }
-        snprintf(text, sizeof text, "%s, %s%s", name, tables[k], found == box.z ? " " : "");
-        line(text, ours, plain, 0);
-    }
-    free(state), free(pointers), free(inflight), free(full);
-}
-
-static void *vast(size_t n) {
-    void *p = mmap(NULL, n, PROT_READ | PROT_WRITE, MAP_PRIVATE | MAP_ANONYMOUS | MAP_NORESERVE, -1, 0);
-    if (p == MAP_FAILED) { fprintf(stderr, "not enough room\n"); exit(2); }
-    return p;
-}
-
-/* the largest box: nothing sealed, so reclaim refuses, and does not look at the table. The buffers are asked for, and not touched */
-static void refusal(void) {
-    double ours = 1e18;
-    lend(small);
-    empty();
-    uint8_t *state = box.state;
-    box.n = 8, box.b = 64, box.z = 1024, box.s = 65535, box.g = 256, box.l = 468378645;
-    free(box.image), free(box.pointers), free(box.addresses), free(box.compact), free(box.inflight);
-    box.image = vast(box.image_length = sorgizhed_image_length(SORGIZHED_PARAMETERS(&box)));
-    box.pointers = vast(box.pointers_length = sorgizhed_pointers_length(SORGIZHED_PARAMETERS(&box)));
-    box.addresses = vast(box.addresses_length = sorgizhed_addresses_length(SORGIZHED_PARAMETERS(&box)));
-    box.compact = vast(box.compact_length = sorgizhed_compact_length(SORGIZHED_PARAMETERS(&box)));
-    box.inflight = vast(box.inflight_length = sorgizhed_inflight_length(SORGIZHED_PARAMETERS(&box)));
-    for (int turn = 0; turn < 10; turn++) {
-        double t = now();
-        must("reclaim", sorgizhed_reclaim(SORGIZHED_LENT(&box), SORGIZHED_NO_LIMIT), SORGIZHED_REFUSED);
-        ours = least(ours, now() - t);
-    }
-    box.state = state;
-    printf("  %-60s %12.0f ns\n", "nothing sealed, a table of 468378645", ours);
-    munmap(box.image, box.image_length), munmap(box.pointers, box.pointers_length), munmap(box.addresses, box.addresses_length);
-    munmap(box.compact, box.compact_length), munmap(box.inflight, box.inflight_length), free(box.state);
-    memset(&box, 0, sizeof box);
-}
-
 /* what must not grow with Z, S or L */
 static void growth(void) {
     static const size_t shapes[4][6] = {{4, 64, 4, 4, 2, 12}, {4, 64, 8, 320, 16, 4800}, {4, 64, 16, 1600, 16, 62400}, {4, 64, 64, 4096, 16, 749568}};
@@ -384,10 +272,8 @@ static void in_use(void) {
     fflush(stdout);
 }
 
-int main(int argc, char **argv) {
-    static const size_t half[6] = {4, 64, 64, 8192, 16, 1499136}, great[6] = {4, 64, 64, 65535, 16, 11992905};
+static void calls(void) {
     static const size_t large[6] = {4, 4096, 16, 256, 16, 9984}, many[3][6] = {{4, 64, 8, 320, 16, 4800}, {4, 64, 16, 1600, 16, 62400}, {4, 64, 64, 4096, 16, 749568}};
-    for (size_t i = 0; i < sizeof data; i++) data[i] = (uint8_t)random_below(256);
     printf("  %-44s %15s %15s   %s\n", "", "ours", "plain C", "C / ours");
     writes("N 4, B 4096", large);
     writes("small box", small);
@@ -401,11 +287,21 @@ int main(int argc, char **argv) {
     reclaims("N 4, B 4096", large);
     reclaims("small box", small);
     reclaims("N 4, B 64", many[2]);
-    printf("\nreclaim by what the table holds (N 4, B 64; C: one pass over the table)\n");
-    refusal();
-    reclaims_by_table("1,499,136 addresses", half);
-    if (argc > 1 && strcmp(argv[1], "--large") == 0) reclaims_by_table("11,992,905 addresses", great);
     growth();
     in_use();
+    lend(small);
+}
+
+int main(int argc, char **argv) {
+    int large = 0, all = 1;
+    for (int i = 1; i < argc; i++) {
+        if (strcmp(argv[i], "--large") == 0) large = 1;
+        else if (strcmp(argv[i], "--reclaim") == 0) all = 0;
+        else if (strcmp(argv[i], "--sizes") == 0) return sizes(), 0;
+        else return fprintf(stderr, "bench/calls [--reclaim] [--large] | --sizes\n"), 2;
+    }
+    for (size_t i = 0; i < sizeof data; i++) data[i] = (uint8_t)random_below(256);
+    if (all) calls();
+    reclaim_by_table(large);
     return 0;
 }
