@@ -2,10 +2,11 @@
 use Rattle.call_close.specs.Order.{refusal, isLeft}
 use Rattle.law_calls.specs.Slots.{filling-lt, filling-is, filling-room}
 use Rattle.spec.specs.Calls.{Check}
-use mathlib.Core.Path.{_≡_, refl, sym, ap, _∙_, subst}
+use mathlib.Core.Path.{_≡_, sym, ap, _∙_, subst}
 use mathlib.Core.List.{List, [], _∷_, _++_}
-use mathlib.Core.Bool.{Bool, true, false, cond, not, _&&_, _||_}
+use mathlib.Core.Bool.{true, cond, not, _&&_, _||_}
 use Prim.Native.Nat.{ℕ, _≤_, _<_}
+use borrow.Author.Tests.{not-false}
 use native.Mathlib.Omega.{arith}
 use lib.Dec.{ltb, eqb}
 use lib.ListN.{length}
@@ -21,7 +22,7 @@ use Rattle.spec.specs.Params.{dataCount, inRange, inflightLen}
 use Rattle.spec.specs.Reclaim.{tableFaults}
 use Rattle.spec.specs.Write.{scarce}
 use Rattle.call_filling.specs.Aims.{has-slot}
-use Rattle.law_basic.specs.Ranges.{not-both}
+use Rattle.law_basic.specs.Ranges.{or-left}
 use Rattle.law_views.specs.Views.{seen}
 use Rattle.law_calls.specs.Refusals.{rule-free}
 use Rattle.call_write.specs.Ready.{lent-long}
@@ -30,14 +31,6 @@ pub record Ready (p : Params) (k : Disk) (m : Memory) : Type 0 where
   pub ranged : inRange p ≡ true
   pub inflight-long : length (m .inflight) ≡ inflightLen p
   pub filling : hasFilling p (m .state) ≡ true
-
-not-false! : (a : Bool) → not a ≡ false → a ≡ true
-not-false! true h = refl
-not-false! false h = absurd (not-both true refl h)
-
-or-left : (a b : Bool) → (a || b) ≡ false → a ≡ false
-or-left true b h = absurd (not-both true refl h)
-or-left false b h = refl
 
 pub ready : (p : Params) (k : Disk) (m : Memory) → refusal p k m ≡ none → Ready p k m
 unfolding closeChecks
@@ -53,11 +46,11 @@ ready p k m e =
     let f₂ = rule-free 2 (not (lentOk p k m)) r₃ (f₁ .1) in
     let f₃ = rule-free 3 (not (eqb (st .missing) 0)) r₅ (f₂ .1) in
     let f₅ = rule-free 5 c₅ r₉ (f₃ .1) in
-    let l = lent-long p k m (not-false! (lentOk p k m) (f₂ .0)) in
+    let l = lent-long p k m (not-false (lentOk p k m) (f₂ .0)) in
     record {
-      ranged = not-false! (inRange p) (f₁ .0);
+      ranged = not-false (inRange p) (f₁ .0);
       inflight-long = l .4;
-      filling = not-false! (hasFilling p st) (or-left (not (hasFilling p st)) (few && isLeft p k m) (f₅ .0));
+      filling = not-false (hasFilling p st) (or-left (not (hasFilling p st)) (few && isLeft p k m) (f₅ .0));
     }
 
 -- 01, Write: the filling stripe's eighth, and that it has positions left

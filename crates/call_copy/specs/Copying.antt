@@ -1,5 +1,5 @@
 -- A copy: a block sent with its old stamp (01, Reclaim). Assumes nothing.
-use Prim.Native.Nat.{ℕ, _+_, _-_, _*_, _/_, _≤_, _<_}
+use Prim.Native.Nat.{ℕ, _+_, _-_, _*_, _≤_, _<_}
 use Rattle.call_reclaim_live.specs.Live.{drive-low}
 use Rattle.spec.specs.Bytes.{part, splice}
 use Rattle.spec.specs.Calls.{Plan, mkPlan, mkAfter, cutMemory, outcome}
@@ -19,7 +19,7 @@ use Rattle.call_filling.specs.Entries.{SentRow, sentRow, frontAs, row-filled, s
 use Rattle.call_filling.specs.Left.{openStores, Opening}
 use Rattle.call_filling.specs.declared.Aim.{Aim}
 use Rattle.call_filling.specs.declared.Opened.{Opened}
-use Rattle.law_basic.specs.Geometry.{Ranged, ranged, place-again, capacity-low, data-count-high}
+use Rattle.law_basic.specs.Geometry.{Ranged, ranged, place-again, capacity-low, data-count-high, zone-low}
 use Rattle.law_basic.specs.Splice.{length-part, part-splice}
 use Rattle.law_basic.specs.Stores.{stores-all, done-all, cut-prefix}
 use Rattle.law_calls.specs.Slots.{slot-lt}
@@ -36,10 +36,6 @@ use mathlib.Core.List.{List, []}
 use mathlib.Core.Path.{_≡_, refl, sym, ap, _∙_, subst}
 use native.Mathlib.Nat.{mod-lt}
 use native.Mathlib.Omega.{arith}
-
-zone-low : (p : Params) → Ranged p → (q : ℕ) → placeZone p q < p .Z
-unfolding placeZone
-zone-low p r q = mod-lt (q / capacity p) (omega (arith, r .zones-low))
 
 block-low : (p : Params) → Ranged p → (q : ℕ) → placeBlock p q < capacity p
 unfolding placeBlock

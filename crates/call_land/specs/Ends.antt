@@ -22,12 +22,12 @@ use Rattle.call_land.specs.Ready.{ready, refusal, Ready, offsets-low, op
 use Rattle.spec.specs.Answers.{kind, isRefused, isCut}
 use Rattle.spec.specs.Layout.{Rec, parityDrive, dataPosition, compactEntry, recordBytes}
 use Rattle.spec.specs.Lists.Opt.{none, some}
-use Rattle.spec.specs.Memory.{Memory, mkMemory, zeroState, stripeIn, filledIn, entryIn, openSegment, setClosed, freeStripe, placeAt, compactAt, slotByte, slotBlock}
+use Rattle.spec.specs.Memory.{Memory, mkMemory, stripeIn, filledIn, entryIn, openSegment, setClosed, freeStripe, placeAt, compactAt, slotByte, slotBlock}
 use Rattle.spec.specs.Params.{spareLen, dataCount, footers, capacity}
 use Rattle.law_basic.specs.Geometry.{ranged, data-count-high, data-drive-lt, spare-len, capacity-high, data-below, zone-on-lt, slot-within}
 use Rattle.law_basic.specs.Splice.{length-part}
 use Rattle.law_basic.specs.Stores.{stores-cons, stores-zero, stores-nil}
-use Rattle.law_calls.specs.Refusals.{call-refused, call-done, call-cut}
+use Rattle.law_calls.specs.Refusals.{call-refused, call-done, call-cut, refusal-kind}
 use Rattle.law_views.specs.Pointers.{pointer-set, pointer-other-drive}
 use Rattle.law_views.specs.Views.{Whole, pointer-view, view-put, whole-put, seen}
 use Rattle.disk_records.specs.Record.{record-long}
@@ -35,21 +35,15 @@ use Rattle.disk_zones.specs.Made.{put-pointers}
 use Rattle.mem_rows.specs.declared.Row.{Row}
 use Rattle.mem_rows.specs.declared.Front.{Front}
 use Rattle.mem_rows.specs.declared.Change.{Change}
-use Rattle.mem_rows.specs.Rows.{rowOf, frontOf, Sized, changed, stateAfter, afterChange, after-refused, after-cut, after-done}
+use Rattle.mem_rows.specs.Rows.{rowOf, frontOf, Sized, changed, stateAfter, afterChange, after-refused, after-done}
 use Rattle.call_land_chunk.specs.Alone.{alone, markRow, freeRow, row-filled, row-entry, row-offset, row-record, row-writes, row-cands}
 use Rattle.call_land_table.specs.Winners.{Sane, Sound}
 use Rattle.call_land.specs.declared.Look.{Look}
 use Rattle.call_land.specs.Marked.{changeTo, row-marked, changed-marked, changed-freed}
-use Rattle.law_drives.specs.Checks.{refusal-kind}
-use Rattle.call_write.specs.Ends.{cut-memory}
+use Rattle.call_write.specs.Ends.{cut-memory, state-cut}
 use Rattle.call_land.specs.Plan.{Looks, sealsOf, tableOf, Completing, Complete, same-filled, same-writes, landedState, shownTable, plan-part, plan-whole}
 
 -- ---- the state after the change
-
--- cut
-state-cut : (st : State) (c : Change) → c .answer ≡ Cut → stateAfter st c ≡ zeroState
-unfolding isRefused isCut kind
-state-cut st c e = after-cut st c (ap isRefused e) (ap isCut e)
 
 -- done
 state-landed : (st : State) (n i : ℕ) (r : Row) (b : Bool) → stateAfter st (changeTo (Landed n) (frontOf st) i r b) ≡ changed st (changeTo (Landed n) (frontOf st) i r b)

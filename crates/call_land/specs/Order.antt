@@ -2,7 +2,7 @@
 use mathlib.Core.Path.{_≡_, refl, sym, ap, _∙_}
 use mathlib.Core.List.{List, [], _∷_, _++_}
 use mathlib.Core.Bool.{Bool, true, false, not, _&&_}
-use Prim.Native.Nat.{ℕ, suc, min, _≤_, _<_}
+use Prim.Native.Nat.{ℕ, suc, _≤_, _<_}
 use borrow.Author.Tests.{eq-eqb, ne-eqb, ltb-true}
 use native.Mathlib.Omega.{arith}
 use lib.Dec.{ltb, eqb}
@@ -22,7 +22,7 @@ use Rattle.spec.specs.Memory.{Memory, slotCount, filledIn, entriesIn, openSegme
 use Rattle.spec.specs.Params.{dataCount, inRange}
 use Rattle.law_basic.specs.Geometry.{ranged, data-count-high}
 use Rattle.law_views.specs.Views.{seen}
-use Rattle.law_calls.specs.Refusals.{rule-fails, rule-passes, state-fault, state-fine}
+use Rattle.law_calls.specs.Refusals.{rule-fails, rule-passes, state-fault, state-fine, least-zero}
 use Rattle.call_land_faults.specs.Lowest.{faultsOf, faults-are, lowest-refused, low-faults}
 use Rattle.law_basic.specs.Ranges.{Test, test, not-both}
 use Rattle.law_basic.specs.Ranges.Test.{yes!, no! }
@@ -31,11 +31,6 @@ use Rattle.mem_rows.specs.Rows.{rowOf}
 use Rattle.call_land_chunk.specs.Alone.{alone, row-ready, row-entries}
 use Rattle.call_land.specs.declared.Look.{Look}
 use Rattle.call_land.specs.Plan.{Looks, look-done, look-seals}
-
-least-zero : (zs : List ℕ) → least 0 zs ≡ 0
-unfolding least
-least-zero [] = refl
-least-zero (z ∷ zs) = let e : min 0 z ≡ 0 = omega arith in ap (λ (x : ℕ). least x zs) e ∙ least-zero zs
 
 -- 01, Refusals, 5: what the row says of the chunk
 pub waits-row : (p : Params) (st : State) (d s : ℕ) (l : Look) → Looks p st d s l → (ltb d (p .N) && ltb (l .slot) slotCount && ready p (alone (l .row)) 0 d) ≡ waiting p st d s

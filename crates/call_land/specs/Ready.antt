@@ -5,7 +5,7 @@ use mathlib.Core.Bool.{Bool, true, false, cond, not, _&&_, _||_}
 use Prim.Native.Nat.{ℕ, zero, suc, _+_, _-_, _^_, _≤_, _<_}
 use lib.Arith.{lt-of-le-ne}
 use native.Mathlib.Decide.{decLt, ℕ-discrete}
-use borrow.Author.Tests.{leb-true, leb-false, ltb-true, ltb-false}
+use borrow.Author.Tests.{leb-true, leb-false, ltb-true, ltb-false, not-false}
 use native.Mathlib.Omega.{arith}
 use lib.Dec.{leb, ltb, eqb}
 use lib.ListN.{length, getD, set, List·getD-eq-default}
@@ -25,10 +25,11 @@ use Rattle.spec.specs.Memory.{Memory, slotCount, slots, cell, stripeIn, filledI
 use Rattle.spec.specs.Params.{between, dataCount, inRange, footers, capacity, addressesLen, compactLen, inflightLen, placeBlock, placeZone, placeDrive, drivesOf}
 use Rattle.spec.specs.Read.{placeFaults}
 use Rattle.law_basic.specs.Geometry.{between-low, between-high, ranged as rangedIn, zone-on-lt}
-use Rattle.law_basic.specs.Ranges.{Test, test, and-left, and-right, not-both, all-getD, all-in-below}
+use Rattle.law_basic.specs.Ranges.{Test, test, and-left, and-right, all-getD, all-in-below, or-false, any-false}
 use Rattle.law_basic.specs.Ranges.Test.{yes!, no! }
 use Rattle.law_views.specs.Views.{Whole, pointer-view, seen}
 use Rattle.law_calls.specs.Refusals.{rule-free, zones-free, state-free}
+use Rattle.law_drives.specs.Members.{if-none}
 use Rattle.call_land_faults.specs.Lowest.{entry-placed}
 use Rattle.call_land_table.specs.Winners.{IsData, Sane, Sound}
 use Rattle.call_write.specs.Ready.{lent-long}
@@ -47,10 +48,6 @@ pub record Ready (p : Params) (k : Disk) (m : Memory) (d s : ℕ) : Type 0 where
   pub slot-low : slotOf (m .state) s < 8
   pub fine : stateOk p (m .state) ≡ true
   pub faultless : landFaults p (seen p k) m d s ≡ []
-
-not-false! : (a : Bool) → not a ≡ false → a ≡ true
-not-false! true h = refl
-not-false! false h = absurd (not-both true refl h)
 
 append-none : (xs ys : List ℕ) → (xs ++ ys) ≡ [] → (xs ≡ []) × (ys ≡ [])
 append-none [] ys e = (refl, e)
@@ -80,10 +77,10 @@ ready p k m d s e =
     let f₅ = rule-free 5 (not (waiting p st d s)) r₉ (f₃ .1) in
     let f₉ = zones-free (stateFaults p st ++ zs) [] (f₅ .1) in
     let n = append-none (stateFaults p st) zs (f₉ .0) in
-    let l = lent-long p k m (not-false! long (f₂ .0)) in
-    let w = waits-low p st d s (not-false! (waiting p st d s) (f₅ .0)) in
+    let l = lent-long p k m (not-false long (f₂ .0)) in
+    let w = waits-low p st d s (not-false (waiting p st d s) (f₅ .0)) in
     record {
-      ranged = not-false! (inRange p) (f₁ .0);
+      ranged = not-false (inRange p) (f₁ .0);
       whole = record { image-long = l .0; pointers-long = l .1 };
       addresses-long = l .2;
       compact-long = l .3;
@@ -146,11 +143,6 @@ module _ (p : Params) (st : State) (fine : stateOk p st ≡ true) where
 
 -- ---- what no bad zone says
 
-if-none : (b : Bool) (g : ℕ) (zs : List ℕ) → consIf b g zs ≡ [] → (b ≡ false) × (zs ≡ [])
-unfolding consIf
-if-none true g zs e = absurd (let z : _≡_ {A = ℕ} (suc (length zs)) 0 = ap length e in let w : ⊥ = omega arith in w)
-if-none false g zs e = (refl, e)
-
 flat-nothing : {A : Type 0} (f : A → List ℕ) (g : ℕ → A) (i n k : ℕ) → flat f (map g (upFrom i n)) ≡ [] → i ≤ k → k < i + n → f (g k) ≡ []
 unfolding upFrom flat
 flat-nothing f g i zero k e h l = absurd (let w : ⊥ = omega arith in w)
@@ -161,10 +153,6 @@ flat-nothing {A} f g i (suc n) k e h l =
     go : Dec (i ≡ k) → f (g i) ≡ [] → (suc i ≤ k → f (g k) ≡ []) → f (g k) ≡ []
     go (yes q) a b = ap (λ (x : ℕ). f (g x)) (sym q) ∙ a
     go (no q) a b = b (lt-of-le-ne h q)
-
-or-false : (x y : Bool) → (x || y) ≡ false → (x ≡ false) × (y ≡ false)
-or-false true y q = absurd (not-both true refl q)
-or-false false y q = (refl, q)
 
 -- 01, Refusals, 9: a place that can be read is one of a data block
 place-data : (p : Params) (v : View) (q : ℕ) → placeFaults p v 0 q ≡ [] → IsData p q
@@ -188,22 +176,11 @@ place-data p v q e = go (test (leb (p .N) (placeDrive p q)))
     go (no! t) =
         let f : consIf bad (placeZone p q) [] ≡ [] = subst (λ (x : Bool). cond {A = List ℕ} x (0 ∷ []) (consIf bad (placeZone p q) []) ≡ []) t e in
         let h = if-none bad (placeZone p q) [] f in
-        let c = not-false! (between 1 (p .S) b) (or-false (not (between 1 (p .S) b)) (not (isIn 0 d) && leb (pointerAt v d (placeZone p q)) b) (h .0) .0) in
+        let c = not-false (between 1 (p .S) b) (or-false (not (between 1 (p .S) b)) (not (isIn 0 d) && leb (pointerAt v d (placeZone p q)) b) (h .0) .0) in
         (leb-false (p .N) d t, between-low 1 (p .S) b c, between-high 1 (p .S) b c)
 
 entry-sane : (p : Params) (v : View) (tb : List ℕ) (e : Rec) → entryFaults p v tb e ≡ [] → e .address < p .L → Sane p (placeAt tb (e .address))
 entry-sane p v tb e f h n = place-data p v (placeAt tb (e .address)) (sym (entry-placed p v tb e h n) ∙ f)
-
-any-false : (f : ℕ → Bool) (i n k : ℕ) → any f (upFrom i n) ≡ false → i ≤ k → k < i + n → f k ≡ false
-unfolding any upFrom
-any-false f i zero k e h l = absurd (let w : ⊥ = omega arith in w)
-any-false f i (suc n) k e h l =
-    let w = or-false (f i) (any f (upFrom (suc i) n)) e in
-    go (ℕ-discrete i k) (w .0) (λ x. any-false f (suc i) n k (w .1) x (omega arith))
-  where
-    go : Dec (i ≡ k) → f i ≡ false → (suc i ≤ k → f k ≡ false) → f k ≡ false
-    go (yes q) a b = ap f (sym q) ∙ a
-    go (no q) a b = b (lt-of-le-ne h q)
 
 module _ (p : Params) (k : Disk) (m : Memory) (d s : ℕ) (r : Ready p k m d s) where
   abbrev slot : ℕ
@@ -238,7 +215,7 @@ module _ (p : Params) (k : Disk) (m : Memory) (d s : ℕ) (r : Ready p k m d s) 
   unfolding misplaced
   pointer-data =
       let n = pointerAt (seen p k) d (zoneOn segment d) in
-      let c = and-left (between 1 (p .S) n) (eqb (group p (n - 1)) (group p s)) (not-false! (between 1 (p .S) n && eqb (group p (n - 1)) (group p s)) (faults .0)) in
+      let c = and-left (between 1 (p .S) n) (eqb (group p (n - 1)) (group p s)) (not-false (between 1 (p .S) n && eqb (group p (n - 1)) (group p s)) (faults .0)) in
       let q = pointer-view p k d (zoneOn segment d) (r .drive-low) zone-low (r .whole) in
       (omega (arith, q, between-low 1 (p .S) n c), omega (arith, q, between-high 1 (p .S) n c))
 

@@ -2,7 +2,7 @@
 use mathlib.Core.Path.{_≡_, refl, ap, _∙_}
 use mathlib.Core.List.{List, [], _∷_, map}
 use mathlib.Core.Bool.{cond}
-use Prim.Native.Nat.{ℕ, zero, suc, _+_, _*_, _≤_, _<_}
+use Prim.Native.Nat.{ℕ, _+_, _*_, _≤_, _<_}
 use native.Mathlib.Omega.{arith}
 use lib.ListN.{getD, set}
 use lib.Bits.{bitOr}
@@ -12,10 +12,11 @@ use Rattle.spec.specs.Bytes.{part}
 use Rattle.spec.specs.Drives.{View, zoneOn}
 use Rattle.spec.specs.Landing.{ready, completes, flightRec, serialAt, landedCand, landedCands, writesIn}
 use Rattle.spec.specs.Layout.{mkRec, dataPosition, dataDrive, isData}
-use Rattle.spec.specs.Lists.{below, upFrom, only}
+use Rattle.spec.specs.Lists.{below, only}
 use Rattle.spec.specs.Memory.{mkState, cell, stripeIn, filledIn, landedIn, isWrite, entryIn, entriesIn, offsetIn, isFull, landedMask}
 use Rattle.spec.specs.Params.{placeOf}
 use Rattle.spec.specs.Parity.{parityRec}
+use Rattle.law_basic.specs.Ranges.{map-below-same}
 use Rattle.law_basic.specs.Splice.{getD-part}
 use Rattle.mem_rows.specs.declared.Row.{Row}
 use Rattle.mem_rows.specs.Rows.{rowOf}
@@ -61,18 +62,6 @@ alone-offset r d = let e : 8 * 0 + d ≡ d = omega arith in ap (λ (x : ℕ). ge
 
 -- ---- the questions, of the row of eighth i
 
-map-upFrom-same : {A : Type 0} (f g : ℕ → A) (j n : ℕ) → ((k : ℕ) → k < j + n → f k ≡ g k) → map f (upFrom j n) ≡ map g (upFrom j n)
-unfolding upFrom
-map-upFrom-same f g j zero h = refl
-map-upFrom-same f g j (suc n) h =
-    let a = h j (omega arith) in
-    let b = map-upFrom-same f g (suc j) n (λ k l. h k (omega arith)) in
-    λ t. a t ∷ b t
-
-map-below-lower : {A : Type 0} (f g : ℕ → A) (n : ℕ) → ((k : ℕ) → k < n → f k ≡ g k) → map f (below n) ≡ map g (below n)
-unfolding below
-map-below-lower f g n h = map-upFrom-same f g 0 n (λ k l. h k (omega arith))
-
 module _ (st : State) (i : ℕ) where
   abbrev me : State
   me = alone (rowOf st i)
@@ -104,7 +93,7 @@ module _ (st : State) (i : ℕ) where
   unfolding entriesIn
   row-entries h =
       ap (λ (n : ℕ). map (entryIn me 0) (below n)) row-filled
-      ∙ map-below-lower (entryIn me 0) (entryIn st i) (filledIn st i) (λ k l. row-entry k (omega arith))
+      ∙ map-below-same (entryIn me 0) (entryIn st i) (filledIn st i) (λ k l. row-entry k (omega arith))
 
   pub row-ready : (p : Params) (d : ℕ) → ready p (alone (rowOf st i)) 0 d ≡ ready p st i d
   unfolding alone rowOf ready stripeIn landedIn filledIn isFull
@@ -148,4 +137,4 @@ module _ (st : State) (i : ℕ) where
   unfolding landedCands
   row-cands p v g h l =
       ap (λ (n : ℕ). map (landedCand p v g me 0) (below n)) row-filled
-      ∙ map-below-lower (landedCand p v g me 0) (landedCand p v g st i) (filledIn st i) (λ k m. row-cand p v g k (omega arith) (l k m))
+      ∙ map-below-same (landedCand p v g me 0) (landedCand p v g st i) (filledIn st i) (λ k m. row-cand p v g k (omega arith) (l k m))

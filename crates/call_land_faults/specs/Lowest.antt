@@ -1,8 +1,8 @@
 -- The lowest bad zone of a landing (01, Refusals, 9). Assumes nothing.
-use mathlib.Core.Path.{_≡_, refl, sym, ap, ap₂, _∙_}
+use mathlib.Core.Path.{_≡_, refl, sym, ap, _∙_}
 use mathlib.Core.List.{List, [], _∷_, _++_, map}
 use mathlib.Core.Bool.{Bool, true, false, cond, not, _&&_, _||_}
-use Prim.Native.Nat.{ℕ, zero, suc, _+_, _-_, _/_, min, _≤_, _<_}
+use Prim.Native.Nat.{ℕ, _+_, _-_, _/_, min, _≤_, _<_}
 use native.Mathlib.Nat.{mod-lt}
 use borrow.Author.Tests.{le-leb, lt-leb, lt-ltb, le-ltb, eq-eqb, ne-eqb, ltb-true}
 use native.Mathlib.Omega.{arith}
@@ -23,7 +23,7 @@ use Rattle.spec.specs.Params.{between, footers, capacity, imageLen, pointersLen
 use Rattle.spec.specs.Read.{placeFaults}
 use Rattle.law_views.specs.Views.{pointer-view}
 use Rattle.law_basic.specs.Geometry.{Ranged, zone-on-lt}
-use Rattle.law_basic.specs.Ranges.{and-left, and-both, upFrom-step, upFrom-end, below-start, all-append, all-hit, all-none, flat-none, flat-cons}
+use Rattle.law_basic.specs.Ranges.{and-left, and-both, upFrom-step, upFrom-end, below-start, all-append, all-hit, all-none, flat-none, flat-cons, any-upFrom-same}
 
 -- ---- the least of a list, from a start
 
@@ -127,11 +127,6 @@ module _ (p : Params) (r : Ranged p) (v : View) where
 -- drive e's zone has no room for its footers, once the chunk is on drive d
 unfoldable pub overBy : Params → List ℕ → ℕ → ℕ → ℕ → Bool
 overBy p ps d g e = ltb (capacity p) (pointerOf p ps e (zoneOn g e) + cond (eqb e d) 1 0 + footers p)
-
-any-upFrom-same : (f g : ℕ → Bool) (i n : ℕ) → ((k : ℕ) → i ≤ k → k < i + n → f k ≡ g k) → any f (upFrom i n) ≡ any g (upFrom i n)
-unfolding any upFrom
-any-upFrom-same f g i zero h = refl
-any-upFrom-same f g i (suc n) h = ap₂ _||_ (h i (omega arith) (omega arith)) (any-upFrom-same f g (suc i) n (λ k a b. h k (omega arith) (omega arith)))
 
 module _ (p : Params) (im ps : List ℕ) (h : length im ≡ imageLen p) (g : length ps ≡ pointersLen p) where
   pub over-view : (d z : ℕ) → z < p .Z → any (overBy p ps d z) (below (p .N)) ≡ overfull p (viewOf p im ps) d z

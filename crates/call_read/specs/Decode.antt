@@ -2,12 +2,10 @@
 use Rattle.law_basic.specs.Splice.{length-part}
 use Rattle.spec.specs.Layout.{group, compactEntry}
 use Rattle.mem_lookup.specs.Shown.{shows, shown-list}
-use lib.Arith.{lt-of-le-ne}
-use native.Mathlib.Decide.{ℕ-discrete}
 use mathlib.Core.Path.{_≡_, refl, sym, ap, _∙_, subst}
 use mathlib.Core.List.{List, [], _∷_, _++_, map, append-nil}
-use mathlib.Core.Bool.{Bool, true, false, cond, not, _&&_, _||_}
-use Prim.Native.Nat.{ℕ, zero, suc, _+_, _≤_, _<_, _*_, _-_}
+use mathlib.Core.Bool.{Bool, true, false, cond, not, _&&_}
+use Prim.Native.Nat.{ℕ, zero, suc, _+_, _<_, _*_, _-_}
 use borrow.Author.Tests.{ltb-true}
 use native.Mathlib.Omega.{arith}
 use lib.Dec.{eqb, ltb}
@@ -21,7 +19,7 @@ use Rattle.spec.specs.Params.{inRange, capacity, placeOf, placeByte, drivesOf, 
 use Rattle.spec.specs.Parity.{Piece, parityPiece}
 use Rattle.spec.specs.Read.{shown, storedAt, decodedAt}
 use Rattle.law_basic.specs.Geometry.{data-below, ranged, block-within}
-use Rattle.law_basic.specs.Ranges.{Test, test, not-both, map-append, map-map, keep-below-snoc, first-passes, and-left}
+use Rattle.law_basic.specs.Ranges.{Test, test, not-both, map-append, map-map, keep-below-snoc, first-passes, and-left, any-map, any-false}
 use Rattle.law_basic.specs.Ranges.Test.{yes!, no! }
 use Rattle.law_basic.specs.Xor.{AllLong, parity-none, parity-snoc}
 use Rattle.law_views.specs.Views.{block-view, Whole, seen}
@@ -41,11 +39,6 @@ unfolding decodedAt parityPiece storedAt present drivesOf shownBlock
 decoded-is p v gone cs z s =
     ap (parity (p .B)) (map-map (λ (q : Piece). q .block) (λ d. storedAt p v gone d z (firstOr 0 (shownAt p v cs d z s))) (presentBelow gone (p .N)))
 
-any-mapped : {A B : Type 0} (f : B → Bool) (g : A → B) (l : List A) → any f (map g l) ≡ any (λ (a : A). f (g a)) l
-unfolding any
-any-mapped f g [] = refl
-any-mapped f g (a ∷ l) = ap (λ (x : Bool). f (g a) || x) (any-mapped f g l)
-
 -- 01, Refusals, 9: a drive that is present and does not show the stripe
 abbrev pub hides : Params → View → ℕ → List ℕ → ℕ → ℕ → ℕ → Bool
 hides p v gone cs z s d = not (isIn gone d) && isNil (shownAt p v cs d z s)
@@ -53,26 +46,11 @@ hides p v gone cs z s d = not (isIn gone d) && isNil (shownAt p v cs d z s)
 pub hidden-any : (p : Params) (v : View) (gone : ℕ) (cs : List ℕ) (z s : ℕ) → any (hides p v gone cs z s) (below (p .N)) ≡ any isNil (shown p v gone cs z s)
 unfolding shown present drivesOf
 hidden-any p v gone cs z s =
-    sym (any-mapped isNil (λ d. shownAt p v cs d z s) (presentBelow gone (p .N)) ∙ any-keep (λ d. not (isIn gone d)) (λ d. isNil (shownAt p v cs d z s)) (below (p .N)))
-
-or-both : (a b : Bool) → (a || b) ≡ false → (a ≡ false) × (b ≡ false)
-or-both true b h = absurd (not-both true refl h)
-or-both false b h = (refl, h)
-
-none-in-range : (f : ℕ → Bool) (i n k : ℕ) → any f (upFrom i n) ≡ false → i ≤ k → k < i + n → f k ≡ false
-unfolding any upFrom
-none-in-range f i zero k e g h = absurd (let q : ⊥ = omega arith in q)
-none-in-range f i (suc n) k e g h =
-    let o = or-both (f i) (any f (upFrom (suc i) n)) e in
-    go (ℕ-discrete i k) (o .0) (λ l. none-in-range f (suc i) n k (o .1) l (omega arith))
-  where
-    go : Dec (i ≡ k) → f i ≡ false → (i < k → f k ≡ false) → f k ≡ false
-    go (yes q) a b = ap f (sym q) ∙ a
-    go (no q) a b = b (lt-of-le-ne g q)
+    sym (any-map isNil (λ d. shownAt p v cs d z s) (presentBelow gone (p .N)) ∙ any-keep (λ d. not (isIn gone d)) (λ d. isNil (shownAt p v cs d z s)) (below (p .N)))
 
 none-in : (f : ℕ → Bool) (n k : ℕ) → any f (below n) ≡ false → k < n → f k ≡ false
 unfolding below
-none-in f n k e h = none-in-range f 0 n k e (omega arith) (omega arith)
+none-in f n k e h = any-false f 0 n k e (omega arith) (omega arith)
 
 -- a present drive shows the stripe
 pub shown-on : (p : Params) (v : View) (gone : ℕ) (cs : List ℕ) (z s d : ℕ) → any isNil (shown p v gone cs z s) ≡ false → d < p .N → isIn gone d ≡ false

@@ -1,6 +1,5 @@
 -- The checks of both reads one after the other: each refuses, or leaves it to the next (01, Refusals). Assumes nothing.
-use native.Mathlib.Nat.{zero-min}
-use mathlib.Core.Path.{_≡_, refl, sym, ap, _∙_}
+use mathlib.Core.Path.{_≡_, sym, ap, _∙_}
 use mathlib.Core.List.{List, [], _∷_, _++_}
 use mathlib.Core.Bool.{Bool, true, false, not, _&&_}
 use Prim.Native.Nat.{ℕ, suc, _≤_, _<_}
@@ -14,19 +13,13 @@ use Rattle.spec.specs.Calls.Check.{zones}
 use Rattle.spec.specs.Calls.{Check, ninth, firstRefusal}
 use Rattle.spec.specs.Drives.{Disk}
 use Rattle.spec.specs.Engine.{lentOk}
-use Rattle.spec.specs.Lists.{Opt, least}
+use Rattle.spec.specs.Lists.{Opt}
 use Rattle.spec.specs.Lists.Opt.{some}
 use Rattle.spec.specs.Memory.{Memory, stateOk, stateFaults}
 use Rattle.spec.specs.Params.{inRange}
 use Rattle.spec.specs.Read.{Found, lookup, foundFaults, readChecks}
 use Rattle.law_views.specs.Views.{seen}
-use Rattle.law_calls.specs.Refusals.{rule-fails, rule-passes, state-fault, state-fine}
-
--- 01, Refusals, 9: no zone is below zone 0
-least-zero : (l : List ℕ) → least 0 l ≡ 0
-unfolding least
-least-zero [] = refl
-least-zero (k ∷ l) = ap (λ (x : ℕ). least x l) (zero-min k) ∙ least-zero l
+use Rattle.law_calls.specs.Refusals.{rule-fails, rule-passes, state-fault, state-fine, least-zero}
 
 module _ (p : Params) (k : Disk) (m : Memory) (a n : ℕ) where
   -- 01, Read: where the address lies

@@ -1,12 +1,11 @@
 -- What is so where no check of both reads holds (01, Read; Refusals). Assumes nothing.
 use Rattle.call_read.specs.Order.{refusal, found}
 use Rattle.spec.specs.Calls.{Check}
-use mathlib.Core.Path.{_≡_, refl, ap}
+use mathlib.Core.Path.{_≡_}
 use mathlib.Core.List.{List, [], _∷_, _++_}
-use mathlib.Core.Bool.{Bool, true, false, not, _&&_}
-use Prim.Native.Nat.{ℕ, suc, _<_}
-use borrow.Author.Tests.{leb-false, eqb-true}
-use native.Mathlib.Omega.{arith}
+use mathlib.Core.Bool.{true, not, _&&_}
+use Prim.Native.Nat.{ℕ, _<_}
+use borrow.Author.Tests.{leb-false, eqb-true, not-false}
 use lib.Dec.{leb, eqb}
 use lib.ListN.{length}
 use Rattle.spec.specs.declared.Params.{Params}
@@ -18,7 +17,7 @@ use Rattle.spec.specs.Memory.{Memory, stateFaults}
 use Rattle.spec.specs.Params.{inRange, addressesLen, compactLen}
 use Rattle.spec.specs.Read.{foundFaults, readChecks}
 use Rattle.law_basic.specs.Geometry.{ranged}
-use Rattle.law_basic.specs.Ranges.{and-left, and-right, not-both}
+use Rattle.law_basic.specs.Ranges.{and-left, and-right, right-nil}
 use Rattle.law_views.specs.Views.{Whole, seen}
 use Rattle.law_calls.specs.Refusals.{rule-free, zones-free}
 use Rattle.call_write.specs.Ready.{lent-long}
@@ -31,14 +30,6 @@ pub record Ready (p : Params) (k : Disk) (m : Memory) (a n : ℕ) : Type 0 where
   pub block-long : n ≡ p .B
   pub address-low : a < p .L
   pub faultless : foundFaults p (seen p k) (m .state .missing) (found p k m a n) ≡ []
-
-not-false! : (a : Bool) → not a ≡ false → a ≡ true
-not-false! true h = refl
-not-false! false h = absurd (not-both true refl h)
-
-right-nil : (zs ws : List ℕ) → zs ++ ws ≡ [] → ws ≡ []
-right-nil [] ws e = e
-right-nil (z ∷ zs) ws e = absurd (let q : _≡_ {A = ℕ} (suc (length (zs ++ ws))) 0 = ap length e in let w : ⊥ = omega arith in w)
 
 pub ready : (p : Params) (k : Disk) (m : Memory) (a n : ℕ) → refusal p k m a n ≡ none → Ready p k m a n
 unfolding readChecks
@@ -53,10 +44,10 @@ ready p k m a n e =
     let f₂ = rule-free 2 (not long) r₄ (f₁ .1) in
     let f₄ = rule-free 4 (leb (p .L) a) r₉ (f₂ .1) in
     let f₉ = zones-free zs [] (f₄ .1) in
-    let h = not-false! long (f₂ .0) in
+    let h = not-false long (f₂ .0) in
     let l = lent-long p k m (and-left (lentOk p k m) (eqb n (p .B)) h) in
     record {
-      ranged = not-false! (inRange p) (f₁ .0);
+      ranged = not-false (inRange p) (f₁ .0);
       whole = record { image-long = l .0; pointers-long = l .1 };
       addresses-long = l .2;
       compact-long = l .3;

@@ -14,8 +14,8 @@ use Rattle.spec.specs.declared.Answer.{Answer}
 use Rattle.spec.specs.declared.Answer.the-variants.{Refused, BadZone}
 use Rattle.spec.specs.declared.Params.{Params}
 use Rattle.spec.specs.declared.State.{State}
-use Rattle.law_basic.specs.Ranges.{not-both, keep-none}
-use Rattle.law_calls.specs.Refusals.{zones-pass, none-left, state-fault, state-fine, rule-fails, rule-passes}
+use Rattle.law_basic.specs.Ranges.{keep-none, nil-is}
+use Rattle.law_calls.specs.Refusals.{zones-pass, none-left, state-fault, state-fine, rule-fails, rule-passes, least-zero}
 use Rattle.call_reclaim.specs.declared.Choice.{Choice}
 use Rattle.call_reclaim.specs.declared.Choice.the-variants.{Refuse, Clear, Copy}
 use Rattle.call_reclaim_victim.specs.Waiting.{isOdd}
@@ -26,7 +26,6 @@ use lib.ListN.{length, drop}
 use mathlib.Core.Bool.{Bool, true, false, cond, not, _&&_, _||_}
 use mathlib.Core.List.{List, [], _∷_, _++_, map}
 use mathlib.Core.Path.{_≡_, refl, sym, ap, ap₂, _∙_}
-use native.Mathlib.Nat.{zero-min}
 use native.Mathlib.Omega.{arith}
 
 -- 01, Refusals: the first check of a reclaim that holds, on what it is lent
@@ -130,11 +129,6 @@ module _ (p : Params) (v : View) (st : State) where
 
 -- ---- bad zones
 
-least-zero : (l : List ℕ) → least 0 l ≡ 0
-unfolding least
-least-zero [] = refl
-least-zero (n ∷ l) = ap (λ (x : ℕ). least x l) (zero-min n) ∙ least-zero l
-
 least-same : (g : ℕ) (l : List ℕ) → least g (map (λ q. g) l) ≡ g
 unfolding least
 least-same g [] = refl
@@ -174,11 +168,6 @@ odd-zones f g l = go (keep f l) ∙ ap (λ (x : Bool). cond x (some (BadZone g))
     go : (m : List ℕ) → firstRefusal (zones (map (λ q. g) m) ∷ []) ≡ cond (not (isNil m)) (some (BadZone g)) none
     go [] = refl
     go (x ∷ m) = ap (λ (n : ℕ). some (BadZone n)) (least-same g m)
-
-nil-is : {A : Type 0} (l : List A) → isNil l ≡ true → l ≡ []
-unfolding isNil
-nil-is [] h = refl
-nil-is (a ∷ l) h = absurd (not-both false h refl)
 
 -- ---- from 5 on
 

@@ -1,5 +1,5 @@
 -- A segment's rows of the compact table zeroed, and its zones reset (01, Reclaim; What a zone holds). Assumes nothing.
-use Prim.Native.Nat.{ℕ, _+_, _-_, _*_, _≤_, _<_}
+use Prim.Native.Nat.{ℕ, _+_, _-_, _≤_, _<_}
 use Rattle.spec.specs.Answers.{kind, isRefused, isCut}
 use Rattle.spec.specs.Bytes.{splice}
 use Rattle.spec.specs.Calls.{mkAfter, cutMemory, outcome}
@@ -11,7 +11,6 @@ use Rattle.spec.specs.Params.{addressesLen, compactLen, drivesOf}
 use Rattle.spec.specs.Reclaim.{clearedRow, cleared, resetPlan}
 use Rattle.spec.specs.declared.Answer.the-variants.{Cut, Reset}
 use Rattle.spec.specs.declared.Params.{Params}
-use Rattle.law_basic.specs.Geometry.{item, zone-index-lt}
 use Rattle.law_basic.specs.Ranges.{upFrom-step, upFrom-end, below-start}
 use Rattle.law_basic.specs.Stores.{done-all, cut-prefix}
 use Rattle.mem_rows.specs.Rows.{stateAfter, afterChange, frontOf, keptAs, after-done, changed-none}
@@ -23,7 +22,6 @@ use lib.ListN.{length, replicate}
 use mathlib.Core.Bool.{true, false}
 use mathlib.Core.List.{List, []}
 use mathlib.Core.Path.{_≡_, refl, sym, ap, _∙_}
-use native.Mathlib.Omega.{arith}
 
 module _ (p : Params) (g : ℕ) where
   pub rows-start : (cs : List ℕ) → cleared p g (upFrom 0 (p .N - 0)) cs ≡ cleared p g (drivesOf p) cs
@@ -38,11 +36,6 @@ module _ (p : Params) (g : ℕ) where
   pub rows-end : (d : ℕ) (cs : List ℕ) → p .N ≤ d → cs ≡ cleared p g (upFrom d (p .N - d)) cs
   unfolding cleared
   rows-end d cs h = sym (ap (λ (l : List ℕ). cleared p g l cs) (upFrom-end d (p .N) h))
-
--- a row lies within the table
-pub row-within : (p : Params) (d z : ℕ) → d < p .N → z < p .Z → compactAt p d z 0 + p .S ≤ compactLen p
-unfolding compactAt compactLen
-row-within p d z hd hz = omega (arith, item (d * p .Z + z) (p .N * p .Z) (p .S) (zone-index-lt p d z hd hz))
 
 -- ---- the two ends of a reset
 

@@ -14,15 +14,15 @@ use Rattle.spec.specs.Reclaim.{tableFaults, Victim, victim, isNone, victimSegme
 use Rattle.spec.specs.Write.{opens, noSerial, mustWait, scarce}
 use Rattle.spec.specs.declared.Params.{Params}
 use Rattle.spec.specs.declared.State.{State}
-use Rattle.law_basic.specs.Ranges.{and-both, not-both}
-use Rattle.law_calls.specs.Refusals.{rule-free, zones-free, state-free, call-refused}
+use Rattle.law_basic.specs.Ranges.{and-both, not-both, and-fails}
+use Rattle.law_calls.specs.Refusals.{rule-free, zones-free, state-free, call-refused, next-low}
 use Rattle.call_reclaim.specs.Choosing.{refusal}
 use Rattle.call_copy.specs.Copying.{CopyReady}
 use Rattle.mem_rows.specs.Refused.{refused-keeps}
 use Rattle.mem_rows.specs.Rows.{afterChange}
 use Rattle.mem_rows.specs.declared.Change.{Change}
 use Rattle.law_views.specs.Views.{Whole, seen}
-use Rattle.call_write.specs.Ready.{lent-long, next-low}
+use Rattle.call_write.specs.Ready.{lent-long}
 use borrow.Author.Tests.{eq-eqb, leb-false, not-false}
 use lib.Dec.{eqb}
 use lib.ListN.{length, drop}
@@ -35,10 +35,6 @@ use native.Mathlib.Omega.{arith}
 enough : (p : Params) (v : View) → scarce p v 1 ≡ false → 0 < length (emptyZones p v)
 unfolding scarce
 enough p v h = omega (arith, leb-false (length (emptyZones p v)) 1 h)
-
-and-none : (a b : Bool) → a ≡ true → (a && b) ≡ false → b ≡ false
-and-none true b h e = e
-and-none false b h e = absurd (not-both true refl (sym h))
 
 module _ (p : Params) (k : Disk) (m : Memory) (none! : refusal p k m ≡ none) where
   abbrev w : Opt Victim
@@ -85,7 +81,7 @@ module _ (p : Params) (k : Disk) (m : Memory) (none! : refusal p k m ≡ none) w
       let f₈ = rule-free 8 (live && opens p st && scarce p v 1) (drop 7 cs) (f₇ .1) in
       let zs = stateFaults p st ++ tableFaults p (m .addresses) ++ map (λ q. victimSegment w) (keep (λ q. not (between 1 (p .S) (placeBlock p q))) (victimLive w)) in
       let f₉ = zones-free zs [] (f₈ .1) in
-      let s₆ : (opens p st && eqb (st .serial .0) lastCount) ≡ false = and-none live (opens p st && eqb (st .serial .0) lastCount) a (f₆ .0) in
+      let s₆ : (opens p st && eqb (st .serial .0) lastCount) ≡ false = and-fails live (opens p st && eqb (st .serial .0) lastCount) (f₆ .0) a in
       let l = lent in
       record {
         in-range = l .in-range;
@@ -94,8 +90,8 @@ module _ (p : Params) (k : Disk) (m : Memory) (none! : refusal p k m ≡ none) w
         compact-long = l .compact-long;
         inflight-long = l .inflight-long;
         serial-left = λ q s. not-both (opens p st && eqb (st .serial .0) lastCount) (and-both (opens p st) (eqb (st .serial .0) lastCount) q (eq-eqb (st .serial .0) lastCount s)) s₆;
-        waits = and-none live (mustWait p st) a (f₇ .0);
-        empties = λ q. enough p v (and-none (live && opens p st) (scarce p v 1) (and-both live (opens p st) a q) (f₈ .0));
+        waits = and-fails live (mustWait p st) (f₇ .0) a;
+        empties = λ q. enough p v (and-fails (live && opens p st) (scarce p v 1) (f₈ .0) (and-both live (opens p st) a q));
         next-high =
             next-low p st (state-free p st (front (stateFaults p st) (tableFaults p (m .addresses))
             (map (λ q. victimSegment w) (keep (λ q. not (between 1 (p .S) (placeBlock p q))) (victimLive w))) (f₉ .0)));

@@ -6,7 +6,7 @@ use Rattle.spec.specs.Lists.{upFrom, below, consIf, keep}
 use Rattle.spec.specs.Memory.{placeAt}
 use Rattle.spec.specs.Params.{capacity, placeZone}
 use Rattle.spec.specs.declared.Params.{Params}
-use Rattle.law_basic.specs.Geometry.{Ranged, capacity-low}
+use Rattle.law_basic.specs.Geometry.{Ranged, capacity-low, zone-low}
 use Rattle.law_basic.specs.Ranges.{Test, test, keep-upFrom-same, keep-below-same, and-both}
 use Rattle.law_basic.specs.Ranges.Test.{yes!, no! }
 use Rattle.mem_marks.specs.Marks.{isPointed, pointed-none, pointed-more}
@@ -20,7 +20,7 @@ use mathlib.Core.List.{List}
 use mathlib.Core.Path.{_≡_, refl, sym, ap, _∙_, subst}
 use mir.Val.{boolByte}
 use native.Mathlib.Decide.{decLt}
-use native.Mathlib.Nat.{mod-lt, div-lt-iff-lt-mul}
+use native.Mathlib.Nat.{div-lt-iff-lt-mul}
 use native.Mathlib.Omega.{arith}
 
 -- 01, The array: the segment of each zone of all drives
@@ -61,11 +61,6 @@ zones-more p segments n z fits e so t h = go (test (eqb t n))
     go (no! q) = let w : t ≡ n → ⊥ = eqb-false t n q in getD-set-other segments n t z 0 w ∙ so t (lt-of-le-ne (omega arith) w)
 
 module _ (p : Params) (r : Ranged p) where
-  -- a place's segment is one of them
-  pub zone-low : (q : ℕ) → placeZone p q < p .Z
-  unfolding placeZone
-  zone-low q = mod-lt (q / capacity p) (omega (arith, r .zones-low))
-
   -- and the number of its zone says it
   pub zone-told : (segments : List ℕ) → Zones p segments (p .N * p .Z) → (q : ℕ) → q < p .N * p .Z * capacity p → getD segments (q / capacity p) 0 ≡ placeZone p q
   unfolding placeZone

@@ -3,13 +3,14 @@ use Prim.Native.Nat.{ℕ, zero, suc, _+_, _-_, _*_, _/_, _%_, _^_, min, max, _�
 use Rattle.spec.specs.Counts.{neverPlace}
 use Rattle.spec.specs.Drives.{zoneOn}
 use Rattle.spec.specs.History.{step}
-use Rattle.spec.specs.Lists.{upFrom, below, any, isMember, consIf, keep, flat}
+use Rattle.spec.specs.Lists.{upFrom, below, isMember, consIf, keep, flat}
 use Rattle.spec.specs.Memory.{placeAt}
 use Rattle.spec.specs.Params.{capacity, placeOf, placeBlock, placeZone, placeDrive, drivesOf}
 use Rattle.spec.specs.Reclaim.{placesIn, segmentPlaces, liveIn}
 use Rattle.spec.specs.declared.Params.{Params}
 use Rattle.law_basic.specs.Geometry.{prod-le, Ranged, capacity-low, capacity-high, zones-all}
-use Rattle.law_basic.specs.Ranges.{Test, test, upFrom-add, below-none, length-below, any-same, keep-append, keep-none, keep-below-same, length-keep, flat-none, flat-below-snoc, keep-below-snoc}
+use Rattle.law_basic.specs.Ranges.{Test, test, upFrom-add, below-none, length-below, any-same, keep-append, keep-none, keep-below-same, length-keep, flat-none}
+use Rattle.law_basic.specs.Ranges.{flat-below-snoc, keep-below-snoc, any-map, below-split}
 use Rattle.law_basic.specs.Ranges.Test.{yes!, no! }
 use Rattle.mem_marks.specs.Marks.{marked, isPointed, Marks, shifted}
 use Rattle.law_scans.specs.Scans.{any-keep}
@@ -18,11 +19,11 @@ use lib.Arith.{digits-div, digits-mod, lt-of-le-ne}
 use lib.Dec.{eqb}
 use lib.ListN.{length, getD, set, length-append}
 use lib.Seq.{getD-set-same, getD-set-other}
-use mathlib.Core.Bool.{Bool, true, false, cond, not, _&&_, _||_, and-false}
+use mathlib.Core.Bool.{Bool, true, false, cond, not, _&&_, and-false}
 use mathlib.Core.List.{List, [], _∷_, _++_, map, append-nil}
 use mathlib.Core.Path.{_≡_, refl, sym, ap, ap₂, _∙_}
 use native.Mathlib.Decide.{decLt}
-use native.Mathlib.Nat.{mod-lt, add-zero, zero-add, suc-mul, zero-mul, add-mul, div-add-mod', zero-mod, zero-div, one-mul, le-div-iff-mul-le, div-lt-iff-lt-mul}
+use native.Mathlib.Nat.{mod-lt, add-zero, suc-mul, zero-mul, add-mul, div-add-mod', zero-mod, zero-div, one-mul, le-div-iff-mul-le, div-lt-iff-lt-mul}
 use native.Mathlib.Numerals.{add-one}
 use native.Mathlib.Omega.{arith}
 
@@ -65,10 +66,6 @@ map-shift f x i zero h = refl
 map-shift f x i (suc n) h =
     let e : x + suc i ≡ suc (x + i) = omega arith in
     ap₂ _∷_ (h i) (map-shift f x (suc i) n h ∙ ap (λ (k : ℕ). upFrom k n) e)
-
-below-add : (a b : ℕ) → below (a + b) ≡ below a ++ upFrom a b
-unfolding below
-below-add a b = upFrom-add 0 a b ∙ ap (λ (x : ℕ). upFrom 0 a ++ upFrom x b) (zero-add a)
 
 -- the number after t, counted from 0 to Z - 1 again and again
 pub mod-next : (Z t : ℕ) → 0 < Z → (t + 1) % Z ≡ cond (eqb (t % Z + 1) Z) 0 (t % Z + 1)
@@ -195,7 +192,7 @@ module _ (p : Params) (r : Ranged p) where
       let e : suc n * p .Z * C ≡ n * p .Z * C + p .Z * C = ap (λ (x : ℕ). x * C) (suc-mul n (p .Z)) ∙ add-mul (n * p .Z) (p .Z) C in
       ap (λ (x : ℕ). flat F (below x)) (sym (add-one n)) ∙ flat-below-snoc F n
       ∙ ap₂ _++_ (segment-drives g n h) (sym (places-more g n h))
-      ∙ sym (ap (λ (x : ℕ). keep f (below x)) e ∙ ap (keep f) (below-add (n * p .Z * C) (p .Z * C)) ∙ keep-append f (below (n * p .Z * C)) (upFrom (n * p .Z * C) (p .Z * C)))
+      ∙ sym (ap (λ (x : ℕ). keep f (below x)) e ∙ ap (keep f) (below-split (n * p .Z * C) (p .Z * C)) ∙ keep-append f (below (n * p .Z * C)) (upFrom (n * p .Z * C) (p .Z * C)))
 
   -- 01, Reclaim: the places of a segment
   pub segment-places : (g : ℕ) → g < p .Z → segmentPlaces p g ≡ keep (λ q. eqb (placeZone p q) g) (below (p .N * p .Z * C))
@@ -203,11 +200,6 @@ module _ (p : Params) (r : Ranged p) where
   segment-places g h = segment-drives g (p .N) h
 
 -- ---- the table's places
-
-pub any-map : {A B : Type 0} (f : B → Bool) (g : A → B) (l : List A) → any f (map g l) ≡ any (λ (a : A). f (g a)) l
-unfolding any
-any-map f g [] = refl
-any-map f g (a ∷ l) = ap (λ (x : Bool). f (g a) || x) (any-map f g l)
 
 -- a place of the image is in the table's list just if some address has it
 pub member-places : (p : Params) (tb : List ℕ) (q : ℕ) → q < neverPlace → isMember q (placesIn p tb) ≡ isPointed tb (p .L) q
@@ -271,7 +263,7 @@ pub live-split : (p : Params) (tb : List ℕ) (g a b : ℕ) → a ≤ b → live
 unfolding liveBelow
 live-split p tb g a b h =
     let e : b ≡ a + (b - a) = omega arith in
-    ap (λ (x : ℕ). keep (isLiveIn p tb g) (below x)) e ∙ ap (keep (isLiveIn p tb g)) (below-add a (b - a)) ∙ keep-append (isLiveIn p tb g) (below a) (upFrom a (b - a))
+    ap (λ (x : ℕ). keep (isLiveIn p tb g) (below x)) e ∙ ap (keep (isLiveIn p tb g)) (below-split a (b - a)) ∙ keep-append (isLiveIn p tb g) (below a) (upFrom a (b - a))
 
 module _ (p : Params) (tb ms : List ℕ) (first end : ℕ) (told : Marks tb (p .L) ms first end) where
   -- in a zone of segment z, as many blocks are live as are marked

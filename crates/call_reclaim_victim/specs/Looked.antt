@@ -4,7 +4,7 @@ use Rattle.call_reclaim_live.specs.Fewest.{takenAs, taken-none, taken-some}
 use Rattle.call_reclaim_live.specs.Live.{liveBelow, live-all, places-high}
 use Rattle.spec.specs.Counts.{neverPlace}
 use Rattle.spec.specs.Drives.{View, segmentNumbers, sealedIn}
-use Rattle.spec.specs.Lists.{Opt, any, below, consIf, keep, isNil, firstOr}
+use Rattle.spec.specs.Lists.{Opt, any, below, keep, isNil, firstOr}
 use Rattle.spec.specs.Lists.Opt.{none, some}
 use Rattle.spec.specs.Params.{capacity, placeZone}
 use Rattle.spec.specs.Reclaim.{placesIn, flying, Victim, victimOf, fewest, victim, isNone, victimSegment, victimLive, idle}
@@ -17,11 +17,11 @@ use Rattle.call_reclaim_victim.specs.declared.Idle.{Idle}
 use borrow.Author.Tests.{le-leb, lt-leb, eq-eqb}
 use lib.Dec.{leb, eqb}
 use lib.ListN.{length}
-use mathlib.Core.Bool.{Bool, true, false, not, _||_}
-use mathlib.Core.List.{List, [], _∷_, map}
-use mathlib.Core.Path.{_≡_, refl, sym, ap, _∙_, subst}
+use mathlib.Core.Bool.{Bool, false, not}
+use mathlib.Core.List.{List, map}
+use mathlib.Core.Path.{_≡_, sym, ap, _∙_, subst}
 use native.Mathlib.Omega.{arith}
-use Rattle.law_basic.specs.Ranges.{not-both}
+use Rattle.law_basic.specs.Ranges.{pass-none}
 
 -- what r says of the segment that reclaim takes, with the drives v, the address table tb and the state st
 pub record Looked (p : Params) (v : View) (tb : List ℕ) (st : State) (r : Chosen) : Type 0 where
@@ -100,15 +100,6 @@ module _ (p : Params) (v : View) (tb : List ℕ) (st : State) (g : ℕ) (taken :
         }
 
 -- ---- no segment is sealed
-
-pass-none : {A : Type 0} (f : A → Bool) (l : List A) → any f l ≡ false → keep f l ≡ []
-unfolding keep consIf any
-pass-none f [] e = refl
-pass-none {A} f (a ∷ l) e = go (f a) (pass-none f l) e
-  where
-    go : (b : Bool) → (any f l ≡ false → keep f l ≡ []) → (b || any f l) ≡ false → consIf b a (keep f l) ≡ []
-    go true r q = absurd (not-both true refl q)
-    go false r q = r q
 
 -- then none is taken, whatever the table holds
 pub unsealed : (p : Params) (v : View) (tb : List ℕ) → any (sealedIn p v 0) (below (p .Z)) ≡ false → victim p v tb ≡ takenAs p tb (p .Z)

@@ -1,6 +1,6 @@
 -- Places of the table outside the image (01, Refusals, 9). Assumes nothing.
-use Prim.Native.Nat.{ℕ, zero, suc, _+_, _*_, _/_, _^_, _≤_, _<_}
-use Rattle.call_reclaim_live.specs.Live.{any-map, drive-low}
+use Prim.Native.Nat.{ℕ, suc, _+_, _*_, _/_, _^_, _≤_, _<_}
+use Rattle.call_reclaim_live.specs.Live.{drive-low}
 use Rattle.spec.specs.Bytes.{beOf, part}
 use Rattle.spec.specs.Counts.{neverPlace}
 use Rattle.spec.specs.Lists.{upFrom, below, any, consIf, keep, tally}
@@ -10,7 +10,7 @@ use Rattle.spec.specs.Reclaim.{placesIn, tableFaults}
 use Rattle.spec.specs.declared.Params.{Params}
 use Rattle.law_basic.specs.Be.{beOf-lt}
 use Rattle.law_basic.specs.Geometry.{Ranged, capacity-low}
-use Rattle.law_basic.specs.Ranges.{Test, test}
+use Rattle.law_basic.specs.Ranges.{Test, test, any-map, any-upFrom-same}
 use Rattle.law_basic.specs.Ranges.Test.{yes!, no! }
 use Rattle.law_basic.specs.Splice.{length-part, getD-part}
 use Rattle.law_scans.specs.Scans.{any-keep}
@@ -21,7 +21,7 @@ use lib.Dec.{leb, ltb, eqb}
 use lib.ListN.{length, getD}
 use mathlib.Core.Bool.{Bool, true, false, not, _&&_, _||_}
 use mathlib.Core.List.{List, [], _∷_, map}
-use mathlib.Core.Path.{_≡_, refl, sym, ap, ap₂, _∙_, subst}
+use mathlib.Core.Path.{_≡_, refl, sym, ap, _∙_, subst}
 use native.Mathlib.Decide.{decLe}
 use native.Mathlib.Nat.{le-div-iff-mul-le}
 use native.Mathlib.Omega.{arith}
@@ -49,11 +49,6 @@ any-tally {A} f (a ∷ l) = go (f a) (any-tally f l)
     go true e = sym (ap not (ne-eqb (suc (length (keep f l))) 0 (λ c. omega (arith, c))))
     go false e = e
 
-any-range-same : (f g : ℕ → Bool) (i n : ℕ) → ((k : ℕ) → i ≤ k → k < i + n → f k ≡ g k) → any f (upFrom i n) ≡ any g (upFrom i n)
-unfolding any upFrom
-any-range-same f g i zero h = refl
-any-range-same f g i (suc n) h = ap₂ (λ (x y : Bool). x || y) (h i (omega arith) (omega arith)) (any-range-same f g (suc i) n (λ k a b. h k (omega arith) (omega arith)))
-
 -- a place of 4 bytes
 pub place-fits : (tb : List ℕ) (a : ℕ) → 4 * a + 4 ≤ length tb → ((i : ℕ) → getD tb i 0 < 256) → placeAt tb a < 4294967296
 unfolding placeAt
@@ -72,7 +67,7 @@ outside-count p r tb h bytes =
     ap (λ (b : Bool). consIf b 0 [])
     (any-keep (λ q. not (eqb q neverPlace)) (λ q. leb (p .N) (placeDrive p q)) ps
     ∙ any-map (λ q. not (eqb q neverPlace) && leb (p .N) (placeDrive p q)) (placeAt tb) (upFrom 0 (p .L))
-    ∙ any-range-same (λ a. not (eqb (placeAt tb a) neverPlace) && leb (p .N) (placeDrive p (placeAt tb a))) (λ a. isWithin all! neverPlace (placeAt tb a)) 0 (p .L)
+    ∙ any-upFrom-same (λ a. not (eqb (placeAt tb a) neverPlace) && leb (p .N) (placeDrive p (placeAt tb a))) (λ a. isWithin all! neverPlace (placeAt tb a)) 0 (p .L)
     (λ a x y. one (placeAt tb a) (place-fits tb a (omega arith) bytes))
     ∙ sym (any-map (isWithin all! neverPlace) (placeAt tb) (upFrom 0 (p .L)))
     ∙ any-tally (isWithin all! neverPlace) ps)

@@ -44,7 +44,7 @@ use mathlib.Core.Bool.{Bool, true, false, cond}
 use mathlib.Core.List.{List, [], _++_, map}
 use mathlib.Core.Path.{_≡_, refl, sym, ap, _∙_, subst}
 use native.Mathlib.Decide.{ℕ-discrete}
-use native.Mathlib.Omega.{arith}
+use Rattle.law_drives.specs.Checks.{some-none}
 
 -- 01, Restart: what is due, by the missing drives
 unfoldable pub restartDue : Params → View → ℕ → List Segment → List ℕ → Plan
@@ -114,20 +114,17 @@ pub record Settles (p : Params) (gone n : ℕ) (k : Disk) (t : Taken) (k′ : Di
   pub view-is : checked (t .check) ≡ none → t .cut ≡ false → seen p k′ ≡ storeAll storeView (restartStores p gone (segments p (seen p k) gone)) (seen p k)
   pub good : checked (t .check) ≡ none → t .cut ≡ false → any (recsFault p gone) (segments p (seen p k′) gone) ≡ false
 
-not-some : (a : Answer) {X : Type 0} → some a ≡ none → X
-not-some a e = absurd (let z : _≡_ {A = ℕ} 0 1 = cc in let w : ⊥ = omega arith in w)
-
 pub settles-refused : (p : Params) (gone n : ℕ) (k : Disk) (a : Answer) → some a ≡ firstRefusal (restChecks p gone (segments p (seen p k) gone))
     → Settles p gone n k (record { check = Fail a; cut = false; loose = 0 }) k
 settles-refused p gone n k a e = record {
   first = e;
   same = λ b q. refl;
-  cut-is = λ q. not-some a q;
-  disk-is = λ q. not-some a q;
-  loose-is = λ q. not-some a q;
-  whole-is = λ q c. not-some a q;
-  view-is = λ q c. not-some a q;
-  good = λ q c. not-some a q;
+  cut-is = λ q. some-none q;
+  disk-is = λ q. some-none q;
+  loose-is = λ q. some-none q;
+  whole-is = λ q c. some-none q;
+  view-is = λ q c. some-none q;
+  good = λ q c. some-none q;
 }
 
 -- no bad record in any segment
@@ -186,7 +183,7 @@ module _ (p : Params) (r : Ranged p) (gone n : ℕ) (k : Disk) (w : Whole p k) (
       → Settles p gone n k (record { check = Pass; cut = made .cut; loose = loose }) k′
   settles-stored made k′ loose s el = record {
     first = e;
-    same = λ a q. not-some a (sym q);
+    same = λ a q. some-none (sym q);
     cut-is = λ q. ap (λ (x : Made). x .cut) (s .made) ∙ cut!;
     disk-is = λ q. s .disk;
     loose-is = λ q. el;

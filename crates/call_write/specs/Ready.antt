@@ -1,35 +1,33 @@
 -- What is so where no check of a write holds (01, Write; Refusals). Assumes nothing.
-use Prim.Native.Nat.{ℕ, suc, _^_, _≤_, _<_}
+use Prim.Native.Nat.{ℕ, suc, _≤_, _<_}
 use Rattle.spec.specs.Calls.{Check, firstRefusal}
 use Rattle.spec.specs.Calls.Check.{rule, zones}
 use Rattle.spec.specs.Counts.{lastCount, aStamp}
 use Rattle.spec.specs.Drives.{View, Disk, emptyZones}
 use Rattle.spec.specs.Engine.{lentOk}
-use Rattle.spec.specs.Lists.{Opt, all}
+use Rattle.spec.specs.Lists.{Opt}
 use Rattle.spec.specs.Lists.Opt.{none}
-use Rattle.spec.specs.Memory.{Memory, slots, slotOk, stateOk, stateFaults}
+use Rattle.spec.specs.Memory.{Memory, stateFaults}
 use Rattle.spec.specs.Params.{inRange, imageLen, pointersLen, addressesLen, compactLen, inflightLen}
 use Rattle.spec.specs.Write.{opens, noStamp, noSerial, mustWait, scarce, writeChecks}
 use Rattle.spec.specs.declared.Answer.{Answer}
 use Rattle.spec.specs.declared.Answer.the-variants.{Sent}
 use Rattle.spec.specs.declared.Params.{Params}
-use Rattle.spec.specs.declared.State.{State}
 use Rattle.call_filling.specs.Entries.{SentRow, sentRow}
 use Rattle.call_filling.specs.declared.Aim.{Aim}
 use Rattle.call_filling.specs.declared.Opened.{Opened}
-use Rattle.law_basic.specs.Ranges.{and-left, and-right, and-both, not-both}
-use Rattle.law_calls.specs.Refusals.{rule-free, zones-free, state-free}
+use Rattle.law_basic.specs.Ranges.{and-left, and-right, and-both, not-both, or-false}
+use Rattle.law_calls.specs.Refusals.{rule-free, zones-free, state-free, next-low}
 use Rattle.mem_rows.specs.declared.Change.{Change}
 use Rattle.mem_rows.specs.declared.Front.{Front}
 use Rattle.mem_rows.specs.declared.Row.{Row}
 use Rattle.law_views.specs.Views.{Whole, seen}
-use borrow.Author.Tests.{leb-true, leb-false, eqb-true, eqb-false, eq-eqb}
-use lib.Count.{ones}
-use lib.Dec.{leb, ltb, eqb}
+use borrow.Author.Tests.{leb-false, eqb-true, eqb-false, eq-eqb, not-false}
+use lib.Dec.{leb, eqb}
 use lib.ListN.{length}
 use mathlib.Core.Bool.{Bool, true, false, cond, not, _&&_, _||_}
 use mathlib.Core.List.{List, [], _∷_}
-use mathlib.Core.Path.{_≡_, refl}
+use mathlib.Core.Path.{_≡_}
 use native.Mathlib.Omega.{arith}
 
 -- 01, Refusals: the first check of a write that holds, on what it is lent
@@ -48,14 +46,6 @@ pub record Ready (p : Params) (k : Disk) (m : Memory) (b : List ℕ) : Type 0 wh
   pub waits : mustWait p (m .state) ≡ false
   pub empties : 0 < length (emptyZones p (seen p k))
   pub next-high : m .state .next ≤ p .S
-
-or-none : (a b : Bool) → (a || b) ≡ false → (a ≡ false) × (b ≡ false)
-or-none true b h = absurd (not-both true refl h)
-or-none false b h = (refl, h)
-
-not-false! : (a : Bool) → not a ≡ false → a ≡ true
-not-false! true h = refl
-not-false! false h = absurd (not-both true refl h)
 
 -- the five lengths
 pub lent-long : (p : Params) (k : Disk) (m : Memory) → lentOk p k m ≡ true
@@ -87,16 +77,6 @@ reserve-low : (b : Bool) → 0 < cond {A = ℕ} b 2 1
 reserve-low true = omega arith
 reserve-low false = omega arith
 
--- 01, Refusals, 9: the next stripe number
-pub next-low : (p : Params) (st : State) → stateOk p st ≡ true → st .next ≤ p .S
-unfolding stateOk
-next-low p st h =
-    let a = eqb (st .live) 1 && ltb (st .missing) (2 ^ p .N) && leb (ones (st .missing)) 1 && leb (st .opened) (p .Z) in
-    let b = leb (st .next) (p .S) in
-    let c = all (slotOk p st) slots in
-    let d = all (λ o. ltb o (p .S)) (st .offsets) in
-    leb-true (st .next) (p .S) (and-right a b (and-left (a && b) c (and-left (a && b && c) d h)))
-
 pub ready : (p : Params) (k : Disk) (m : Memory) (a : ℕ) (b : List ℕ) → refusal p k m a b ≡ none → Ready p k m b
 unfolding writeChecks noStamp noSerial
 ready p k m a b e =
@@ -121,16 +101,16 @@ ready p k m a b e =
     let f₇ = rule-free 7 (mustWait p st) r₈ (f₆ .1) in
     let f₈ = rule-free 8 c₈ r₉ (f₇ .1) in
     let f₉ = zones-free (stateFaults p st) [] (f₈ .1) in
-    let o₂ = or-none (not long) (not (eqb (length b) (p .B))) (f₂ .0) in
-    let o₆ = or-none (eqb (st .stamp .0) lastCount) (opens p st && eqb (st .serial .0) lastCount) (f₆ .0) in
-    let l = lent-long p k m (not-false! long (o₂ .0)) in
+    let o₂ = or-false (not long) (not (eqb (length b) (p .B))) (f₂ .0) in
+    let o₆ = or-false (eqb (st .stamp .0) lastCount) (opens p st && eqb (st .serial .0) lastCount) (f₆ .0) in
+    let l = lent-long p k m (not-false long (o₂ .0)) in
     record {
-      ranged = not-false! (inRange p) (f₁ .0);
+      ranged = not-false (inRange p) (f₁ .0);
       whole = record { image-long = l .0; pointers-long = l .1 };
       addresses-long = l .2;
       compact-long = l .3;
       inflight-long = l .4;
-      block-long = eqb-true (length b) (p .B) (not-false! (eqb (length b) (p .B)) (o₂ .1));
+      block-long = eqb-true (length b) (p .B) (not-false (eqb (length b) (p .B)) (o₂ .1));
       stamp-left = eqb-false (st .stamp .0) lastCount (o₆ .0);
       serial-left = λ q s. not-both (opens p st && eqb (st .serial .0) lastCount) (and-both (opens p st) (eqb (st .serial .0) lastCount) q (eq-eqb (st .serial .0) lastCount s)) (o₆ .1);
       waits = f₇ .0;

@@ -13,11 +13,10 @@ use Rattle.spec.specs.Drives.{Chunk, noChunk, zoneAt, chunkAt, viewOf, mkDisk, 
 use Rattle.spec.specs.Layout.{recordOf, footerBlock, footerRecord}
 use Rattle.spec.specs.Lists.{below, flat, padTo}
 use Rattle.spec.specs.Params.{spareLen, perFooter, footers, capacity, unitLen, imageLen, pointersLen, placeOf, placeByte}
-use Rattle.law_basic.specs.Geometry.{item, Ranged, spare-len, block-within, per-footer-low, per-footer-fits, data-below}
+use Rattle.law_basic.specs.Geometry.{item, Ranged, spare-len, block-within, per-footer-low, per-footer-fits, data-below, footer-of}
 use Rattle.law_basic.specs.Ranges.{length-below, map-below-same, getD-map, getD-map-below, flat-snoc}
 use Rattle.law_basic.specs.Splice.{length-part, part-all, part-append-left, part-append-right, splice-zero, splice-next, length-splice, part-splice-in, part-splice-below, part-splice-above}
 use Rattle.law_views.specs.Views.{Whole, blocks-long, spare-view}
-use Rattle.disk_stored.specs.Stored.{footer-of}
 use native.Mathlib.Numerals.{add-one}
 
 -- the spares of a zone's data blocks

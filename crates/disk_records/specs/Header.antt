@@ -15,8 +15,7 @@ use Rattle.spec.specs.Layout.{headerWidths, headerVersion, headerValues, header
 use Rattle.spec.specs.Lists.{total, sameList, padTo, zipped}
 use Rattle.spec.specs.Params.{recordWidths, spareLen, unitLen}
 use Rattle.spec.specs.declared.Params.{Params}
-use Rattle.law_basic.specs.Fields.{widths, length-bytesOf, bytesOf-append, written-is, one-more, nothing-more}
-use Rattle.law_basic.specs.Ranges.{length-padTo}
+use Rattle.law_basic.specs.Fields.{widths, length-bytesOf, bytesOf-append, written-is, one-more, nothing-more, header-long}
 use Rattle.law_basic.specs.Splice.{splice-zero, splice-next}
 
 -- the fields up to the group size; from the stripes to the addresses; the serials
@@ -45,14 +44,6 @@ middle-long p z = length-bytesOf (middle p z)
 pub back-long : (p : Params) (r c : ℕ) → length (bytesOf (back p r c)) ≡ 16
 unfolding back headerFields headerWidths headerValues zipped widths
 back-long p r c = length-bytesOf (back p r c)
-
-pub header-long : (p : Params) (d z r c : ℕ) → length (bytesOf (headerFields p d z r c)) ≡ 41
-unfolding headerFields headerWidths headerValues zipped widths
-header-long p d z r c = length-bytesOf (headerFields p d z r c)
-
-pub header-block-long : (p : Params) (d z r c : ℕ) → 41 ≤ p .B → length (headerBlock p d z r c) ≡ p .B
-unfolding headerBlock
-header-block-long p d z r c h = length-padTo (p .B) (bytesOf (headerFields p d z r c)) (omega (arith, header-long p d z r c))
 
 pub zero-spare-long : length zeroSpare ≡ 20
 unfolding zeroSpare spareLen total recordWidths

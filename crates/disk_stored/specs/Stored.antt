@@ -4,7 +4,7 @@ use mathlib.Core.List.{List, []}
 use mathlib.Core.Bool.{Bool, true, false}
 use Prim.Native.Nat.{ℕ, _+_, _-_, _*_, _/_, _%_, min, _≤_, _<_}
 use native.Mathlib.Omega.{arith}
-use native.Mathlib.Nat.{add-assoc, add-mul, div-one, div-le-self, mod-one, mod-le, mod-lt, mul-comm, div-add-mod', div-lt-iff-lt-mul}
+use native.Mathlib.Nat.{add-assoc, add-mul, div-one, div-le-self, mod-one, mod-le, mod-lt, mul-comm}
 use lib.ListN.{length, getD, drop, length-drop}
 use lib.Seq.{getD-drop}
 use Rattle.spec.specs.Bytes.{part}
@@ -14,7 +14,7 @@ use Rattle.spec.specs.Layout.{recordOf, footerRecord}
 use Rattle.spec.specs.Params.{spareLen, perFooter, footers, capacity, unitLen, imageLen, pointersLen, placeOf, placeByte}
 use Rattle.spec.specs.declared.Params.{Params}
 use Rattle.law_basic.specs.Geometry.{Ranged, prod-le, spare-len, per-footer-low, per-footer-high, per-footer-fits, footers-low, footers-high, capacity-high}
-use Rattle.law_basic.specs.Geometry.{image-high, zones-all, data-below, item, block-within, zone-index-lt}
+use Rattle.law_basic.specs.Geometry.{image-high, zones-all, data-below, item, block-within, zone-index-lt, footer-of}
 use Rattle.law_basic.specs.Ranges.{getD-map}
 use Rattle.law_basic.specs.Splice.{part-part}
 use Rattle.law_views.specs.Views.{Whole, pointer-view, blocks-long, block-view, spare-view}
@@ -68,19 +68,9 @@ begun p r k d z b e hd hz hb =
     }
 
 module _ (p : Params) (r : Ranged p) where
-  -- 01, What a zone holds: the footer block of a data offset, and the record's place in it
-  pub footer-of : (o : ℕ) → o < p .S → o / perFooter p < footers p
-  unfolding footers
-  footer-of o l =
-      let m : 0 < perFooter p = omega (arith, per-footer-low p r) in
-      let x : ℕ = p .S + perFooter p - 1 in
-      let e : x / perFooter p * perFooter p + x % perFooter p ≡ x = div-add-mod' x (perFooter p) in
-      let q : x % perFooter p < perFooter p = mod-lt x m in
-      div-lt-iff-lt-mul m .1 (omega (arith, e, q, l))
-
   pub footer-block-below : (o : ℕ) → o < p .S → 1 + p .S + o / perFooter p < capacity p
   unfolding capacity
-  footer-block-below o l = omega (arith, footer-of o l)
+  footer-block-below o l = omega (arith, footer-of p r o l)
 
   pub first-foot-below : 1 + p .S < capacity p
   unfolding capacity

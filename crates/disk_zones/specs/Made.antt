@@ -16,10 +16,11 @@ use Rattle.spec.specs.Layout.{headerBlock}
 use Rattle.spec.specs.Lists.{upFrom, below}
 use Rattle.spec.specs.Params.{unitLen, placeOf, placeByte, drivesOf}
 use Rattle.spec.specs.declared.Params.{Params}
+use Rattle.law_basic.specs.Fields.{header-block-long}
 use Rattle.law_basic.specs.Geometry.{spare-len}
 use Rattle.law_basic.specs.Ranges.{upFrom-step, upFrom-end, below-start, length-below}
 use Rattle.law_basic.specs.Stores.{stores-append, stores-cons, stores-zero, stores-nil, stores-all}
-use Rattle.disk_records.specs.Header.{header-block-long, zero-spare-long}
+use Rattle.disk_records.specs.Header.{zero-spare-long}
 use Rattle.disk_zones.specs.declared.Made.{Made}
 
 -- of k stores due under the number n: what is left of it, and whether it was too small

@@ -4,9 +4,12 @@ use mathlib.Core.List.{List, [], _∷_, _++_, append-assoc}
 use Prim.Native.Nat.{ℕ, zero, suc, _+_, _^_, _≤_, _<_}
 use native.Mathlib.Omega.{arith}
 use lib.ListN.{length, getD, take, length-append}
+use Rattle.spec.specs.declared.Params.{Params}
 use Rattle.spec.specs.Bytes.{beOf, toBe, part, splice, Field, field, bytesOf, readField}
+use Rattle.spec.specs.Layout.{headerFields, headerBlock, headerWidths, headerValues}
 use Rattle.spec.specs.Lists.{total, zipped}
 use Rattle.law_basic.specs.Be.{length-toBe, beOf-toBe}
+use Rattle.law_basic.specs.Ranges.{length-padTo}
 use Rattle.law_basic.specs.Splice.{length-splice, part-all, part-append-left, part-append-right, splice-nil, splice-next}
 
 -- the fields written one at a time, from index at + k
@@ -76,3 +79,11 @@ pub readField-bytesOf : (ws vs : List ℕ) (i : ℕ) (rest : List ℕ) → i < l
     → readField ws i (bytesOf (zipped field ws vs) ++ rest) ≡ getD vs i 0
 unfolding readField
 readField-bytesOf ws vs i rest h k g = ap beOf (field-part ws vs i rest h k) ∙ beOf-toBe (getD ws i 0) (getD vs i 0) g
+
+pub header-long : (p : Params) (d z r c : ℕ) → length (bytesOf (headerFields p d z r c)) ≡ 41
+unfolding headerFields headerWidths headerValues zipped widths
+header-long p d z r c = length-bytesOf (headerFields p d z r c)
+
+pub header-block-long : (p : Params) (d z r c : ℕ) → 41 ≤ p .B → length (headerBlock p d z r c) ≡ p .B
+unfolding headerBlock
+header-block-long p d z r c h = length-padTo (p .B) (bytesOf (headerFields p d z r c)) (omega (arith, header-long p d z r c))

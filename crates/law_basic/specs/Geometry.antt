@@ -6,7 +6,8 @@ use native.Mathlib.Omega.{arith}
 use native.Mathlib.Decide.{decLt}
 use lib.Arith.{digits-lt, digits-div, digits-mod, lt-of-le-ne}
 use lib.Dec.{leb, ltb, eqb}
-use native.Mathlib.Nat.{suc-mul, mul-assoc, le-of-eq, le-trans, sub-le, mul-le-mul-right, mul-le-mul, div-add-mod', div-mul-le-self, le-div-iff-mul-le, div-lt-iff-lt-mul, lt-div-mul-add}
+use native.Mathlib.Nat.{suc-mul, mul-assoc, le-of-eq, le-trans, sub-le, mul-le-mul-right, mul-le-mul, div-add-mod', div-mul-le-self, le-div-iff-mul-le}
+use native.Mathlib.Nat.{div-lt-iff-lt-mul, lt-div-mul-add, mod-lt, add-mod-right}
 use borrow.Author.Tests.{leb-true, eqb-false, not-true, lt-ltb, le-ltb, le-leb, eq-eqb, ne-eqb}
 use Rattle.spec.specs.Drives.{pointerByte, zoneOn}
 use Rattle.spec.specs.Layout.{parityDrive, dataDrive, dataPosition, isData}
@@ -338,3 +339,26 @@ position-lt p s d k hd = go (decLt d (parityDrive p s))
         let n : parityDrive p s < d = lt-of-le-ne (omega arith) (λ q. other (sym q)) in
         let e : ltb d (parityDrive p s) ≡ false = le-ltb d (parityDrive p s) (omega arith) in
         rw e (omega arith)
+
+-- 01, What a zone holds: the footer block of a data offset
+pub footer-of : (p : Params) → Ranged p → (o : ℕ) → o < p .S → o / perFooter p < footers p
+unfolding footers
+footer-of p r o l =
+    let m : 0 < perFooter p = omega (arith, per-footer-low p r) in
+    let x : ℕ = p .S + perFooter p - 1 in
+    let e : x / perFooter p * perFooter p + x % perFooter p ≡ x = div-add-mod' x (perFooter p) in
+    let q : x % perFooter p < perFooter p = mod-lt x m in
+    div-lt-iff-lt-mul m .1 (omega (arith, e, q, l))
+
+pub row-fits : (p : Params) (d z : ℕ) → d < p .N → z < p .Z → compactAt p d z 0 + p .S ≤ compactLen p
+unfolding compactAt compactLen
+row-fits p d z hd hz = let e : (d * p .Z + z) * p .S + p .S ≤ p .N * p .Z * p .S = item (d * p .Z + z) (p .N * p .Z) (p .S) (digits-lt hd hz) in omega arith
+
+-- the next group's first stripe
+pub base-next : (base n : ℕ) → base % n ≡ 0 → (base + n) % n ≡ 0
+base-next base n e = add-mod-right base n ∙ e
+
+-- a place's segment is one of them
+pub zone-low : (p : Params) → Ranged p → (q : ℕ) → placeZone p q < p .Z
+unfolding placeZone
+zone-low p r q = mod-lt (q / capacity p) (omega (arith, r .zones-low))

@@ -5,6 +5,7 @@ pub mod Ranges
 pub mod Xor
 pub mod Mask
 pub mod Fields
+pub mod Sections
 pub mod Stores
 pub mod Geometry
 pub mod Turns

@@ -9,9 +9,11 @@ use lib.Seq.{drop-cons, drop-drop, ext-getD}
 use lib.ListN.{length, getD, take, drop, set, length-append, replicate, length-replicate, getD-replicate, replicate-append-replicate, drop-of-length-le}
 use lib.Dec.{ltb, eqb, leb·suc-suc}
 use native.Mathlib.Nat.{add-zero, sub-zero, zero-min, zero-max, zero-add, suc-add, add-assoc, zero-mul, suc-mul, add-sub-of-le, suc-min-suc, min-zero, max-zero}
+use native.Mathlib.Decide.{ℕ-discrete}
 use borrow.Author.Tests.{eqb-true, lt-ltb, eq-eqb, ne-eqb}
+use lib.Arith.{lt-of-le-ne}
 use Rattle.spec.specs.Bytes.{part}
-use Rattle.spec.specs.Lists.{upFrom, below, all, any, isMember, consIf, keep, tally, sucUnless, indexOf, flat, total, greatest, firstOr, sameList, padTo, pieces, zipped}
+use Rattle.spec.specs.Lists.{upFrom, below, all, any, isMember, consIf, keep, tally, sucUnless, indexOf, flat, total, greatest, firstOr, sameList, padTo, pieces, zipped, isNil}
 use Rattle.law_basic.specs.Splice.{length-part, getD-part, part-append-left}
 
 -- ---- Booleans: a test and its two cases
@@ -572,3 +574,65 @@ tally-le f n = omega (arith, length-keep f (below n), length-below n)
 
 pub greatest-below-snoc : (f : ℕ → ℕ) (n : ℕ) → greatest (map f (below (n + 1))) ≡ max (greatest (map f (below n))) (f n)
 greatest-below-snoc f n = ap greatest (map-below-snoc f n) ∙ greatest-snoc (map f (below n)) (f n)
+
+pub any-map : {A B : Type 0} (f : B → Bool) (g : A → B) (l : List A) → any f (map g l) ≡ any (λ (a : A). f (g a)) l
+unfolding any
+any-map f g [] = refl
+any-map f g (a ∷ l) = ap (λ (x : Bool). f (g a) || x) (any-map f g l)
+
+-- a range at number m
+pub below-split : (m k : ℕ) → below (m + k) ≡ below m ++ upFrom m k
+unfolding below
+below-split m k = upFrom-add 0 m k ∙ ap (λ (x : ℕ). upFrom 0 m ++ upFrom x k) (zero-add m)
+
+pub any-upFrom-same : (f g : ℕ → Bool) (i n : ℕ) → ((k : ℕ) → i ≤ k → k < i + n → f k ≡ g k) → any f (upFrom i n) ≡ any g (upFrom i n)
+unfolding any upFrom
+any-upFrom-same f g i zero h = refl
+any-upFrom-same f g i (suc n) h =
+    ap₂ (λ (x y : Bool). x || y) (h i (omega arith) (omega arith)) (any-upFrom-same f g (suc i) n (λ k p q. h k (omega arith) (omega arith)))
+
+pub pass-none : {A : Type 0} (f : A → Bool) (l : List A) → any f l ≡ false → keep f l ≡ []
+unfolding keep consIf any
+pass-none f [] e = refl
+pass-none {A} f (a ∷ l) e = go (f a) (pass-none f l) e
+  where
+    go : (b : Bool) → (any f l ≡ false → keep f l ≡ []) → (b || any f l) ≡ false → consIf b a (keep f l) ≡ []
+    go true r q = absurd (not-both true refl q)
+    go false r q = r q
+
+pub or-false : (x y : Bool) → (x || y) ≡ false → (x ≡ false) × (y ≡ false)
+or-false true y q = absurd (not-both true refl q)
+or-false false y q = (refl, q)
+
+pub any-false : (f : ℕ → Bool) (i n k : ℕ) → any f (upFrom i n) ≡ false → i ≤ k → k < i + n → f k ≡ false
+unfolding any upFrom
+any-false f i zero k e h l = absurd (let w : ⊥ = omega arith in w)
+any-false f i (suc n) k e h l =
+    let w = or-false (f i) (any f (upFrom (suc i) n)) e in
+    go (ℕ-discrete i k) (w .0) (λ x. any-false f (suc i) n k (w .1) x (omega arith))
+  where
+    go : Dec (i ≡ k) → f i ≡ false → (suc i ≤ k → f k ≡ false) → f k ≡ false
+    go (yes q) a b = ap f (sym q) ∙ a
+    go (no q) a b = b (lt-of-le-ne h q)
+
+-- a && b fails where a holds
+pub and-fails : (a b : Bool) → (a && b) ≡ false → a ≡ true → b ≡ false
+and-fails true b e q = e
+and-fails false b e q = absurd (not-both false q refl)
+
+pub and-false : (a b : Bool) → b ≡ false → (a && b) ≡ false
+and-false true b e = e
+and-false false b e = refl
+
+pub or-left : (a b : Bool) → (a || b) ≡ false → a ≡ false
+or-left true b h = absurd (not-both true refl h)
+or-left false b h = refl
+
+pub right-nil : (zs ws : List ℕ) → zs ++ ws ≡ [] → ws ≡ []
+right-nil [] ws e = e
+right-nil (z ∷ zs) ws e = absurd (let q : _≡_ {A = ℕ} (suc (length (zs ++ ws))) 0 = ap length e in let w : ⊥ = omega arith in w)
+
+pub nil-is : {A : Type 0} (l : List A) → isNil l ≡ true → l ≡ []
+unfolding isNil
+nil-is [] q = refl
+nil-is (a ∷ l) q = absurd (not-both false q refl)

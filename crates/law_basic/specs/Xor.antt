@@ -149,10 +149,6 @@ pub long-append : (n : ℕ) (bs cs : List (List ℕ)) → AllLong n bs → AllLo
 long-append n [] cs h k = k
 long-append n (b ∷ bs) cs h k = (h .0, long-append n bs cs (h .1) k)
 
-pub long-map : {A : Type 0} (n : ℕ) (f : A → List ℕ) (l : List A) → ((a : A) → length (f a) ≡ n) → AllLong n (map f l)
-long-map n f [] h = tt
-long-map n f (a ∷ l) h = (h a, long-map n f l h)
-
 pub long-upFrom : (n : ℕ) (f : ℕ → List ℕ) (i k : ℕ) → ((j : ℕ) → i ≤ j → j < i + k → length (f j) ≡ n) → AllLong n (map f (upFrom i k))
 unfolding upFrom
 long-upFrom n f i zero h = tt

@@ -1,21 +1,26 @@
 -- Checks in order: the first that holds refuses; a call with none is due (01, Refusals). Assumes nothing.
-use Prim.Native.Nat.{ℕ, _≤_, _<_}
+use Prim.Native.Nat.{ℕ, _≤_, _<_, _^_, min}
 use Rattle.spec.specs.Calls.{Check, ninth, ruled, firstRefusal, Plan, decided, mkAfter, cutMemory, outcome}
 use Rattle.spec.specs.Calls.Check.{rule, zones}
 use Rattle.spec.specs.Drives.{Store, storeAll}
-use Rattle.spec.specs.Lists.{Opt, consIf, least}
+use Rattle.spec.specs.Lists.{Opt, consIf, least, all}
 use Rattle.spec.specs.Lists.Opt.{none, some}
-use Rattle.spec.specs.Memory.{Memory, stateOk, stateFaults}
+use Rattle.spec.specs.Memory.{Memory, stateOk, stateFaults, slots, slotOk}
 use Rattle.spec.specs.declared.Answer.{Answer}
 use Rattle.spec.specs.declared.Answer.the-variants.{Refused, BadZone, Cut}
 use Rattle.spec.specs.declared.Params.{Params}
 use Rattle.spec.specs.declared.State.{State}
 use Rattle.law_basic.specs.Stores.{stores-all, refused-same, done-all, cut-prefix}
 use lib.ListN.{length, take}
-use mathlib.Core.Bool.{Bool, true, false, not}
+use mathlib.Core.Bool.{Bool, true, false, not, _&&_}
 use mathlib.Core.List.{List, [], _∷_}
-use mathlib.Core.Path.{_≡_, refl, sym, ap, _∙_}
+use mathlib.Core.Path.{_≡_, refl, sym, ap, _∙_, subst}
+use borrow.Author.Tests.{leb-true, ne-eqb}
 use native.Mathlib.Omega.{arith}
+use lib.Dec.{leb, ltb, eqb}
+use lib.Count.{ones}
+use Rattle.spec.specs.Answers.{kind, isRefused, finished}
+use Rattle.law_basic.specs.Ranges.{and-left, and-right}
 
 module _ (n : ℕ) (b : Bool) (cs : List Check) where
   pub rule-fails : b ≡ true → firstRefusal (rule n b ∷ cs) ≡ some (Refused n)
@@ -88,3 +93,36 @@ module _ {D : Type 0} (p : Params) (f : Store → D → D) (n : ℕ) (d : D) (m 
   pub call-cut : r ≡ none → n < length (q .stores) → outcome p f n d m b (decided r q) ≡ mkAfter Cut (storeAll f (take n (q .stores)) d) (cutMemory p m) b
   unfolding decided
   call-cut e h = ap (λ (x : Opt Answer). outcome p f n d m b (decided x q)) e ∙ cut-prefix p f n d m b q h
+
+pub refusal-kind : (cs : List Check) (a : Answer) → firstRefusal cs ≡ some a → isRefused a ≡ true
+unfolding firstRefusal ruled ninth
+refusal-kind [] a q = absurd (let z : _≡_ {A = ℕ} 0 1 = cc in let y : ⊥ = omega arith in y)
+refusal-kind (rule n true ∷ cs) a q = let e : Refused n ≡ a = cc in subst (λ (x : Answer). isRefused x ≡ true) e kind0
+  where
+    kind0 : isRefused (Refused n) ≡ true
+    kind0 = unfold isRefused kind in refl
+refusal-kind (rule n false ∷ cs) a q = refusal-kind cs a q
+refusal-kind (zones [] ∷ cs) a q = refusal-kind cs a q
+refusal-kind (zones (z ∷ zs) ∷ cs) a q = let e : BadZone (least z zs) ≡ a = cc in subst (λ (x : Answer). isRefused x ≡ true) e kind1
+  where
+    kind1 : isRefused (BadZone (least z zs)) ≡ true
+    kind1 = unfold isRefused kind in refl
+
+-- 01, Refusals, 9: the next stripe number
+pub next-low : (p : Params) (st : State) → stateOk p st ≡ true → st .next ≤ p .S
+unfolding stateOk
+next-low p st h =
+    let a = eqb (st .live) 1 && ltb (st .missing) (2 ^ p .N) && leb (ones (st .missing)) 1 && leb (st .opened) (p .Z) in
+    let b = leb (st .next) (p .S) in
+    let c = all (slotOk p st) slots in
+    let d = all (λ o. ltb o (p .S)) (st .offsets) in
+    leb-true (st .next) (p .S) (and-right a b (and-left (a && b) c (and-left (a && b && c) d h)))
+
+pub least-zero : (zs : List ℕ) → least 0 zs ≡ 0
+unfolding least
+least-zero [] = refl
+least-zero (z ∷ zs) = let e : min 0 z ≡ 0 = omega arith in ap (λ (x : ℕ). least x zs) e ∙ least-zero zs
+
+pub refused-unfinished : (a : Answer) → isRefused a ≡ true → finished a ≡ false
+unfolding isRefused finished
+refused-unfinished a q = let h = leb-true (kind a) 1 q in ne-eqb (kind a) 12 (λ e. let z : ⊥ = omega arith in z)

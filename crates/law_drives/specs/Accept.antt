@@ -11,17 +11,17 @@ use lib.ListN.{length, getD}
 use Rattle.spec.specs.declared.Params.{Params}
 use Rattle.spec.specs.Calls.{Check}
 use Rattle.spec.specs.Drives.{View, zoneAt, pointerAt, sealedIn}
-use Rattle.spec.specs.Faults.{pointerFaults, headerFault, serialFault, outside, twice, stripeFault, addressFault, footerFault, clashes, segmentFault, segmentFaults, imageChecks}
+use Rattle.spec.specs.Faults.{pointerFaults, headerFault, serialFault, outside, twice, stripeFault, addressFault, footerFault, clashes, segmentFault, segmentFaults, imageChecks, sameBlocks}
 use Rattle.spec.specs.Layout.{inGroupOf, Rec, mkRec}
-use Rattle.spec.specs.Lists.{below, any, keep, isNil, isIn}
+use Rattle.spec.specs.Lists.{below, any, keep, isNil, isIn, sameList}
 use Rattle.spec.specs.Params.{capacity, present}
 use Rattle.spec.specs.Segments.{remaining, Segment, recordsIn, segmentOf, segments, recsOn}
-use Rattle.law_basic.specs.Ranges.{and-both}
+use Rattle.law_basic.specs.Ranges.{and-both, and-left, and-right, sameList-true}
 use Rattle.law_drives.specs.Checks.{Passes}
 use Rattle.law_drives.specs.Members.{In, in-map, none-in, keep-nil-in, in-below}
 use Rattle.law_drives.specs.Segs.{in-present, length-records, record-at, recs-here, seg-is}
 use Rattle.law_drives.specs.Spots.{InGroups}
-use Rattle.law_drives.specs.Tests.{clash, or-left, or-right, cond-true}
+use Rattle.law_drives.specs.Tests.{clash, or-left, or-right, cond-true, or-neither, false-true}
 
 -- nothing is wrong on the drives
 pub record Accepted (p : Params) (v : View) (gone : ℕ) : Type 0 where
@@ -38,12 +38,12 @@ unfolding imageChecks isNil
 checks-of p v gone a =
     (a .pointers-ok, (cond-true (isNil (pointerFaults p v gone)) (segmentFaults p gone (segments p v gone)) [] (ap isNil (a .pointers-ok)) ∙ a .segments-ok, tt))
 
-map-nil : {A B : Type 0} (f : A → B) (l : List A) → map f l ≡ [] → l ≡ []
+pub map-nil : {A B : Type 0} (f : A → B) (l : List A) → map f l ≡ [] → l ≡ []
 map-nil f [] q = refl
 map-nil f (a ∷ l) q = absurd (let x : _≡_ {A = ℕ} 0 1 = cc in let y : ⊥ = omega arith in y)
 
 -- records: in their groups, and none twice
-outside-in : (p : Params) (b : ℕ) (rs : List Rec) → outside p b rs ≡ false → (i : ℕ) → i < length rs → inGroupOf p (b + i) (getD rs i (mkRec 0 0 0) .stripe) ≡ true
+pub outside-in : (p : Params) (b : ℕ) (rs : List Rec) → outside p b rs ≡ false → (i : ℕ) → i < length rs → inGroupOf p (b + i) (getD rs i (mkRec 0 0 0) .stripe) ≡ true
 unfolding outside
 outside-in p b [] q i h = absurd (let z : ⊥ = omega arith in z)
 outside-in p b (r ∷ rs) q zero h =
@@ -135,3 +135,21 @@ module _ (p : Params) (v : View) (gone : ℕ) (acc : Accepted p v gone) where
       let t : not (eqb (y .seg) (x .seg)) && eqb (y .serial) (x .serial) ≡ true =
       and-both (not (eqb (y .seg) (x .seg))) (eqb (y .serial) (x .serial)) (ap not (ap₂ eqb (seg-is p v gone h) (seg-is p v gone g) ∙ ne-eqb h g ne)) (eq-eqb (y .serial) (x .serial) e) in
       clash t f
+
+-- 01, Refusals, 9: every number in its group
+pub outside-none : (p : Params) (b : ℕ) (rs : List Rec) → ((i : ℕ) → i < length rs → inGroupOf p (b + i) (getD rs i (mkRec 0 0 0) .stripe) ≡ true) → outside p b rs ≡ false
+unfolding outside
+outside-none p b [] f = refl
+outside-none p b (r ∷ rs) f =
+    or-neither (not (inGroupOf p b (r .stripe))) (outside p (suc b) rs)
+    (ap not (ap (λ (n : ℕ). inGroupOf p n (r .stripe)) (sym (add-zero b)) ∙ f 0 (omega arith)))
+    (outside-none p (suc b) rs (λ i h. ap (λ (n : ℕ). inGroupOf p n (getD rs i (mkRec 0 0 0) .stripe)) (let e : suc b + i ≡ b + suc i = omega arith in e) ∙ f (suc i) (omega arith)))
+
+-- equal lists of blocks
+pub same-blocks : (s t : List (List ℕ)) → sameBlocks s t ≡ true → s ≡ t
+unfolding sameBlocks
+same-blocks [] [] q = refl
+same-blocks [] (b ∷ t) q = false-true q
+same-blocks (a ∷ s) [] q = false-true q
+same-blocks (a ∷ s) (b ∷ t) q =
+    ap₂ (λ (x : List ℕ) (y : List (List ℕ)). x ∷ y) (sameList-true a b (and-left (sameList a b) (sameBlocks s t) q)) (same-blocks s t (and-right (sameList a b) (sameBlocks s t) q))

@@ -1,17 +1,20 @@
 -- The best record of an address: it is one of the list, and a list in two parts has the better of two.
-use mathlib.Core.Path.{_≡_, refl, sym}
+use mathlib.Core.Path.{_≡_, refl, sym, ap, _∙_}
 use mathlib.Core.List.{List, [], _∷_, _++_}
 use mathlib.Core.Logic.{_⊎_, inl, inr, ⊎-elim}
 use Prim.Native.Nat.{ℕ}
 use borrow.Author.Tests.{eqb-true}
 use native.Mathlib.Omega.{arith}
-use lib.Dec.{eqb}
+use lib.Dec.{eqb, ltb}
+use lib.ListN.{length}
 use Rattle.spec.specs.Lists.{Opt}
 use Rattle.spec.specs.Lists.Opt.{none, some}
 use Rattle.spec.specs.Rank.{Cand, beats, better, best, candsOf}
+use Rattle.spec.specs.Reclaim.{Victim, fewer}
 use Rattle.law_basic.specs.Ranges.{Test, test}
 use Rattle.law_basic.specs.Ranges.Test.{yes!, no! }
 use Rattle.law_drives.specs.Members.{In, keep-in}
+use Rattle.law_drives.specs.Tests.{cond-true, cond-false}
 
 -- two records that the rule doesn't tell apart
 pub record Tied (a b : Cand) : Type 0 where
@@ -37,7 +40,7 @@ pub at-of : (a : ℕ) (cs : List Cand) (d : Cand) → In d (candsOf a cs) → At
 unfolding candsOf
 at-of a cs d m = let (i, q) = keep-in (λ (c : Cand). eqb (c .address) a) cs d m in (i, eqb-true (d .address) a q)
 
-some-is : {b c : Cand} → some b ≡ some c → b ≡ c
+pub some-is : {b c : Cand} → some b ≡ some c → b ≡ c
 some-is e = cc
 
 better-is : (b : Opt Cand) (d c : Cand) → better b d ≡ some c → (b ≡ some c) ⊎ (c ≡ d)
@@ -72,3 +75,12 @@ pub best-append : (b : Opt Cand) (xs ys : List Cand) → best b (xs ++ ys) ≡ b
 unfolding best
 best-append b [] ys = refl
 best-append b (x ∷ xs) ys = best-append (better b x) xs ys
+
+pub fewer-is : (a : Opt Victim) (b w : Victim) → fewer a b ≡ some w → (a ≡ some w) ⊎ (w ≡ b)
+unfolding fewer
+fewer-is none b w q = inr (let e : b ≡ w = cc in sym e)
+fewer-is (some a) b w q = go (test (ltb (length (b .live)) (length (a .live))))
+  where
+    go : Test (ltb (length (b .live)) (length (a .live))) → (some a ≡ some w) ⊎ (w ≡ b)
+    go (yes! e) = let x : some b ≡ some w = ap some (sym (cond-true (ltb (length (b .live)) (length (a .live))) b a e)) ∙ q in inr (let y : b ≡ w = cc in sym y)
+    go (no! e) = inl (ap some (sym (cond-false (ltb (length (b .live)) (length (a .live))) b a e)) ∙ q)

@@ -6,12 +6,12 @@ use Prim.Native.Nat.{ℕ}
 use native.Mathlib.Omega.{arith}
 use lib.Dec.{eqb}
 use Rattle.spec.specs.declared.Answer.{Answer}
-use Rattle.spec.specs.declared.Answer.the-variants.{Refused, BadZone}
+use Rattle.spec.specs.declared.Answer.the-variants.{Refused}
 use Rattle.spec.specs.Answers.{kind, values, isRefused, isRefusedAs}
 use Rattle.spec.specs.Calls.{Check, ninth, ruled, firstRefusal, Plan, Verdict, decided}
 use Rattle.spec.specs.Calls.Check.{rule, zones}
 use Rattle.spec.specs.Calls.Verdict.{refused, due}
-use Rattle.spec.specs.Lists.{Opt, least}
+use Rattle.spec.specs.Lists.{Opt}
 use Rattle.spec.specs.Lists.Opt.{none, some}
 use Rattle.law_drives.specs.Tests.{true-false}
 
@@ -27,7 +27,7 @@ Clear [] = Unit {0}
 Clear (rule n b ∷ cs) = (eqb n 9 ≡ false) × (b ≡ false → Clear cs)
 Clear (zones zs ∷ cs) = (zs ≡ []) × Clear cs
 
-some-none : {X : Type 0} {a : Answer} → some a ≡ none → X
+pub some-none : {X : Type 0} {a : Answer} → some a ≡ none → X
 some-none e = absurd (let z : _≡_ {A = ℕ} 0 1 = cc in let q : ⊥ = omega arith in q)
 
 pub passes : (cs : List Check) → firstRefusal cs ≡ none → Passes cs
@@ -79,19 +79,3 @@ passed (rule n true ∷ cs) c = true-false (c .0)
 passed (rule n false ∷ cs) c = passed cs (c .1)
 passed (zones [] ∷ cs) c = passed cs (c .1)
 passed (zones (z ∷ zs) ∷ cs) c = let e = c .0 in absurd (let x : _≡_ {A = ℕ} 0 1 = cc in let y : ⊥ = omega arith in y)
-
--- ---- answers
-
-pub refusal-kind : (cs : List Check) (a : Answer) → firstRefusal cs ≡ some a → isRefused a ≡ true
-unfolding firstRefusal ruled ninth
-refusal-kind [] a q = absurd (let z : _≡_ {A = ℕ} 0 1 = cc in let y : ⊥ = omega arith in y)
-refusal-kind (rule n true ∷ cs) a q = let e : Refused n ≡ a = cc in subst (λ (x : Answer). isRefused x ≡ true) e kind0
-  where
-    kind0 : isRefused (Refused n) ≡ true
-    kind0 = unfold isRefused kind in refl
-refusal-kind (rule n false ∷ cs) a q = refusal-kind cs a q
-refusal-kind (zones [] ∷ cs) a q = refusal-kind cs a q
-refusal-kind (zones (z ∷ zs) ∷ cs) a q = let e : BadZone (least z zs) ≡ a = cc in subst (λ (x : Answer). isRefused x ≡ true) e kind1
-  where
-    kind1 : isRefused (BadZone (least z zs)) ≡ true
-    kind1 = unfold isRefused kind in refl

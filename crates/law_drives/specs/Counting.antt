@@ -1,13 +1,13 @@
 -- Lists of different numbers below a bound, and lists that hold all of them; the greatest of a list.
 use mathlib.Core.Path.{_≡_, refl, sym, ap, _∙_, subst}
 use mathlib.Core.List.{List, [], _∷_, map}
-use mathlib.Core.Bool.{Bool, true, false, not}
-use mathlib.Core.Logic.{_⊎_, inl, inr}
-use Prim.Native.Nat.{ℕ, zero, suc, _≤_, _<_}
-use native.Mathlib.Decide.{ℕ-discrete}
-use borrow.Author.Tests.{eq-eqb, ne-eqb, eqb-false, not-true}
+use mathlib.Core.Bool.{Bool, true, false, not, cond}
+use mathlib.Core.Logic.{_⊎_, inl, inr, _≢_}
+use Prim.Native.Nat.{ℕ, zero, suc, _≤_, _<_, _-_}
+use native.Mathlib.Decide.{ℕ-discrete, decLt}
+use borrow.Author.Tests.{eq-eqb, ne-eqb, eqb-false, not-true, lt-ltb, le-ltb}
 use native.Mathlib.Omega.{arith}
-use lib.Dec.{eqb}
+use lib.Dec.{eqb, ltb}
 use lib.ListN.{length}
 use Rattle.spec.specs.Faults.{twice}
 use Rattle.spec.specs.Layout.{Rec}
@@ -15,7 +15,7 @@ use Rattle.spec.specs.Lists.{any, consIf, keep, greatest}
 use Rattle.law_basic.specs.Ranges.{Test, test, length-keep}
 use Rattle.law_basic.specs.Ranges.Test.{yes!, no! }
 use Rattle.law_drives.specs.Members.{In, map-in, in-keep, keep-in, none-in, keep-all}
-use Rattle.law_drives.specs.Tests.{or-left, or-right}
+use Rattle.law_drives.specs.Tests.{or-left, or-right, cond-true, cond-false}
 
 abbrev pub Different : List ℕ → Type 0
 Different [] = Unit {0}
@@ -98,3 +98,45 @@ pub greatest-low : (b : ℕ) (l : List ℕ) → 0 < b → ((n : ℕ) → In n l 
 unfolding greatest
 greatest-low b [] z f = z
 greatest-low b (a ∷ l) z f = let x = greatest-low b l z (λ n m. f n (inr m)) in let y = f a (inl refl) in omega arith
+
+-- f with n taken out of its values
+skip : ℕ → ℕ → ℕ
+skip x y = cond (ltb y x) y (y - 1)
+
+skip-low : (x y : ℕ) → y < x → skip x y ≡ y
+unfolding skip
+skip-low x y l = cond-true (ltb y x) y (y - 1) (lt-ltb y x l)
+
+skip-high : (x y : ℕ) → x ≤ y → skip x y ≡ y - 1
+unfolding skip
+skip-high x y l = cond-false (ltb y x) y (y - 1) (le-ltb y x l)
+
+pub pigeon : (n k : ℕ) (f : ℕ → ℕ) → ((i : ℕ) → i < n → f i < k) → ((i j : ℕ) → i < n → j < n → f i ≡ f j → i ≡ j) → n ≤ k
+pigeon zero k f b inj = omega arith
+pigeon (suc n) zero f b inj = absurd (let q : ⊥ = omega (arith, b 0 (omega arith)) in q)
+pigeon (suc n) (suc k) f b inj = let h : n ≤ k = pigeon n k (λ (i : ℕ). skip (f n) (f i)) low one in omega arith
+  where
+    differ : (i : ℕ) → i < n → f i ≢ f n
+    differ i l e = let q : i ≡ n = inj i n (omega arith) (omega arith) e in let w : ⊥ = omega arith in w
+
+    low : (i : ℕ) → i < n → skip (f n) (f i) < k
+    low i l = go (decLt (f i) (f n))
+      where
+        go : Dec (f i < f n) → skip (f n) (f i) < k
+        go (yes q) = rw (skip-low (f n) (f i) q) (omega (arith, b n (let w : n < suc n = omega arith in w)))
+        go (no q) = rw (skip-high (f n) (f i) (let w : f n ≤ f i = omega arith in w)) (omega (arith, b i (let w : i < suc n = omega arith in w), differ i l))
+
+    one : (i j : ℕ) → i < n → j < n → skip (f n) (f i) ≡ skip (f n) (f j) → i ≡ j
+    one i j a c e = inj i j (omega arith) (omega arith) (go (decLt (f i) (f n)) (decLt (f j) (f n)))
+      where
+        go : Dec (f i < f n) → Dec (f j < f n) → f i ≡ f j
+        go (yes q) (yes w) = sym (skip-low (f n) (f i) q) ∙ e ∙ skip-low (f n) (f j) w
+        go (yes q) (no w) =
+            let x : f i ≡ f j - 1 = sym (skip-low (f n) (f i) q) ∙ e ∙ skip-high (f n) (f j) (let t : f n ≤ f j = omega arith in t) in
+            absurd (let t : ⊥ = omega (arith, x, differ j c, q, w) in t)
+        go (no q) (yes w) =
+            let x : f i - 1 ≡ f j = sym (skip-high (f n) (f i) (let t : f n ≤ f i = omega arith in t)) ∙ e ∙ skip-low (f n) (f j) w in
+            absurd (let t : ⊥ = omega (arith, x, differ i a, q, w) in t)
+        go (no q) (no w) =
+            let x : f i - 1 ≡ f j - 1 = sym (skip-high (f n) (f i) (let t : f n ≤ f i = omega arith in t)) ∙ e ∙ skip-high (f n) (f j) (let t : f n ≤ f j = omega arith in t) in
+            omega (arith, x, differ i a, differ j c, q, w)

@@ -1,15 +1,16 @@
 -- The zones of a segment behind its headers.
 use mathlib.Core.Path.{_≡_, refl, sym, ap, _∙_, subst}
 use mathlib.Core.List.{List, [], _∷_, map}
+use mathlib.Core.Bool.{true}
 use Prim.Native.Nat.{ℕ, suc, _<_}
 use native.Mathlib.Decide.{ℕ-discrete}
-use borrow.Author.Tests.{ne-eqb}
+use borrow.Author.Tests.{ne-eqb, eqb-true}
 use native.Mathlib.Omega.{arith}
 use lib.Dec.{eqb}
 use lib.ListN.{length, getD, set}
 use lib.Seq.{getD-set-same}
 use Rattle.spec.specs.declared.Params.{Params}
-use Rattle.spec.specs.Drives.{Chunk, mkChunk, noChunk, Zone, View, zoneAt, pointerAt, chunkAt, Store, putZone, storeView, storeAll, zoneOn, zeroSpare, headerStores}
+use Rattle.spec.specs.Drives.{Chunk, mkChunk, noChunk, Zone, View, zoneAt, pointerAt, chunkAt, Store, putZone, storeView, storeAll, zoneOn, zeroSpare, headerStores, emptyOnAll}
 use Rattle.spec.specs.Drives.Store.{put}
 use Rattle.spec.specs.Layout.{headerBlock}
 use Rattle.spec.specs.Lists.{below}
@@ -18,7 +19,7 @@ use Rattle.spec.specs.Segments.{headerAt}
 use Rattle.law_basic.specs.Be.{room}
 use Rattle.law_basic.specs.Geometry.{Ranged}
 use Rattle.law_views.specs.Views.{blocks-long}
-use Rattle.law_drives.specs.Members.{In, map-in, below-in}
+use Rattle.law_drives.specs.Members.{In, map-in, below-in, all-in, in-below}
 use Rattle.law_drives.specs.Puts.{hits-headers, header-sound}
 use Rattle.law_drives.specs.Range.{capacity-over}
 use Rattle.law_drives.specs.Tests.{cond-true, cond-false, eqb-self}
@@ -94,3 +95,7 @@ module _ (p : Params) (r : Ranged p) (v : View) (sh : Shaped p v) (g rn cn : ℕ
 
       go : In s (map (λ d. put d g (headerBlock p d g rn cn) zeroSpare) (below (p .N))) → Within p s
       go m = let (d, i, e) = map-in (λ d. put d g (headerBlock p d g rn cn) zeroSpare) (below (p .N)) s m in subst (λ (x : Store). Within p x) (sym e) (below-in (p .N) d i, hg)
+
+pub empty-all : (p : Params) (v : View) (g : ℕ) → emptyOnAll p v g ≡ true → (d : ℕ) → d < p .N → pointerAt v d g ≡ 0
+unfolding emptyOnAll drivesOf zoneOn
+empty-all p v g q d h = eqb-true (pointerAt v d g) 0 (all-in (λ d. eqb (pointerAt v d g) 0) (below (p .N)) q d (in-below (p .N) d h))

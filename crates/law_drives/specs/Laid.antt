@@ -55,16 +55,6 @@ beOf-low l h = beOf-lt l (λ k x. h k)
 
 -- ---- lengths
 
-header-width : (p : Params) (d z r c : ℕ) → widths (headerFields p d z r c) ≡ 41
-unfolding widths headerFields headerWidths headerValues zipped
-header-width p d z r c = refl
-
-pub length-header : (p : Params) (d z r c : ℕ) → 41 ≤ p .B → length (headerBlock p d z r c) ≡ p .B
-unfolding headerBlock
-length-header p d z r c h =
-    let e : length (bytesOf (headerFields p d z r c)) ≡ 41 = length-bytesOf (headerFields p d z r c) ∙ header-width p d z r c in
-    length-padTo (p .B) (bytesOf (headerFields p d z r c)) (omega (arith, e))
-
 pub bytes-header : (p : Params) (d z r c : ℕ) → Bytes (headerBlock p d z r c)
 unfolding headerBlock
 bytes-header p d z r c = bytes-pad (p .B) (bytesOf (headerFields p d z r c)) (bytes-fields (headerFields p d z r c))

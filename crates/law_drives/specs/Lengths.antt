@@ -1,7 +1,7 @@
 -- The lent buffers have their lengths: as a test and as facts.
 use mathlib.Core.Path.{_≡_}
 use mathlib.Core.Bool.{true, _&&_}
-use borrow.Author.Tests.{eqb-true}
+use borrow.Author.Tests.{eqb-true, eq-eqb}
 use lib.Dec.{eqb}
 use lib.ListN.{length}
 use Rattle.spec.specs.declared.Params.{Params}
@@ -9,10 +9,8 @@ use Rattle.spec.specs.Drives.{Disk}
 use Rattle.spec.specs.Engine.{lentOk}
 use Rattle.spec.specs.Memory.{Memory}
 use Rattle.spec.specs.Params.{imageLen, pointersLen, addressesLen, compactLen, inflightLen}
-use Rattle.law_basic.specs.Ranges.{and-left, and-right}
+use Rattle.law_basic.specs.Ranges.{and-left, and-right, and-both}
 use Rattle.law_views.specs.Views.{Whole}
-
--- ---- lengths
 
 pub record Lengths (p : Params) (k : Disk) (m : Memory) : Type 0 where
   pub image-ok : length (k .image) ≡ imageLen p
@@ -42,3 +40,19 @@ lengths-of p k m q =
 
 pub whole-of : (p : Params) (k : Disk) (m : Memory) → lentOk p k m ≡ true → Whole p k
 whole-of p k m q = record { image-long = lengths-of p k m q .image-ok; pointers-long = lengths-of p k m q .pointers-ok }
+
+pub of-lengths : (p : Params) (k : Disk) (m : Memory) → Lengths p k m → lentOk p k m ≡ true
+unfolding lentOk
+of-lengths p k m l =
+    let t1 = eqb (length (k .image)) (imageLen p) in
+    let t2 = eqb (length (k .pointers)) (pointersLen p) in
+    let t3 = eqb (length (m .addresses)) (addressesLen p) in
+    let t4 = eqb (length (m .compact)) (compactLen p) in
+    let t5 = eqb (length (m .inflight)) (inflightLen p) in
+    and-both (t1 && t2 && t3 && t4) t5
+    (and-both (t1 && t2 && t3) t4
+    (and-both (t1 && t2) t3
+    (and-both t1 t2 (eq-eqb (length (k .image)) (imageLen p) (l .image-ok)) (eq-eqb (length (k .pointers)) (pointersLen p) (l .pointers-ok)))
+    (eq-eqb (length (m .addresses)) (addressesLen p) (l .addresses-ok)))
+    (eq-eqb (length (m .compact)) (compactLen p) (l .compact-ok)))
+    (eq-eqb (length (m .inflight)) (inflightLen p) (l .inflight-ok))

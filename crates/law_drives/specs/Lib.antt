@@ -16,7 +16,6 @@ pub mod Tidy
 pub mod Settled
 pub mod Resets
 pub mod Dropping
-pub mod Fewest
 pub mod Records
 pub mod Footers
 pub mod Frame
@@ -31,3 +30,6 @@ pub mod Unsealed
 pub mod Mending
 pub mod Rewriting
 pub mod Mended
+pub mod States
+pub mod Slots
+pub mod Pointed

@@ -290,11 +290,6 @@ unfolding isNil firstOr
 first-in [] n q = true-false q
 first-in (a ∷ l) n q = inl refl
 
-pub nil-is : {A : Type 0} (l : List A) → isNil l ≡ true → l ≡ []
-unfolding isNil
-nil-is [] q = refl
-nil-is (a ∷ l) q = false-true q
-
 pub in-some : {A : Type 0} (l : List A) (a : A) → In a l → isNil l ≡ false
 unfolding isNil
 in-some [] a m = absurd m
@@ -310,3 +305,18 @@ member-is n l m = in-any (λ k. eqb n k) l n m (eqb-self n)
 
 pub nil-append : {A : Type 0} (xs ys : List A) → xs ≡ [] → ys ≡ [] → xs ++ ys ≡ []
 nil-append xs ys p q = ap₂ _++_ p q
+
+-- nothing of either
+pub nil-left : {A : Type 0} (s t : List A) → s ++ t ≡ [] → (s ≡ []) × (t ≡ [])
+nil-left [] t e = (refl, e)
+nil-left (a ∷ s) t e = absurd (let x : _≡_ {A = ℕ} 0 1 = cc in let y : ⊥ = omega arith in y)
+
+pub if-none : (b : Bool) (g : ℕ) (zs : List ℕ) → consIf b g zs ≡ [] → (b ≡ false) × (zs ≡ [])
+unfolding consIf
+if-none true g zs e = absurd (let z : _≡_ {A = ℕ} (suc (length zs)) 0 = ap length e in let w : ⊥ = omega arith in w)
+if-none false g zs e = (refl, e)
+
+pub first-any : (n m : ℕ) (l : List ℕ) → isNil l ≡ false → firstOr n l ≡ firstOr m l
+unfolding isNil firstOr
+first-any n m [] q = true-false q
+first-any n m (a ∷ l) q = refl

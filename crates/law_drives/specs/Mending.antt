@@ -21,7 +21,6 @@ use Rattle.law_basic.specs.Geometry.{Ranged}
 use Rattle.law_basic.specs.Mask.{isIn-empty}
 use Rattle.law_drives.specs.Accept.{Accepted, pointer-ok}
 use Rattle.law_drives.specs.Dropping.{drop-same, drop-roomy, kept-pointer, drop-used, drop-tidy}
-use Rattle.law_drives.specs.Fewest.{sealed-full}
 use Rattle.law_drives.specs.Footers.{hits-each, within-each, footerChunks, footer-puts, footers-count, footer-rooms}
 use Rattle.law_drives.specs.Growing.{Grows, grows-used, grows-tidy}
 use Rattle.law_drives.specs.Joins.{roomy-none, stores-none}
@@ -29,7 +28,7 @@ use Rattle.law_drives.specs.Members.{In, flat-cong, below-in}
 use Rattle.law_drives.specs.Puts.{putAt, putAll, puts-pointer, puts-old}
 use Rattle.law_drives.specs.Range.{capacity-is, capacity-over}
 use Rattle.law_drives.specs.Segs.{zone-by, seg-is}
-use Rattle.law_drives.specs.Settled.{SameZones, zones-pointer, zones-used, zones-segment}
+use Rattle.law_drives.specs.Settled.{SameZones, zones-pointer, zones-used, zones-segment, sealed-full}
 use Rattle.law_drives.specs.Steady.{Steady, SealedAll, Rest}
 use Rattle.law_drives.specs.Steady.Rest.{rest-sealed, rest-open}
 use Rattle.law_drives.specs.Tables.{remains}

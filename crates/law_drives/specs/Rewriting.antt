@@ -28,7 +28,6 @@ use Rattle.law_basic.specs.Ranges.Test.{yes!, no! }
 use Rattle.law_views.specs.Views.{blocks-long}
 use Rattle.law_drives.specs.Accept.{Accepted}
 use Rattle.law_drives.specs.Dropping.{drop-same, drop-empty, drop-used, kept-less, kept-once, kept-known, kept-no-copy, drop-tidy}
-use Rattle.law_drives.specs.Fewest.{sealed-full}
 use Rattle.law_drives.specs.Headers.{header-within}
 use Rattle.law_drives.specs.Laid.{header-serial, header-copied, record-stripe}
 use Rattle.law_drives.specs.Members.{In, in-append, map-in, in-all, keep-cong, keep-nothing, from-in, below-in}
@@ -38,7 +37,7 @@ use Rattle.law_drives.specs.Range.{capacity-over}
 use Rattle.law_drives.specs.Rebuilding.{parity-length, counted-low, counted-in, pieceChunk, stored-long}
 use Rattle.law_drives.specs.Resets.{reset-within}
 use Rattle.law_drives.specs.Segs.{present-in, data-low, low-data, seg-is, serial-is, has-chunk, no-chunk}
-use Rattle.law_drives.specs.Settled.{low-first, SameZones, zones-header, zones-pointer, zones-used}
+use Rattle.law_drives.specs.Settled.{low-first, SameZones, zones-header, zones-pointer, zones-used, sealed-full}
 use Rattle.law_drives.specs.Spots.{counts-in}
 use Rattle.law_drives.specs.Steady.{Steady, SealedAll}
 use Rattle.law_drives.specs.Steady.Rest.{rest-open}

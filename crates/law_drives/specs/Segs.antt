@@ -12,10 +12,11 @@ use Rattle.spec.specs.Drives.{Zone, noZone, View, zoneAt, pointerAt, segmentNum
 use Rattle.spec.specs.Layout.{dataDrive, dataDrives, headerSerial, headerCopied, Rec, mkRec}
 use Rattle.spec.specs.Lists.{below, all, keep, indexOf, isIn}
 use Rattle.spec.specs.Params.{dataCount, drivesOf, present}
+use Rattle.spec.specs.Parity.{Piece, parityRec, parityPiece}
 use Rattle.spec.specs.Rank.{Cand}
 use Rattle.spec.specs.Segments.{lowDrive, headerAt, leftBy1, isCopy, remaining, Segment, recordsIn, segmentOf, segments, recsOn, offsetOn, hasChunk, counts}
-use Rattle.spec.specs.Segments.{counted, storedRec, candOf, segmentCands, candidates}
-use Rattle.law_basic.specs.Ranges.{length-below, getD-map-below}
+use Rattle.spec.specs.Segments.{counted, storedRec, candOf, segmentCands, candidates, storedPiece, pieceOf, recOf}
+use Rattle.law_basic.specs.Ranges.{length-below, getD-map-below, map-map}
 use Rattle.law_drives.specs.Members.{In, in-map, map-in, in-flat, flat-in, in-keep, keep-in, in-any, in-below, below-in, in-getD, index-below, index-passes, index-first, index-is}
 use Rattle.law_drives.specs.Tests.{not-so, cond-true, cond-false}
 
@@ -198,3 +199,14 @@ at-cand p v gone c k =
     (subst (λ (y : Cand). In y (map (candOf p gone x s) (map (dataDrive p s) (below (dataCount p))))) (sym (k .it-is))
     (in-map (candOf p gone x s) (map (dataDrive p s) (below (dataCount p))) (dataDrive p s n)
     (in-map (dataDrive p s) (below (dataCount p)) n (in-below (dataCount p) n (k .position-low))))))
+
+-- the record of a piece is the record alone
+pub piece-rec : (p : Params) (gone : ℕ) (x : Segment) (s d : ℕ) → pieceOf p gone x s d .rec ≡ recOf p gone x s d
+piece-rec p gone x s d = go (isIn gone d) refl
+  where
+    alike : map (λ (q : Piece). q .rec) (map (storedPiece x s) (present p gone)) ≡ map (storedRec x s) (present p gone)
+    alike = map-map (λ (q : Piece). q .rec) (storedPiece x s) (present p gone) ∙ (unfold storedPiece storedRec in refl)
+
+    go : (b : Bool) → isIn gone d ≡ b → pieceOf p gone x s d .rec ≡ recOf p gone x s d
+    go true e = unfold pieceOf recOf parityPiece in rw e (ap (parityRec s) alike)
+    go false e = unfold pieceOf recOf storedPiece storedRec in rw e

@@ -3,7 +3,7 @@ use mathlib.Core.Path.{_≡_, refl, sym, ap, ap₂, _∙_, subst}
 use mathlib.Core.List.{[], map}
 use mathlib.Core.Bool.{Bool, true, false, cond, not, _&&_}
 use Prim.Native.Nat.{ℕ, zero, suc, _≤_, _<_}
-use borrow.Author.Tests.{ne-eqb}
+use borrow.Author.Tests.{ne-eqb, eqb-true}
 use native.Mathlib.Omega.{arith}
 use lib.Dec.{eqb}
 use lib.ListN.{getD}
@@ -185,3 +185,9 @@ pub row-goes : (p : Params) (r : Ranged p) (v u : View) (s s′ : ℕ) → Tidy 
 unfolding rowAt
 row-goes p r v u s s′ t t′ d g hg sm =
     ap₂ (λ (x : Bool) (y : Segment). cond x (recsOn y d) []) (remains-used p r v s t g hg ∙ zones-used p r v u g sm ∙ sym (remains-used p r u s′ t′ g hg)) (zones-segment p r v u g sm)
+
+pub sealed-full : (p : Params) (v : View) (g : ℕ) → sealedIn p v 0 g ≡ true → (d : ℕ) → d < p .N → pointerAt v d g ≡ capacity p
+sealed-full p v g q d h = eqb-true (pointerAt v d g) (capacity p) (all-in (λ d. eqb (pointerAt v d g) (capacity p)) (present p 0) (as! q) d (present-all p d h))
+  where
+    as! : sealedIn p v 0 g ≡ true → all (λ d. eqb (pointerAt v d g) (capacity p)) (present p 0) ≡ true
+    as! q = unfold sealedIn zoneOn in q

@@ -9,8 +9,6 @@ use Rattle.spec.specs.Layout.{headerSerial, headerCopied, Rec}
 use Rattle.spec.specs.Params.{capacity}
 use Rattle.spec.specs.Segments.{headerAt}
 
--- ---- none is missing
-
 -- the record of a data offset, by its spare
 abbrev pub spareAt : Params → View → ℕ → ℕ → ℕ → Rec
 spareAt p v d z o = recordIn p false (zoneAt v d z) o

@@ -18,11 +18,11 @@ use Rattle.spec.specs.Restart.{isWhole, isRagged}
 use Rattle.spec.specs.Segments.{remaining, Segment, recordsIn, segmentOf, segments, offsetOn, hasChunk, counts, counted, uncounted, unsealed}
 use Rattle.law_basic.specs.Geometry.{Ranged}
 use Rattle.law_basic.specs.Mask.{isIn-empty}
-use Rattle.law_basic.specs.Ranges.{Test, test, and-left, and-both, length-below, length-keep, sameList-true}
+use Rattle.law_basic.specs.Ranges.{Test, test, and-left, and-both, length-below, length-keep, sameList-true, nil-is}
 use Rattle.law_basic.specs.Ranges.Test.{yes!, no! }
 use Rattle.law_drives.specs.Accept.{Accepted, faults-apart, zone-stripes, in-groups}
 use Rattle.law_drives.specs.Counting.{Different, different-few, holds-many, stripes-different}
-use Rattle.law_drives.specs.Members.{In, in-map, map-in, in-keep, keep-in, in-any, in-below, below-in, in-getD, getD-in, nil-is}
+use Rattle.law_drives.specs.Members.{In, in-map, map-in, in-keep, keep-in, in-any, in-below, below-in, in-getD, getD-in}
 use Rattle.law_drives.specs.Rebuilding.{counted-low, counted-in}
 use Rattle.law_drives.specs.Segs.{length-records, record-at, seg-is, full-is, chunk-at, has-chunk}
 use Rattle.law_drives.specs.Settled.{present-all}
@@ -34,7 +34,7 @@ use Rattle.law_drives.specs.Tidy.{spareAt, usedAt}
 use Rattle.law_drives.specs.Zones.{Shaped}
 
 -- all are kept
-keep-full : {A : Type 0} (f : A → Bool) (l : List A) → length (keep f l) ≡ length l → (a : A) → In a l → f a ≡ true
+pub keep-full : {A : Type 0} (f : A → Bool) (l : List A) → length (keep f l) ≡ length l → (a : A) → In a l → f a ≡ true
 keep-full {A} f l e a m = go (test (f a))
   where
     go : Test (f a) → f a ≡ true

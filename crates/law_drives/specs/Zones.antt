@@ -189,11 +189,11 @@ room-ok p (reset d z ∷ ss) q r k = room-ok p ss (resetZone q) (subst (λ x. Ro
 abbrev pub Roomy : Params → View → List Store → Type 0
 Roomy p v ss = (d z : ℕ) → d < p .N → z < p .Z → Room p (pointerAt v d z) (hits d z ss)
 
-hits-yes : (d z : ℕ) (s : Store) (ss : List Store) → hitsAt d z s ≡ true → hits d z (s ∷ ss) ≡ s ∷ hits d z ss
+pub hits-yes : (d z : ℕ) (s : Store) (ss : List Store) → hitsAt d z s ≡ true → hits d z (s ∷ ss) ≡ s ∷ hits d z ss
 unfolding keep consIf
 hits-yes d z s ss h = rw h
 
-hits-no : (d z : ℕ) (s : Store) (ss : List Store) → hitsAt d z s ≡ false → hits d z (s ∷ ss) ≡ hits d z ss
+pub hits-no : (d z : ℕ) (s : Store) (ss : List Store) → hitsAt d z s ≡ false → hits d z (s ∷ ss) ≡ hits d z ss
 unfolding keep consIf
 hits-no d z s ss h = rw h
 

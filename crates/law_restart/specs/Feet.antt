@@ -4,38 +4,29 @@ use Rattle.spec.specs.Bytes.{part}
 use Rattle.spec.specs.Drives.{Chunk, noChunk, Zone, dataStored, blocksOf, recordIn, footersOf}
 use Rattle.spec.specs.Faults.{footersStored, sameBlocks, footerFaultIn}
 use Rattle.spec.specs.Layout.{recordOf, footerBlock, footerRecord}
-use Rattle.spec.specs.Lists.{upFrom, below, sameList}
+use Rattle.spec.specs.Lists.{upFrom, below}
 use Rattle.spec.specs.Params.{spareLen, perFooter, footers}
 use Rattle.spec.specs.Segments.{recordsIn}
 use Rattle.spec.specs.declared.Params.{Params}
 use Rattle.law_basic.specs.Geometry.{Ranged, per-footer-low, footers-cover}
-use Rattle.law_basic.specs.Ranges.{and-left, and-right, length-upFrom, getD-upFrom, getD-map, sameList-true}
+use Rattle.law_basic.specs.Ranges.{length-upFrom, getD-upFrom, getD-map}
 use Rattle.law_drives.specs.Footers.{sparesIn, footerChunks, spares-long, spares-count, spare-at, footers-count, footer-chunk}
 use Rattle.law_drives.specs.Laid.{getD-footer}
 use Rattle.law_drives.specs.Members.{map-cong, below-in}
 use Rattle.law_drives.specs.Puts.{putAll, puts-pointer, puts-old, puts-new}
 use Rattle.law_drives.specs.Range.{capacity-is}
 use Rattle.law_drives.specs.Records.{blocks-at}
-use Rattle.law_drives.specs.Tests.{false-true}
 use Rattle.law_drives.specs.Zones.{ZoneOk}
 use borrow.Author.Tests.{not-false}
 use lib.ListN.{getD, take, drop}
 use lib.Seq.{getD-take, getD-drop}
 use mathlib.Core.Bool.{true, false}
-use mathlib.Core.List.{List, [], _∷_, map}
-use mathlib.Core.Path.{_≡_, refl, sym, ap, ap₂, _∙_, subst}
+use mathlib.Core.List.{List, [], map}
+use mathlib.Core.Path.{_≡_, sym, ap, _∙_, subst}
 use native.Mathlib.Decide.{decLt}
 use native.Mathlib.Nat.{zero-add, div-lt-iff-lt-mul}
 use native.Mathlib.Omega.{arith}
-
--- equal lists of blocks
-same-blocks : (s t : List (List ℕ)) → sameBlocks s t ≡ true → s ≡ t
-unfolding sameBlocks
-same-blocks [] [] q = refl
-same-blocks [] (b ∷ t) q = false-true q
-same-blocks (a ∷ s) [] q = false-true q
-same-blocks (a ∷ s) (b ∷ t) q =
-    ap₂ (λ (x : List ℕ) (y : List (List ℕ)). x ∷ y) (sameList-true a b (and-left (sameList a b) (sameBlocks s t) q)) (same-blocks s t (and-right (sameList a b) (sameBlocks s t) q))
+use Rattle.law_drives.specs.Accept.{same-blocks}
 
 module _ (p : Params) (r : Ranged p) (q : Zone) (k : ZoneOk p q) (e : q .pointer ≡ 1 + p .S + footersStored p q) (fine : footerFaultIn p q ≡ false) where
   abbrev have : ℕ

@@ -1,5 +1,5 @@
 -- When no stripe number of a segment is outside its group or twice in a zone (01, Refusals, 9). Assumes nothing.
-use Prim.Native.Nat.{ℕ, suc, _+_, _<_}
+use Prim.Native.Nat.{ℕ, suc, _<_}
 use Rattle.spec.specs.Counts.{paddingAddress}
 use Rattle.spec.specs.Drives.{Zone, View, zoneAt, sealedIn, dataStored, recordIn}
 use Rattle.spec.specs.Faults.{outside, twice, stripeFault, badRec, storedBad, decodedBad, addressFault}
@@ -18,17 +18,9 @@ use lib.ListN.{length, getD}
 use mathlib.Core.Bool.{Bool, true, false, not, _&&_, _||_}
 use mathlib.Core.List.{List, [], _∷_}
 use mathlib.Core.Path.{_≡_, refl, sym, ap, ap₂, _∙_, subst}
-use native.Mathlib.Nat.{add-zero, zero-add}
+use native.Mathlib.Nat.{zero-add}
 use native.Mathlib.Omega.{arith}
-
--- 01, Refusals, 9: every number in its group
-pub outside-none : (p : Params) (b : ℕ) (rs : List Rec) → ((i : ℕ) → i < length rs → inGroupOf p (b + i) (getD rs i (mkRec 0 0 0) .stripe) ≡ true) → outside p b rs ≡ false
-unfolding outside
-outside-none p b [] f = refl
-outside-none p b (r ∷ rs) f =
-    or-neither (not (inGroupOf p b (r .stripe))) (outside p (suc b) rs)
-    (ap not (ap (λ (n : ℕ). inGroupOf p n (r .stripe)) (sym (add-zero b)) ∙ f 0 (omega arith)))
-    (outside-none p (suc b) rs (λ i h. ap (λ (n : ℕ). inGroupOf p n (getD rs i (mkRec 0 0 0) .stripe)) (let e : suc b + i ≡ b + suc i = omega arith in e) ∙ f (suc i) (omega arith)))
+use Rattle.law_drives.specs.Accept.{outside-none}
 
 -- 01, Refusals, 9: no number twice
 pub twice-none : (rs : List Rec) → ((i j : ℕ) → i < j → j < length rs → getD rs j (mkRec 0 0 0) .stripe ≡ getD rs i (mkRec 0 0 0) .stripe → ⊥) → twice rs ≡ false

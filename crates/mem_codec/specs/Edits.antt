@@ -10,9 +10,10 @@ use lib.Seq.{length-take-le, take-append-le, drop-append-le, take-at, drop-at}
 use Rattle.spec.specs.Bytes.{toLe, splice}
 use Rattle.spec.specs.Lists.{flat, total, zipped}
 use Rattle.spec.specs.Memory.{Section, section, sectionLen, sectionBytes}
-use Rattle.mem_codec.specs.Codec.{Counted, sectionsBytes, length-numbers, length-section}
+use Rattle.mem_codec.specs.Codec.{length-numbers}
 use Rattle.law_basic.specs.Le.{length-toLe}
 use Rattle.law_basic.specs.Ranges.{flat-append}
+use Rattle.law_basic.specs.Sections.{Counted, sectionsBytes, length-section}
 use Rattle.law_basic.specs.Splice.{length-splice, splice-cons-suc}
 
 -- ---- splices in lists put together

@@ -6,7 +6,7 @@ use Rattle.spec.specs.Lists.{upFrom, consIf, keep, isNil, firstOr}
 use Rattle.spec.specs.Memory.{compactAt, shownAt}
 use Rattle.spec.specs.Params.{imageLen, pointersLen}
 use Rattle.spec.specs.declared.Params.{Params}
-use Rattle.law_basic.specs.Ranges.{upFrom-step, keep-hit, keep-miss, keep-upFrom-same}
+use Rattle.law_basic.specs.Ranges.{upFrom-step, keep-hit, keep-miss, keep-upFrom-same, and-false}
 use Rattle.law_views.specs.Views.{pointer-view}
 use borrow.Author.Tests.{lt-ltb, le-ltb}
 use lib.Dec.{ltb, eqb}
@@ -88,10 +88,6 @@ module _ (p : Params) (n : ℕ) (cs : List ℕ) (d z s end m : ℕ) (below! : (o
   unfolding shows
   shows-past h g =
       and-none (ltb o m) (ltb o (p .S)) (ltb (1 + o) n) (eqb (getD cs (compactAt p d z o) 0) (compactEntry p s)) (lt-ltb o m g) (sym (below! o) ∙ le-ltb o end h)
-
-and-false : (a b : Bool) → b ≡ false → (a && b) ≡ false
-and-false true b e = e
-and-false false b e = refl
 
 -- nothing lies below pointer 0
 pub none-below : (a b n o : ℕ) → n ≡ 0 → ltb o 0 ≡ (ltb o a && ltb o b && ltb (1 + o) n)

@@ -1,7 +1,7 @@
 -- Stores that the zones have room for, by counting them zone by zone; such stores obey the zone rules on the bytes. Assumes nothing.
 use mathlib.Core.Path.{_≡_, refl, sym, subst, _∙_}
 use mathlib.Core.List.{List, [], _∷_}
-use mathlib.Core.Bool.{true, false}
+use mathlib.Core.Bool.{true}
 use mathlib.Core.Logic.{inl, inr}
 use Prim.Native.Nat.{ℕ, zero, suc, _+_, _^_, _≤_, _<_}
 use native.Mathlib.Omega.{arith}
@@ -10,14 +10,14 @@ use lib.ListN.{length, take}
 use Rattle.spec.specs.declared.Params.{Params}
 use Rattle.spec.specs.Drives.{Zone, View, zoneAt, pointerAt, Store, storeView, Disk, storeDisk}
 use Rattle.spec.specs.Drives.Store.{put, reset}
-use Rattle.spec.specs.Lists.{consIf, keep}
+use Rattle.spec.specs.Lists.{keep}
 use Rattle.spec.specs.Params.{spareLen, capacity}
 use Rattle.law_basic.specs.Ranges.{Test, test, and-both}
 use Rattle.law_basic.specs.Ranges.Test.{yes!, no! }
 use Rattle.spec_demands.specs.Rules.{Obeys, ObeyAll}
 use Rattle.law_drives.specs.Members.{In}
 use Rattle.law_drives.specs.Tests.{cond-true, cond-false, eqb-self}
-use Rattle.law_drives.specs.Zones.{Sized, hitsAt, zoneStore, hits, sized-store, zone-stored, put-pointer, reset-pointer}
+use Rattle.law_drives.specs.Zones.{Sized, hitsAt, zoneStore, hits, sized-store, zone-stored, put-pointer, reset-pointer, hits-yes, hits-no}
 use Rattle.law_views.specs.Views.{Whole, pointer-view, Fits, AllFit, seen, view-store, whole-store}
 
 -- ---- one zone
@@ -54,14 +54,6 @@ pub record Able (p : Params) (v : View) (ss : List Store) : Type 0 where
 
 pub able-none : (p : Params) (v : View) → Able p v []
 able-none p v = record { proper = λ s m. absurd m; rises = λ d z hd hz. unfold keep in tt }
-
-hits-yes : (d z : ℕ) (s : Store) (ss : List Store) → hitsAt d z s ≡ true → hits d z (s ∷ ss) ≡ s ∷ hits d z ss
-unfolding keep consIf
-hits-yes d z s ss h = rw h
-
-hits-no : (d z : ℕ) (s : Store) (ss : List Store) → hitsAt d z s ≡ false → hits d z (s ∷ ss) ≡ hits d z ss
-unfolding keep consIf
-hits-no d z s ss h = rw h
 
 module _ (p : Params) (v : View) (w : Sized p v) (s : Store) (ss : List Store) (a : Able p v (s ∷ ss)) where
   next-rises : (d z : ℕ) → d < p .N → z < p .Z → Rises p (pointerAt (storeView s v) d z) (hits d z ss)

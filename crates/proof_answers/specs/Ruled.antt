@@ -42,12 +42,14 @@ use Rattle.law_drives.specs.Tests.{clash, or-left, or-right}
 use Rattle.law_drives.specs.Zones.{Sized}
 use Rattle.proof_tables.specs.Reclaiming.{taken}
 use Rattle.law_views.specs.Views.{Whole, seen}
+use Rattle.law_drives.specs.Members.{nil-left}
+use Rattle.proof_tables.specs.Sending.{plenty}
 use Rattle.proof_answers.specs.Answered.{dueOf, long, decidedBy, due-stores}
 use Rattle.proof_answers.specs.Lengths.{Fair, fair-of}
 use Rattle.proof_answers.specs.Rebuilt.{rebuild-able}
 use Rattle.proof_answers.specs.Restarted.{restart-able}
 use Rattle.proof_answers.specs.Rising.{Able, able-none, able-fits, obey-all, obey-take}
-use Rattle.proof_answers.specs.Sent.{resets-able, plenty, sending-able, nil-left, land-able}
+use Rattle.proof_answers.specs.Sent.{resets-able, sending-able, land-able}
 use Rattle.proof_answers.specs.Verdicts.{Says, says, own-count}
 use Rattle.proof_answers.specs.Verdicts.Says.{says-no, says-yes}
 

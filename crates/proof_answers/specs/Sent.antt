@@ -1,11 +1,11 @@
 -- The stores of a write, a landing and a reclaim have room: headers in an empty zone, a chunk and footers below the capacity, resets. Assumes nothing.
 use mathlib.Core.Path.{_≡_, refl, sym, ap, _∙_, subst}
-use mathlib.Core.List.{List, [], _∷_, _++_, map}
+use mathlib.Core.List.{List, [], _∷_, map}
 use mathlib.Core.Bool.{Bool, true, false, cond, _&&_}
 use mathlib.Core.Logic.{inl, inr}
 use Prim.Native.Nat.{ℕ, suc, _+_, _-_, _≤_, _<_}
 use native.Mathlib.Decide.{decLt, ℕ-discrete}
-use borrow.Author.Tests.{eq-eqb, ne-eqb, eqb-true, leb-false, ltb-true, ltb-false, not-false}
+use borrow.Author.Tests.{eq-eqb, ne-eqb, eqb-true, ltb-true, ltb-false, not-false}
 use native.Mathlib.Omega.{arith}
 use lib.Dec.{ltb, eqb}
 use lib.ListN.{length, getD, length-map, List·getD-eq-default}
@@ -18,7 +18,7 @@ use Rattle.spec.specs.Layout.{group, headerBlock, recordBytes}
 use Rattle.spec.specs.Lists.{below, any, consIf, keep, isNil, flat, firstOr}
 use Rattle.spec.specs.Memory.{Memory, slotCount, entriesIn, openSegment, slotBlock, slotByte}
 use Rattle.spec.specs.Params.{between, footers, capacity, inflightLen, drivesOf}
-use Rattle.spec.specs.Write.{opens, scarce, sending}
+use Rattle.spec.specs.Write.{opens, sending}
 use Rattle.law_basic.specs.Geometry.{Ranged, between-low, between-high, slot-within}
 use Rattle.law_basic.specs.Ranges.{Test, test, and-left, and-right, and-both}
 use Rattle.law_basic.specs.Ranges.Test.{yes!, no! }
@@ -71,15 +71,6 @@ headers-able p r v z sn c hz e = record {
     go d y hd (no q) =
         subst (λ (l : List Store). Rises p (pointerAt v d y) l) (sym (cond-false (eqb z y) (put d z (headerBlock p d z sn c) zeroSpare ∷ []) [] (ne-eqb z y q))) tt
 
--- 01, Refusals, 8: more than n zones are empty
-pub plenty : (p : Params) (v : View) (n : ℕ) → scarce p v n ≡ false → isNil (emptyZones p v) ≡ false
-unfolding scarce
-plenty p v n q = some (emptyZones p v) (leb-false (length (emptyZones p v)) n q)
-  where
-    some : (l : List ℕ) → n < length l → isNil l ≡ false
-    some [] h = absurd (let x : ⊥ = omega arith in x)
-    some (a ∷ l) h = unfold isNil in refl
-
 -- 01, Write: a block sent stores headers where it opens a segment
 pub sending-able : (p : Params) (r : Ranged p) (v : View) (st : State) (fl : List ℕ) (a t w : ℕ) (b : List ℕ)
     → (opens p st ≡ true → isNil (emptyZones p v) ≡ false) → Able p v (sending p v st fl a t w b .stores)
@@ -93,11 +84,6 @@ sending-able p r v st fl a t w b h = go (test (opens p st))
     go (no! q) = rw q (able-none p v)
 
 -- ---- a landing
-
--- nothing of either
-pub nil-left : {A : Type 0} (s t : List A) → s ++ t ≡ [] → (s ≡ []) × (t ≡ [])
-nil-left [] t e = (refl, e)
-nil-left (a ∷ s) t e = absurd (let x : _≡_ {A = ℕ} 0 1 = cc in let y : ⊥ = omega arith in y)
 
 -- nothing is put before
 not-put : {A : Type 0} (b : Bool) (a : A) (l : List A) → consIf b a l ≡ [] → (b ≡ false) × (l ≡ [])

@@ -26,14 +26,14 @@ use Rattle.spec.specs.Segments.{remaining, Segment, segmentOf, segments, counts
 use Rattle.spec.specs.Write.{opens, noStamp, noSerial, placed, openedBy, slotFor, begunBy, sending, writeChecks, writePlan}
 use Rattle.law_basic.specs.Geometry.{between-high, Ranged, ranged, addresses-all, data-count-high}
 use Rattle.law_basic.specs.Mask.{only-lt}
-use Rattle.law_basic.specs.Ranges.{Test, test, and-left, length-below, length-keep}
+use Rattle.law_basic.specs.Ranges.{Test, test, and-left, length-below, length-keep, right-nil}
 use Rattle.law_basic.specs.Ranges.Test.{yes!, no! }
 use Rattle.law_calls.specs.Refusals.{state-free}
 use Rattle.law_drives.specs.Checks.{Passes}
 use Rattle.law_drives.specs.Members.{In, map-in, keep-in, below-in, first-in}
 use Rattle.law_drives.specs.Segs.{remaining-low, seg-is}
+use Rattle.law_drives.specs.States.{StateOk, state-of}
 use Rattle.law_drives.specs.Tests.{clash, or-left, or-right}
-use Rattle.proof_tables.specs.Idle.{StateOk, state-of}
 use Rattle.proof_bytes.specs.Sections.{limit, limit-pos, Fits}
 use Rattle.proof_bytes.specs.Changes.{low-set, set-le, fits-stamp, fits-open, fits-closed, fits-begin, fits-add, fits-mark, fits-free, fits-idle}
 use Rattle.proof_bytes.specs.Reads.{Reads, stamps-low, serials-low}
@@ -48,9 +48,6 @@ pub record Small (st : State) : Type 0 where
 nil-left : (s t : List ℕ) → s ++ t ≡ [] → s ≡ []
 nil-left [] t q = refl
 nil-left (a ∷ s) t q = absurd (let z : _≡_ {A = ℕ} (suc (length (s ++ t))) 0 = ap length q in let y : ⊥ = omega arith in y)
-
-nil-right : (s t : List ℕ) → s ++ t ≡ [] → t ≡ []
-nil-right s t q = ap (λ (x : List ℕ). x ++ t) (sym (nil-left s t q)) ∙ q
 
 module _ (p : Params) (st : State) (f : Fits st) (r : Ranged p) (so : StateOk p st) where
   small : Small st
@@ -181,7 +178,7 @@ module _ (p : Params) (long : Bool) (v : View) (m : Memory) (f : Fits (m .state)
       let g = openSegment st in
       let o = pointerAt v d (zoneOn g d) - 1 in
       let st₁ = markLanded st i d o in
-      let f₁ = fits-mark st f i d o (placed-low d g s r (off (nil-right (stateFaults p st) (landFaults p v m d s) (c .1 .1 .1 .1 .0)))) in
+      let f₁ = fits-mark st f i d o (placed-low d g s r (off (right-nil (stateFaults p st) (landFaults p v m d s) (c .1 .1 .1 .1 .0)))) in
       go (completes p st i d) (seals p st i d) st₁ i f₁
     where
       off : landFaults p v m d s ≡ [] → misplaced p v d (zoneOn (openSegment st) d) s ≡ false

@@ -25,19 +25,21 @@ use Rattle.spec.specs.Reclaim.{victim, idle}
 use Rattle.spec.specs.Restart.{restartStores, restartChecks, restartPlan}
 use Rattle.spec.specs.Segments.{segments}
 use Rattle.law_basic.specs.Ranges.{and-left, and-right, and-both}
+use Rattle.law_basic.specs.Sections.{stateOf-stateBytes}
 use Rattle.law_basic.specs.Stores.{refused-same}
 use Rattle.law_views.specs.Views.{seen}
+use Rattle.law_calls.specs.Refusals.{refusal-kind, refused-unfinished}
 use Rattle.law_lent.specs.Hosts.{bytes-long}
 use Rattle.law_lent.specs.Shorts.{write-keeps, land-keeps, close-keeps, reclaim-keeps, read-keeps, fill-keeps, restart-keeps, rebuild-keeps}
 use Rattle.proof_crash_calls.specs.Refusals.{Decides, decides}
-use Rattle.law_drives.specs.Checks.{Passes, Decided, decide, refusal-kind}
+use Rattle.law_drives.specs.Checks.{Passes, Decided, decide}
 use Rattle.law_drives.specs.Checks.Decided.{stops, goes}
 use Rattle.law_drives.specs.Image.{bytes-of}
 use Rattle.law_drives.specs.Laid.{in-take}
 use Rattle.law_drives.specs.Tests.{clash}
 use Rattle.law_drives.specs.Zones.{Bytes}
-use Rattle.proof_tables.specs.Outcomes.{refused-unfinished, cut-unfinished}
-use Rattle.proof_bytes.specs.Sections.{Fits, fits-stateOf, bytes-stateBytes, length-stateBytes, stateOf-stateBytes}
+use Rattle.proof_tables.specs.Outcomes.{cut-unfinished}
+use Rattle.proof_bytes.specs.Sections.{Fits, fits-stateOf, bytes-stateBytes, length-stateBytes, counted, fitting}
 use Rattle.proof_bytes.specs.Changes.{fits-zero}
 use Rattle.proof_bytes.specs.Reads.{Reads, grounded-reads}
 use Rattle.proof_bytes.specs.Fitted.{write-fits, land-fits, close-fits, reclaim-fits, restart-fits}
@@ -297,7 +299,7 @@ module _ (p : Params) (l : Lent) (c : Call) (e : length (l .state) ≡ stateLen)
           same = unfold leftBy in ap (λ (x : After Disk). mkAfter (done .answer) (lentDisk l) (lentMemory l) (x .block)) (keeps p (lentDisk l) (lentMemory l) c q)
       go false q = unfold leftBy lentAll lentDisk lentMemory in
           ap (λ (s : State). mkAfter (done .answer) (done .drives) (mkMemory s (done .memory .addresses) (done .memory .compact) (done .memory .inflight)) (done .block))
-          (stateOf-stateBytes (done .memory .state) f)
+          (stateOf-stateBytes (done .memory .state) (counted (done .memory .state) f) (fitting (done .memory .state) f))
 
   -- and leaves the state its length
   pub state-long : length (callBytes p l c .lent .state) ≡ stateLen

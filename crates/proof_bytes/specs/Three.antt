@@ -27,6 +27,7 @@ use Rattle.spec.specs.Memory.{mkMemory, stateLen}
 use Rattle.spec.specs.Params.{inRange, driveLen, addressesLen, compactLen, inflightLen, named}
 use Rattle.spec.specs.Restart.{namesDrive}
 use Rattle.law_basic.specs.Ranges.{and-left, and-right, and-both}
+use Rattle.law_calls.specs.Refusals.{refused-unfinished}
 use Rattle.proof_crash.specs.Demand.{demand-3}
 use Rattle.law_lent.specs.Shorts.{short-refused}
 use Rattle.proof_crash_calls.specs.Join.{sent-refused}
@@ -38,7 +39,6 @@ use Rattle.law_drives.specs.Image.{bytes-of}
 use Rattle.law_drives.specs.Laid.{bytes-nil, bytes-zeros}
 use Rattle.law_drives.specs.Tests.{cond-true, cond-false}
 use Rattle.law_drives.specs.Zones.{Bytes}
-use Rattle.proof_tables.specs.Outcomes.{refused-unfinished}
 use Rattle.proof_bytes.specs.Sections.{Fits, stateOf-zeros}
 use Rattle.proof_bytes.specs.Images.{bytes-splice}
 use Rattle.proof_bytes.specs.Kept.{LentBytes, call-fits, call-bytes, decoded, state-long, simulates-bytes}

@@ -20,6 +20,7 @@ use Rattle.spec.specs.Params.{inRange, noDrive, named}
 use Rattle.spec.specs.Restart.{namesDrive}
 use Rattle.spec.specs.Segments.{Segment, segments}
 use Rattle.law_views.specs.Views.{Whole, seen}
+use Rattle.law_calls.specs.Refusals.{refused-unfinished}
 use Rattle.law_lent.specs.Hosts.{bytes-short}
 use Rattle.law_lent.specs.Shorts.{shortAnswer, short-refused, restart-short}
 use Rattle.spec_demands.specs.Engines.{Reply, onValues, onBytes, callWorld, callLent, viewIn, readsAs}
@@ -27,7 +28,6 @@ use Rattle.spec_demands.specs.Tables.{Pending, pendingAfter, foundAfter, Says, 
 use Rattle.law_drives.specs.Image.{bytes-of, shaped-of}
 use Rattle.law_drives.specs.Tests.{clash}
 use Rattle.law_drives.specs.Zones.{Shaped}
-use Rattle.proof_tables.specs.Outcomes.{refused-unfinished}
 use Rattle.proof_tables.specs.Run.{Run}
 use Rattle.proof_tables.specs.Theorem.{restart-finished, stepped}
 use Rattle.proof_bytes.specs.Sections.{Fits}

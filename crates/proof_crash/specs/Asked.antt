@@ -27,9 +27,10 @@ use Rattle.spec.specs.Segments.{Segment, segments, greatestSerial}
 use Rattle.law_basic.specs.Geometry.{Ranged}
 use Rattle.law_basic.specs.Ranges.{and-left, and-right}
 use Rattle.law_views.specs.Views.{seen}
+use Rattle.law_drives.specs.Tests.{clash, not-so}
 use Rattle.proof_crash_machine.specs.Facts.{Ghost, InV, Choice}
 use Rattle.proof_crash_machine.specs.Val.{Val}
-use Rattle.proof_crash_items.specs.Member.{true-false, false-of, or-false}
+use Rattle.proof_crash_items.specs.Member.{or-false}
 use Rattle.proof_crash_items.specs.Ranges.{parOf}
 use Rattle.proof_crash_items.specs.Refuse.{image-passes, not-refused}
 use Rattle.proof_crash_items.specs.Segs.{OnDrives}
@@ -76,7 +77,7 @@ module _ (p : Params) (h : Ranged p) (k : Disk) (m : Memory) (d n : ℕ) (g : Gh
       )
 
   pub boot-six : (rewrites p (named d) (segments p (seen p k) (named d)) && eqb (greatestSerial (segments p (seen p k) (named d))) lastCount) ≡ false
-  boot-six = false-of (rewrites p (named d) gs && eqb (greatestSerial gs) lastCount) (λ q. true-false (isRefusedAs 6 (callDisk p k m (restart d n) .answer)) (was q) al)
+  boot-six = not-so (rewrites p (named d) gs && eqb (greatestSerial gs) lastCount) (λ q. clash (was q) al)
     where
       six : isRefusedAs 6 (Refused 6) ≡ true
       six = unfold isRefusedAs isRefused kind values in refl

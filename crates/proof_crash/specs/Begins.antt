@@ -9,7 +9,6 @@ use native.Mathlib.Omega.{arith}
 use lib.Dec.{eqb}
 use lib.ListN.{length}
 use Rattle.spec.specs.declared.Params.{Params}
-use Rattle.spec.specs.Demands.{sendAt}
 use Rattle.spec.specs.Drives.{View}
 use Rattle.spec.specs.History.{Send, forget}
 use Rattle.spec.specs.Memory.{idleState}
@@ -17,6 +16,7 @@ use Rattle.spec.specs.Params.{noDrive, named}
 use Rattle.spec.specs.Restart.{openOf, nextOf, restartMemory}
 use Rattle.spec.specs.Segments.{Segment, segments, candidates, addressTable, greatestStamp, greatestSerial, unsealed}
 use Rattle.law_basic.specs.Geometry.{Ranged}
+use Rattle.law_drives.specs.Tests.{clash}
 use Rattle.proof_crash_machine.specs.Example.{reached}
 use Rattle.proof_crash_machine.specs.Facts.{Ghost, InV}
 use Rattle.proof_crash_machine.specs.Finish.{upTo, upTo-le, finishing}
@@ -27,7 +27,6 @@ use Rattle.proof_crash_machine.specs.Memory2.{restMem}
 use Rattle.proof_crash_machine.specs.Order.{Track}
 use Rattle.proof_crash_machine.specs.Val.{Val}
 use Rattle.proof_crash_items.specs.Items.{itemsIn}
-use Rattle.proof_crash_items.specs.Member.{true-false}
 use Rattle.proof_crash_items.specs.Named.{none-named}
 use Rattle.proof_crash_items.specs.Segs.{OnDrives}
 use Rattle.proof_crash_restarts.specs.Done.{stampTop, serialTop, readOn, RestartDone}
@@ -98,7 +97,7 @@ module _ (p : Params) (h : Ranged p) (v : View) (ss : List Send) (n : ℕ) (g : 
 
   open-as : D .b ≡ true → (openOf us ≡ suc (D .z)) × (D .n ≡ nextOf p us)
   open-as e = ⊎-elim (λ (q : (D .b ≡ true) × (openOf us ≡ suc (D .z)) × (nextOf p us ≡ D .n)). (q .1, sym (q .2)))
-      (λ (q : (D .b ≡ false) × (openOf us ≡ 0)). true-false (D .b) e (q .0)) (f .is)
+      (λ (q : (D .b ≡ false) × (openOf us ≡ 0)). clash e (q .0)) (f .is)
 
   rel? : Rel p (itemsIn p u) (idleState 1 0 t sr (openOf us) (nextOf p us)) fl M
   rel? = rest-rel p (itemsIn p u) fl 1 t sr (openOf us) (nextOf p us) (D .b) (D .z) (D .n) (stamps-fit p h doneGhost u on none?) (serials-fit p h doneGhost u on none?)
@@ -118,7 +117,7 @@ module _ (p : Params) (h : Ranged p) (v : View) (ss : List Send) (n : ℕ) (g : 
       T = T;
       reached = reached₁;
       rel = rel?;
-      waits = λ j l q. true-false (sendAt (map forget ss) j .waits) q (forget-waits ss j l);
+      waits = λ j l q. clash q (forget-waits ss j l);
       table = table?;
     },
     refl,

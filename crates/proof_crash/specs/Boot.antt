@@ -20,13 +20,13 @@ use Rattle.spec.specs.Memory.{Memory}
 use Rattle.spec.specs.Params.{named}
 use Rattle.law_basic.specs.Geometry.{Ranged}
 use Rattle.law_views.specs.Views.{seen}
+use Rattle.law_drives.specs.Tests.{clash}
 use Rattle.proof_crash_machine.specs.Facts.{InV}
 use Rattle.proof_crash_machine.specs.History.{State as m-State, Claim}
 use Rattle.proof_crash_machine.specs.Reset.{same}
 use Rattle.proof_crash_machine.specs.Val.{Val}
 use Rattle.proof_crash_items.specs.Cands.{reads}
 use Rattle.proof_crash_items.specs.Items.{itemsIn}
-use Rattle.proof_crash_items.specs.Member.{true-false}
 use Rattle.proof_crash_items.specs.Refuse.{not-refused}
 use Rattle.proof_crash_restarts.specs.Link.{Linked}
 use Rattle.proof_crash_calls.specs.Go.{mst}
@@ -84,8 +84,8 @@ module _ (p : Params) (h : Ranged p) (s : Hist) (n : ℕ) (x : Stands p h s n) w
   boot-cut d c k m b y = subst (λ (z : Hist). RestartOk p s Cut z × Holds p h z) (sym (leaves-cut s d c k m b)) (
     record {
       not-refused = unfold isRefused kind in refl;
-      reads = λ f. absurd (true-false (finished Cut) f no-finish);
-      same = λ f. absurd (true-false (finished Cut) f no-finish);
+      reads = λ f. absurd (clash f no-finish);
+      same = λ f. absurd (clash f no-finish);
     },
     y,
   )

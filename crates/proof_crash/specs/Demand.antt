@@ -23,9 +23,10 @@ use Rattle.spec.specs.Params.{inRange, noDrive, named}
 use Rattle.spec.specs.Restart.{namesDrive, restartChecks}
 use Rattle.spec.specs.Segments.{segments}
 use Rattle.law_basic.specs.Geometry.{Ranged, ranged}
-use Rattle.law_basic.specs.Ranges.{Test, test, and-left, and-right, and-both}
+use Rattle.law_basic.specs.Ranges.{Test, test, and-left, and-right, and-both, or-left}
 use Rattle.law_basic.specs.Ranges.Test.{yes!, no! }
 use Rattle.law_views.specs.Views.{Whole, seen}
+use Rattle.law_drives.specs.Tests.{cond-true, cond-false, clash}
 use Rattle.proof_crash_machine.specs.Example.{reached}
 use Rattle.proof_crash_machine.specs.History.Mode.{off}
 use Rattle.proof_crash_machine.specs.History.{Inv, start}
@@ -33,11 +34,10 @@ use Rattle.proof_crash_machine.specs.Order.{Tracked, tracked, noTrack}
 use Rattle.proof_crash_machine.specs.Reset.{same}
 use Rattle.proof_crash_machine.specs.Rewrite.{st}
 use Rattle.proof_crash_items.specs.Items.{itemsIn}
-use Rattle.proof_crash_items.specs.Member.{true-false, cond-true, cond-false}
 use Rattle.proof_crash_items.specs.Ranges.{parOf}
 use Rattle.proof_crash_items.specs.RestMem.{names-cases}
 use Rattle.proof_crash_items.specs.Start.{empty-whole, empty-items, start-on}
-use Rattle.proof_crash_calls.specs.Base.{or-l, or-r, passes}
+use Rattle.proof_crash_calls.specs.Base.{or-r, passes}
 use Rattle.proof_crash_calls.specs.Go.{mst, Go, go-none, go-view, go-start}
 use Rattle.proof_crash_calls.specs.Others.{refused-any}
 use Rattle.proof_crash_calls.specs.Refusals.{decides, boot-step}
@@ -151,7 +151,7 @@ module _ (p : Params) (h : Ranged p) (s : Hist) (H : Holds p h s) where
           (call-leaves p s (restart d c)) (is true q ∙ (unfold onlyIf in refl)) whole? (λ e y n. refl) (λ l. refl) q al
       go (no! q) = (
         none-claimed (calls (restart d c)) (is false q ∙ (unfold onlyIf in refl)),
-        subst (Holds p h) (sym (refused-any p s (restart d c) (λ f. true-false (inOrder p (s .world) d) (passed (reveal f)) q))) H,
+        subst (Holds p h) (sym (refused-any p s (restart d c) (λ f. clash (passed (reveal f)) q))) H,
       )
         where
           reveal : firstRefusal (decides p (lentOk p (s .world .disk) (s .world .memory)) (seen p (s .world .disk)) (s .world .memory) (restart d c) .checks) ≡ none
@@ -163,7 +163,7 @@ module _ (p : Params) (h : Ranged p) (s : Hist) (H : Holds p h s) where
               (segments p (seen p (s .world .disk)) (named d))) ≡ none
               → inOrder p (s .world) d ≡ true
           passed f = unfold inOrder in and-both (inRange p && namesDrive p d) (lentOk p (s .world .disk) (s .world .memory))
-              (and-both (inRange p) (namesDrive p d) (not-false (inRange p) (or-l (not (inRange p)) (not (namesDrive p d)) (two f .0)))
+              (and-both (inRange p) (namesDrive p d) (not-false (inRange p) (or-left (not (inRange p)) (not (namesDrive p d)) (two f .0)))
               (not-false (namesDrive p d) (or-r (not (inRange p)) (not (namesDrive p d)) (two f .0))))
               (not-false (lentOk p (s .world .disk) (s .world .memory)) (two f .1))
             where

@@ -27,12 +27,12 @@ use Rattle.spec.specs.Segments.{segments}
 use Rattle.law_basic.specs.Geometry.{Ranged}
 use Rattle.law_basic.specs.Ranges.{and-right}
 use Rattle.law_views.specs.Views.{Whole, seen}
+use Rattle.law_drives.specs.Tests.{clash}
 use Rattle.proof_crash_machine.specs.Example.{reached}
 use Rattle.proof_crash_machine.specs.History.Mode.{off, ro}
 use Rattle.proof_crash_machine.specs.Rebuild.{withUn}
 use Rattle.proof_crash.specs.Stand.{Quiet, MarkOk, Stands, Holds, mark-moves, named-same, named-not, leaves, hist, rebuild-leaves-cut, rebuild-leaves}
 use Rattle.proof_crash_machine.specs.Reset.{same}
-use Rattle.proof_crash_items.specs.Member.{true-false}
 use Rattle.proof_crash_items.specs.Seen.{seen-stores, seen-cut, whole-all, whole-cut}
 use Rattle.proof_crash_items.specs.Sound.{AllSound}
 use Rattle.proof_crash_restarts.specs.Link.{Linked}
@@ -63,7 +63,7 @@ isRebuild (restart d n) = false
 isRebuild (rebuild d n) = true
 
 not-rebuild : (c : Call) → isRebuild c ≡ false → (d n : ℕ) → c ≡ rebuild d n → ⊥
-not-rebuild c q d n e = true-false (isRebuild c) (ap isRebuild e ∙ (unfold isRebuild in refl)) q
+not-rebuild c q d n e = clash (ap isRebuild e ∙ (unfold isRebuild in refl)) q
 
 -- ---- a rebuild
 

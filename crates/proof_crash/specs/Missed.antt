@@ -26,13 +26,13 @@ use Rattle.law_basic.specs.Geometry.{Ranged}
 use Rattle.law_basic.specs.Ranges.{Test, test}
 use Rattle.law_basic.specs.Ranges.Test.{yes!, no! }
 use Rattle.law_views.specs.Views.{Whole, seen}
+use Rattle.law_drives.specs.Tests.{cond-false}
 use Rattle.proof_crash_machine.specs.Example.{reached}
 use Rattle.proof_crash_machine.specs.Facts.{Ghost, Choice}
 use Rattle.proof_crash_machine.specs.Finish.{finishing}
 use Rattle.proof_crash_machine.specs.History.Mode.{ro}
 use Rattle.proof_crash_machine.specs.Rebuild.{withUn}
 use Rattle.proof_crash_machine.specs.Reset.{same}
-use Rattle.proof_crash_items.specs.Member.{cond-false}
 use Rattle.proof_crash_items.specs.Named.{named-some}
 use Rattle.proof_crash_items.specs.Ranges.{parOf}
 use Rattle.proof_crash_items.specs.Reading.{Tabled}

@@ -6,7 +6,6 @@ use mathlib.Core.Logic.{_⊎_, inl}
 use Prim.Native.Nat.{ℕ, _≤_, _<_}
 use borrow.Author.Tests.{eq-eqb, eqb-true}
 use native.Mathlib.Omega.{arith}
-use lib.Dec.{eqb}
 use lib.ListN.{length}
 use Rattle.spec.specs.declared.Params.{Params}
 use Rattle.spec.specs.declared.State.{State}
@@ -24,6 +23,7 @@ use Rattle.spec.specs.Memory.{Memory, zeroState}
 use Rattle.spec.specs.Params.{named}
 use Rattle.law_basic.specs.Geometry.{Ranged}
 use Rattle.law_views.specs.Views.{Whole, seen}
+use Rattle.law_drives.specs.Tests.{clash}
 use Rattle.proof_crash_machine.specs.Example.{reached}
 use Rattle.proof_crash_machine.specs.Facts.{Ghost, InV}
 use Rattle.proof_crash_machine.specs.History.{Mode}
@@ -32,7 +32,6 @@ use Rattle.proof_crash_machine.specs.Order.{Track}
 use Rattle.proof_crash_machine.specs.Rewrite.{st}
 use Rattle.proof_crash_machine.specs.Untrusted.{untrusted}
 use Rattle.proof_crash_machine.specs.Val.{Val}
-use Rattle.proof_crash_items.specs.Member.{true-false}
 use Rattle.proof_crash_items.specs.Named.{isIn-named, named-some}
 use Rattle.proof_crash_calls.specs.Live.{Reached}
 use Rattle.proof_crash_calls.specs.Readings.{MarkShows, shows-more}
@@ -94,7 +93,7 @@ pub named-same : (d e : ℕ) → d < 8 → named d ≡ named e → d ≡ e
 named-same d e l q = eqb-true d e (sym (isIn-named e d l) ∙ ap (λ (x : ℕ). isIn x d) (sym q) ∙ isIn-named d d l ∙ eq-eqb d d refl)
 
 pub named-not : (p : Params) → Ranged p → (d : ℕ) → d < p .N → named d ≡ 0 → ⊥
-named-not p h d l e = true-false (eqb (named d) 0) (eq-eqb (named d) 0 e) (named-some d (omega (arith, l, h .drives-high)))
+named-not p h d l e = clash (eq-eqb (named d) 0 e) (named-some d (omega (arith, l, h .drives-high)))
 
 -- ---- what a call leaves of a history
 unfoldable pub leaves : Hist → Call → After Disk → Hist

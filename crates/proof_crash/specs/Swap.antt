@@ -22,7 +22,7 @@ use Rattle.law_basic.specs.Ranges.{Test, test, and-left, and-right}
 use Rattle.law_basic.specs.Ranges.Test.{yes!, no! }
 use Rattle.law_basic.specs.Splice.{length-splice}
 use Rattle.law_views.specs.Views.{view-splice, Whole, seen}
-use Rattle.proof_crash_items.specs.Member.{cond-true, cond-false, false-of}
+use Rattle.law_drives.specs.Tests.{cond-true, cond-false, not-so}
 
 module _ (p : Params) (k : Disk) (w : Whole p k) (d : ℕ) (im ps : List ℕ) where
   abbrev fits? : Bool
@@ -33,7 +33,7 @@ module _ (p : Params) (k : Disk) (w : Whole p k) (d : ℕ) (im ps : List ℕ) wh
 
   pub swapped-none : p .N ≤ d → swapped p k d im ps ≡ k
   unfolding swapped
-  swapped-none l = cond-false fits? other k (false-of fits? (λ q.
+  swapped-none l = cond-false fits? other k (not-so fits? (λ q.
       let b : d < p .N = ltb-true d (p .N) (and-left (ltb d (p .N)) (eqb (length im) (driveLen p)) (and-left (ltb d (p .N) && eqb (length im) (driveLen p)) (eqb (length ps) (4 * p .Z)) q)) in
       let z : ⊥ = omega (arith, b, l) in z))
 

@@ -18,7 +18,7 @@ use Rattle.spec.specs.Memory.{filledIn}
 use Rattle.spec.specs.Params.{dataCount}
 use Rattle.law_basic.specs.Geometry.{Ranged, data-drive-lt, data-not-parity}
 use Rattle.law_basic.specs.Ranges.{and-left, and-right, and-both}
-use Rattle.proof_crash_items.specs.Member.{true-false, cond-true, cond-false}
+use Rattle.law_drives.specs.Tests.{cond-true, cond-false, clash}
 use Rattle.proof_crash_items.specs.Ranges.{parOf}
 use Rattle.proof_crash_machine.specs.Facts.{Ghost, InV, Datum}
 use Rattle.proof_crash_machine.specs.Ghosts.{withBase}
@@ -65,7 +65,7 @@ module _ (q : ℕ) (G : ℕ → Val) (base : ℕ → ℕ) (x : ℕ) where
     where
       go : Dec (d ≡ n) → (b : Bool) → hit n ≡ b → (d < n → d ≢ q → G d .addr ≡ x → G d .stamp ≤ f n) → G d .stamp ≤ f (suc n)
       go (yes w) true t ih = rw (step n, t, w) (omega arith)
-      go (yes w) false t ih = true-false (hit n) (subst (λ (j : ℕ). hit j ≡ true) w (and-both (not (eqb d q)) (eqb (G d .addr) x) (ap not (ne-eqb d q k)) (eq-eqb (G d .addr) x e))) t
+      go (yes w) false t ih = clash (subst (λ (j : ℕ). hit j ≡ true) w (and-both (not (eqb d q)) (eqb (G d .addr) x) (ap not (ne-eqb d q k)) (eq-eqb (G d .addr) x e))) t
       go (no w) true t ih = let r : G d .stamp ≤ f n = ih (omega arith) k e in rw (step n, t) (omega arith)
       go (no w) false t ih = rw (step n, t) (ih (omega arith) k e)
 

@@ -1,41 +1,32 @@
 -- Small laws: tests, the eighths, lists of checks, counting. Assumes nothing.
-use mathlib.Core.Path.{_≡_, refl, sym, ap, _∙_, subst}
+use mathlib.Core.Path.{_≡_, refl, sym, ap, _∙_}
 use mathlib.Core.List.{List, [], _∷_}
 use mathlib.Core.Bool.{Bool, true, false, not, _&&_, _||_}
 use mathlib.Core.Logic.{_⊎_, inl, inr, _≢_}
 use Prim.Native.Nat.{ℕ, zero, suc, _+_, _≤_, _<_}
 use native.Mathlib.Decide.{ℕ-discrete}
-use borrow.Author.Tests.{lt-ltb, eq-eqb, ne-eqb, ltb-true, eqb-false, not-true}
+use borrow.Author.Tests.{lt-ltb, eq-eqb, ne-eqb, eqb-false, not-true}
 use native.Mathlib.Omega.{arith}
 use lib.Dec.{eqb}
-use lib.ListN.{length, getD}
-use Rattle.spec.specs.declared.Answer.{Answer}
-use Rattle.spec.specs.Answers.{kind, isRefused}
+use lib.ListN.{length}
 use Rattle.spec.specs.Calls.{Check, ninth, ruled, firstRefusal}
 use Rattle.spec.specs.Calls.Check.{rule, zones}
-use Rattle.spec.specs.Lists.Opt.{none, some}
-use Rattle.spec.specs.Lists.{upFrom, below, any, consIf, keep, sucUnless, indexOf}
+use Rattle.spec.specs.Lists.Opt.{none}
+use Rattle.spec.specs.Lists.{upFrom, below, any, consIf, keep, indexOf}
 use Rattle.spec.specs.Memory.{slotCount, slots}
-use Rattle.law_basic.specs.Ranges.{Test, test, length-below, getD-below, indexOf-any}
+use Rattle.law_basic.specs.Ranges.{Test, test, length-below, indexOf-any, and-fails, or-left}
 use Rattle.law_basic.specs.Ranges.Test.{yes!, no! }
-use Rattle.proof_crash_items.specs.Member.{Has, true-false, has-keep, keep-nil, upFrom-has, below-has, has-below, any-has, any-false}
+use Rattle.law_drives.specs.Checks.{some-none}
+use Rattle.law_drives.specs.Tests.{clash}
+use Rattle.proof_crash_items.specs.Member.{Has, has-keep, keep-nil, upFrom-has, below-has, has-below, any-has, any-false}
 use Rattle.proof_crash_machine.specs.Exec.{true≢false, and-1, and-2}
-use Rattle.proof_crash_machine.specs.Memory.{choose, setAt, setAt-elim}
+use Rattle.proof_crash_machine.specs.Memory.{setAt, setAt-elim}
 
 -- ---- tests
-
-pub or-l : (a b : Bool) → (a || b) ≡ false → a ≡ false
-or-l true b e = true≢false (sym e)
-or-l false b e = refl
 
 pub or-r : (a b : Bool) → (a || b) ≡ false → b ≡ false
 or-r true b e = true≢false (sym e)
 or-r false b e = e
-
--- a && b fails where a holds
-pub and-fails : (a b : Bool) → (a && b) ≡ false → a ≡ true → b ≡ false
-and-fails true b e q = e
-and-fails false b e q = true≢false q
 
 pub eqb-self : (n : ℕ) → eqb n n ≡ true
 eqb-self n = eq-eqb n n refl
@@ -48,9 +39,6 @@ Passes [] = Unit {0}
 Passes (rule n b ∷ cs) = (b ≡ false) × Passes cs
 Passes (zones zs ∷ cs) = (zs ≡ []) × Passes cs
 
-some-none : {X : Type 0} {a : Answer} → some a ≡ none → X
-some-none e = absurd (let z : _≡_ {A = ℕ} 0 1 = cc in let q : ⊥ = omega arith in q)
-
 pub passes : (cs : List Check) → firstRefusal cs ≡ none → Passes cs
 unfolding firstRefusal ruled ninth
 passes [] q = tt
@@ -59,35 +47,7 @@ passes (rule n false ∷ cs) q = (refl, passes cs q)
 passes (zones [] ∷ cs) q = (refl, passes cs q)
 passes (zones (z ∷ zs) ∷ cs) q = some-none q
 
-some-some : {a b : Answer} → some a ≡ some b → a ≡ b
-some-some e = cc
-
--- an answer of the checks is a refusal
-pub refuses : (cs : List Check) (a : Answer) → firstRefusal cs ≡ some a → isRefused a ≡ true
-unfolding firstRefusal ruled ninth
-refuses [] a q = some-none (sym q)
-refuses (rule n true ∷ cs) a q = subst (λ (x : Answer). isRefused x ≡ true) (some-some q) (unfold isRefused kind in refl)
-refuses (rule n false ∷ cs) a q = refuses cs a q
-refuses (zones [] ∷ cs) a q = refuses cs a q
-refuses (zones (z ∷ zs) ∷ cs) a q = subst (λ (x : Answer). isRefused x ≡ true) (some-some q) (unfold isRefused kind in refl)
-
 -- ---- the first index
-
-pub index-hit : {A : Type 0} (f : A → Bool) (l : List A) (d : A) → any f l ≡ true → f (getD l (indexOf f l) d) ≡ true
-unfolding any indexOf
-index-hit f [] d e = true≢false e
-index-hit f (a ∷ l) d e = go (f a) refl (index-hit f l d) e
-  where
-    go : (b : Bool) → f a ≡ b → (any f l ≡ true → f (getD l (indexOf f l) d) ≡ true) → (b || any f l) ≡ true → f (getD (a ∷ l) (sucUnless b (indexOf f l)) d) ≡ true
-    go true q ih e = unfold sucUnless in q
-    go false q ih e = unfold sucUnless in ih e
-
--- an eighth that passes the test
-pub slot-found : (f : ℕ → Bool) → any f slots ≡ true → (indexOf f slots < 8) × (f (indexOf f slots) ≡ true)
-unfolding slots slotCount
-slot-found f e =
-    let b : indexOf f (below 8) < 8 = omega (arith, ltb-true (indexOf f (below 8)) (length (below 8)) (indexOf-any f (below 8) ∙ e), length-below 8) in
-    (b, subst (λ (k : ℕ). f k ≡ true) (getD-below 8 (indexOf f (below 8)) 0 b) (index-hit f (below 8) 0 e))
 
 pub slot-any : (f : ℕ → Bool) → indexOf f slots < 8 → any f slots ≡ true
 unfolding slots slotCount
@@ -107,7 +67,7 @@ slot-has i m = below-has i 8 m
 pub keep-rest : {A : Type 0} (f : A → Bool) (l : List A) → any f l ≡ false → length (keep (λ a. not (f a)) l) ≡ length l
 unfolding any keep
 keep-rest f [] e = refl
-keep-rest f (a ∷ l) e = go (f a) (or-l (f a) (any f l) e) (keep-rest f l (or-r (f a) (any f l) e))
+keep-rest f (a ∷ l) e = go (f a) (or-left (f a) (any f l) e) (keep-rest f l (or-r (f a) (any f l) e))
   where
     go : (b : Bool) → b ≡ false → length (keep (λ a. not (f a)) l) ≡ length l → length (consIf (not b) a (keep (λ a. not (f a)) l)) ≡ suc (length l)
     go true q ih = true≢false (sym q)
@@ -124,7 +84,7 @@ keep-one f i k (suc n) h = go (ℕ-discrete k i) (f k) refl (keep-one f i (suc k
     go : Dec (k ≡ i) → (b : Bool) → f k ≡ b → length (keep f (upFrom (suc k) n)) ≤ 1 → length (consIf b k (keep f (upFrom (suc k) n))) ≤ 1
     go (yes e) true q ih = unfold consIf in omega (arith, ap length (rest e))
     go (yes e) false q ih = unfold consIf in ih
-    go (no e) true q ih = true-false (f k) q (h k (omega arith) (omega arith) e)
+    go (no e) true q ih = clash q (h k (omega arith) (omega arith) e)
     go (no e) false q ih = unfold consIf in ih
 
 -- two that pass: another than i
@@ -165,40 +125,9 @@ lone-pass f k (suc n) e i j a b p q = go (f k) refl e a b (lone-pass f (suc k) n
     go true w e (inl x) (inl y) ih = x ∙ sym y
     go true w e (inl x) (inr y) ih = unfold consIf in absurd (empty (omega (arith, e)) j y q)
     go true w e (inr x) y ih = unfold consIf in absurd (empty (omega (arith, e)) i x p)
-    go false w e (inl x) y ih = true-false (f k) (ap f (sym x) ∙ p) w
-    go false w e (inr x) (inl y) ih = true-false (f k) (ap f (sym y) ∙ q) w
+    go false w e (inl x) y ih = clash (ap f (sym x) ∙ p) w
+    go false w e (inr x) (inl y) ih = clash (ap f (sym y) ∙ q) w
     go false w e (inr x) (inr y) ih = unfold consIf in ih e i j x y p q
-
--- n different numbers below m
-unfoldable moved : (ℕ → ℕ) → ℕ → ℕ → ℕ → ℕ
-moved f n m i = choose (ℕ-discrete (f i) m) (f n) (f i)
-
-pub pigeon : (m n : ℕ) (f : ℕ → ℕ) → ((i : ℕ) → i < n → f i < m) → ((i j : ℕ) → i < n → j < n → f i ≡ f j → i ≡ j) → n ≤ m
-unfolding moved
-pigeon zero zero f b inj = omega arith
-pigeon zero (suc n) f b inj = absurd (let q : ⊥ = omega (arith, b 0 (omega arith)) in q)
-pigeon (suc m) zero f b inj = omega arith
-pigeon (suc m) (suc n) f b inj = omega (arith, pigeon m n (moved f n m) low apart)
-  where
-    low : (i : ℕ) → i < n → moved f n m i < m
-    low i l = go (ℕ-discrete (f i) m)
-      where
-        go : (q : Dec (f i ≡ m)) → choose q (f n) (f i) < m
-        go (yes e) = go′ (ℕ-discrete (f n) m)
-          where
-            go′ : Dec (f n ≡ m) → f n < m
-            go′ (yes e′) = absurd (let q : ⊥ = omega (arith, inj i n (omega arith) (omega arith) (e ∙ sym e′), l) in q)
-            go′ (no e′) = omega (arith, b n (omega arith))
-        go (no e) = omega (arith, b i (omega arith))
-
-    apart : (i j : ℕ) → i < n → j < n → moved f n m i ≡ moved f n m j → i ≡ j
-    apart i j l k = go (ℕ-discrete (f i) m) (ℕ-discrete (f j) m)
-      where
-        go : (q : Dec (f i ≡ m)) (w : Dec (f j ≡ m)) → choose q (f n) (f i) ≡ choose w (f n) (f j) → i ≡ j
-        go (yes e) (yes e′) q = inj i j (omega arith) (omega arith) (e ∙ sym e′)
-        go (yes e) (no e′) q = absurd (let z : ⊥ = omega (arith, inj n j (omega arith) (omega arith) q, k) in z)
-        go (no e) (yes e′) q = absurd (let z : ⊥ = omega (arith, inj i n (omega arith) (omega arith) q, l) in z)
-        go (no e) (no e′) q = inj i j (omega arith) (omega arith) q
 
 -- ---- functions changed at one place
 

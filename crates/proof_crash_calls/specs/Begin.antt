@@ -12,12 +12,11 @@ use lib.Count.{ones, onesIn}
 use Rattle.spec.specs.declared.Params.{Params}
 use Rattle.spec.specs.declared.State.{State}
 use Rattle.spec.specs.Layout.{parityDrive, dataDrive}
-use Rattle.spec.specs.Lists.{isIn}
 use Rattle.spec.specs.Memory.{stripeIn, filledIn, landedIn, entryIn, offsetIn, beginStripe, slotBlock}
 use Rattle.spec.specs.Params.{dataCount}
 use Rattle.law_basic.specs.Geometry.{Ranged, data-count-low, data-not-parity}
 use Rattle.law_basic.specs.Mask.{isIn-empty}
-use Rattle.proof_crash_items.specs.Member.{true-false}
+use Rattle.law_drives.specs.Tests.{clash}
 use Rattle.proof_crash_items.specs.Ranges.{parOf}
 use Rattle.proof_crash_machine.specs.Exec.{or-cases, or-1}
 use Rattle.proof_crash_machine.specs.Facts.{Par, Ghost}
@@ -80,7 +79,7 @@ module _ (p : Params) (h : Ranged p) (g : Ghost) (v : m-View) (st : State) (fl :
     blank = λ j a b. unfilled-data (parOf p h) s (dataDrive p s j) (λ e. data-not-parity p s j e);
     xored = λ e. absurd (let z : ⊥ = omega (arith, e, data-count-low p h) in z);
     may = λ d l. sym (none-ready p h s d l);
-    on = λ d l e. true-false (isIn 0 d) e (isIn-empty d);
+    on = λ d l e. clash e (isIn-empty d);
     out = λ d l e x k. let z : ⊥ = omega (arith, m .below o d s x l k) in z;
   }
 
@@ -92,7 +91,7 @@ module _ (p : Params) (h : Ranged p) (g : Ghost) (v : m-View) (st : State) (fl :
   older j jl q = m .flies (stripeIn st j) (R .flying j jl q) .1
 
   not-i : (j : ℕ) → inUse st j ≡ true → j ≢ i
-  not-i j q e = true-false (inUse st j) q (ap (inUse st) e ∙ free)
+  not-i j q e = clash q (ap (inUse st) e ∙ free)
 
   there : (j : ℕ) → j < 8 → inUse st j ≡ true
       → SlotOf p v (beginStripe st i) fl (M .zone) j (begunMem (parOf p h) M .F (stripeIn (beginStripe st i) j)) (begunMem (parOf p h) M .ready (stripeIn (beginStripe st i) j))
@@ -153,7 +152,7 @@ module _ (p : Params) (h : Ranged p) (g : Ghost) (v : m-View) (st : State) (fl :
           (f .0, f .1, with-other st i (f .0) (not-i (f .0) (f .2)) ∙ f .2, numbers (f .0) (f .2) ∙ f .3)
 
       whole : (x : ℕ) → x < suc s → Dec (x ≡ s) → setAt (M .fly) s true x ≡ false → (d : ℕ) → d < p .N → (y : Val) × In (chunk x y) (v d (M .zone))
-      whole x l (yes e) w = true-false (setAt (M .fly) s true x) (ap (setAt (M .fly) s true) e ∙ setAt-here (M .fly) s true) w
+      whole x l (yes e) w = clash (ap (setAt (M .fly) s true) e ∙ setAt-here (M .fly) s true) w
       whole x l (no e) w = R .whole o x (omega arith) (sym (setAt-else (M .fly) s true x e) ∙ w)
 
   pub begin-waits : (x : Val) (y : ℕ) → Waiting p st M x y → Waiting p (beginStripe st i) (begunMem (parOf p h) M) x y

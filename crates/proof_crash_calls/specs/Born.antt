@@ -23,8 +23,9 @@ use Rattle.spec.specs.Segments.{lowDrive, leftBy1, isCopy, remaining, Segment, 
 use Rattle.law_basic.specs.Geometry.{Ranged}
 use Rattle.law_basic.specs.Mask.{isIn-empty}
 use Rattle.law_views.specs.Views.{seen}
+use Rattle.law_drives.specs.Tests.{clash, not-so}
 use Rattle.proof_crash_items.specs.Items.{itemsIn}
-use Rattle.proof_crash_items.specs.Member.{Has, true-false, false-of, has-keep, keep-nil, below-has, has-below, all-has}
+use Rattle.proof_crash_items.specs.Member.{Has, has-keep, keep-nil, below-has, has-below, all-has}
 use Rattle.proof_crash_items.specs.Ranges.{parOf}
 use Rattle.proof_crash_items.specs.Sound.{BytesOk}
 use Rattle.proof_crash_items.specs.Start.{empty-whole, empty-pointer, empty-items, start-on}
@@ -79,8 +80,8 @@ module _ (p : Params) (h : Ranged p) (k : Disk) (e : emptyDisk p k ≡ true) (fl
 
   none-left : leftBy1 p v 0 ≡ []
   unfolding leftBy1 segmentNumbers zoneOn
-  none-left = keep-nil (λ g. all (λ d. not (eqb (pointerAt v d g) 0)) (present p 0)) (below (p .Z)) (λ z i. false-of (all (λ d. not (eqb (pointerAt v d z) 0)) (present p 0)) (λ q.
-      true-false (not (eqb (pointerAt v 0 z) 0)) (all-has (λ d. not (eqb (pointerAt v d z) 0)) (present p 0) q 0 first)
+  none-left = keep-nil (λ g. all (λ d. not (eqb (pointerAt v d g) 0)) (present p 0)) (below (p .Z)) (λ z i. not-so (all (λ d. not (eqb (pointerAt v d z) 0)) (present p 0)) (λ q.
+      clash (all-has (λ d. not (eqb (pointerAt v d z) 0)) (present p 0) q 0 first)
       (ap not (eq-eqb (pointerAt v 0 z) 0 (empty-pointer p h k e 0 z (omega (arith, h .drives-low)) (below-has z (p .Z) i))))))
     where
       first : Has 0 (present p 0)

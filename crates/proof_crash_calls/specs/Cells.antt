@@ -14,6 +14,7 @@ use Rattle.spec.specs.Layout.{mkRec}
 use Rattle.spec.specs.Lists.{only, isIn}
 use Rattle.spec.specs.Memory.{cell, stripeIn, filledIn, landedIn, isWrite, entryIn, offsetIn, isFree, setStamp, setOpen, setClosed, beginStripe, addEntry, landedMask, markLanded, freeStripe}
 use Rattle.law_basic.specs.Mask.{isIn-with}
+use Rattle.law_drives.specs.Slots.{cell-low}
 use Rattle.proof_crash_machine.specs.Exec.{or-1, or-2}
 use Rattle.proof_crash_calls.specs.Base.{eqb-self}
 use Rattle.proof_crash_calls.specs.Rel.{Long, inUse}
@@ -29,10 +30,6 @@ pub record SameSlot (st st′ : State) (j : ℕ) : Type 0 where
 pub cell-apart : (i k j l : ℕ) → k < 8 → l < 8 → (i ≢ j) ⊎ (k ≢ l) → cell i k ≢ cell j l
 unfolding cell
 cell-apart i k j l a b n e = ⊎-elim (λ (q : i ≢ j). q (omega arith)) (λ (q : k ≢ l). q (omega arith)) n
-
-pub cell-within : (i k : ℕ) → i < 8 → k < 8 → cell i k < 64
-unfolding cell
-cell-within i k a b = omega arith
 
 pub same-used : (st st′ : State) (j : ℕ) → SameSlot st st′ j → inUse st′ j ≡ inUse st j
 unfolding inUse isFree
@@ -85,8 +82,8 @@ module _ (st : State) (L : Long st) (i : ℕ) (il : i < 8) (a t w : ℕ) (kl : f
   pub add-entry : entryIn (addEntry st i a t w) i (filledIn st i) ≡ mkRec a t (stripeIn st i)
   unfolding addEntry entryIn stripeIn
   add-entry = λ j. mkRec
-      (getD-set-same (st .addresses) (cell i (filledIn st i)) a 0 (omega (arith, L .addresses, cell-within i (filledIn st i) il kl)) j)
-      (getD-set-same (st .stamps) (cell i (filledIn st i)) t 0 (omega (arith, L .stamps, cell-within i (filledIn st i) il kl)) j) (getD (st .numbers) i 0)
+      (getD-set-same (st .addresses) (cell i (filledIn st i)) a 0 (omega (arith, L .addresses, cell-low i (filledIn st i) il kl)) j)
+      (getD-set-same (st .stamps) (cell i (filledIn st i)) t 0 (omega (arith, L .stamps, cell-low i (filledIn st i) il kl)) j) (getD (st .numbers) i 0)
 
   pub add-entry-old : (j k : ℕ) → k < 8 → (j ≢ i) ⊎ (k ≢ filledIn st i) → entryIn (addEntry st i a t w) j k ≡ entryIn st j k
   unfolding addEntry entryIn stripeIn
@@ -197,7 +194,7 @@ module _ (st : State) (L : Long st) (i d o : ℕ) (il : i < 8) (dl : d < 8) wher
 
   pub land-offset : offsetIn (markLanded st i d o) i d ≡ o
   unfolding markLanded offsetIn
-  land-offset = getD-set-same (st .offsets) (cell i d) o 0 (omega (arith, L .offsets, cell-within i d il dl))
+  land-offset = getD-set-same (st .offsets) (cell i d) o 0 (omega (arith, L .offsets, cell-low i d il dl))
 
   pub land-offset-old : (j e : ℕ) → e < 8 → (j ≢ i) ⊎ (e ≢ d) → offsetIn (markLanded st i d o) j e ≡ offsetIn st j e
   unfolding markLanded offsetIn

@@ -22,9 +22,10 @@ use Rattle.spec.specs.Rank.{Cand, best, placeOr, candsOf}
 use Rattle.law_basic.specs.Geometry.{Ranged, place-block, place-zone, place-drive, data-drive-lt, data-not-parity}
 use Rattle.law_basic.specs.Ranges.{Test, test}
 use Rattle.law_basic.specs.Ranges.Test.{yes!, no! }
+use Rattle.law_drives.specs.Tests.{cond-true, cond-false}
 use Rattle.proof_crash_items.specs.Cands.{best-none}
 use Rattle.proof_crash_items.specs.Items.{itemsIn}
-use Rattle.proof_crash_items.specs.Member.{Has, cond-true, cond-false, keep-has, has-keep, below-has, has-below, any-has, any-false, map-has, has-map}
+use Rattle.proof_crash_items.specs.Member.{Has, keep-has, has-keep, below-has, has-below, any-has, any-false, map-has, has-map}
 use Rattle.proof_crash_items.specs.Ranges.{parOf}
 use Rattle.proof_crash_items.specs.Segs.{OnDrives, zone-bytes, zone-len}
 use Rattle.proof_crash_items.specs.Stripes.{pointer-is}

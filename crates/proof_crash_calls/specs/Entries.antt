@@ -13,13 +13,14 @@ use Rattle.spec.specs.Params.{capacity, placeBlock, placeZone, placeDrive}
 use Rattle.law_basic.specs.Geometry.{Ranged, place-again, place-lt}
 use Rattle.proof_crash_items.specs.Items.{valueOf, itemsIn, items-in, of-chunk}
 use Rattle.proof_crash_items.specs.Ranges.{capacity-few}
+use Rattle.proof_crash_items.specs.Reading.{places-many}
 use Rattle.proof_crash_items.specs.Segs.{OnDrives, zone-low}
 use Rattle.proof_crash_machine.specs.Facts.{Ghost, Off}
 use Rattle.proof_crash_machine.specs.Val.{Val}
 use Rattle.proof_crash_machine.specs.View.{Item}
 use Rattle.proof_crash_machine.specs.View.Item.{chunk}
 use Rattle.proof_crash_calls.specs.Held.{Entry}
-use Rattle.proof_crash_calls.specs.Places.{places-many, record-at}
+use Rattle.proof_crash_calls.specs.Places.{record-at}
 use Rattle.proof_crash_calls.specs.Sends.{value-stamp}
 
 module _ (p : Params) (h : Ranged p) (g : Ghost) (v : View) (k : OnDrives p h g v) (none? : p .N ≤ g .un) (q a : ℕ) (e : Entry p h g (itemsIn p v) q a) where

@@ -4,9 +4,8 @@ use mathlib.Core.List.{List}
 use mathlib.Core.Bool.{Bool, true, false, _||_}
 use mathlib.Core.Logic.{inl, _≢_}
 use Prim.Native.Nat.{ℕ, zero, suc, _+_, _≤_, _<_}
-use native.Mathlib.Decide.{decLt}
 use native.Mathlib.Omega.{arith}
-use lib.ListN.{length, getD, replicate, length-replicate, List·getD-eq-default, getD-replicate}
+use lib.ListN.{length, replicate, length-replicate}
 use Rattle.spec.specs.declared.Params.{Params}
 use Rattle.spec.specs.declared.State.{State}
 use Rattle.spec.specs.Closing.{padded}
@@ -17,6 +16,7 @@ use Rattle.spec.specs.Memory.{stripeIn, filledIn, landedIn, offsetIn}
 use Rattle.spec.specs.Params.{dataCount, inflightLen}
 use Rattle.spec.specs.Write.{placed}
 use Rattle.law_basic.specs.Geometry.{Ranged, data-count-high}
+use Rattle.law_drives.specs.Tables.{zero-at}
 use Rattle.proof_crash_items.specs.Items.{valueOf}
 use Rattle.proof_crash_items.specs.Ranges.{parOf}
 use Rattle.proof_crash_machine.specs.Exec.{or-1}
@@ -37,16 +37,9 @@ use Rattle.proof_crash_calls.specs.Rel.{readyAt, inUse, filled-used, Rel
 
 -- ---- values
 
-getD-zeros : (n i : ℕ) → _≡_ {A = ℕ} (getD (replicate n 0) i 0) 0
-getD-zeros n i = go (decLt i n)
-  where
-    go : Dec (i < n) → _≡_ {A = ℕ} (getD (replicate n 0) i 0) 0
-    go (yes l) = getD-replicate n i 0 0 l
-    go (no l) = List·getD-eq-default (replicate n 0) 0 {n = i} (omega (arith, length-replicate {A = ℕ} n 0))
-
 pub pads-value : (n s : ℕ) → pads ≡ valueOf (replicate n 0) (mkRec paddingAddress 0 s)
 unfolding pads valueOf
-pads-value n s = λ j. record { addr = 18446744073709551615; stamp = 0; blk = λ i. sym (getD-zeros n i) j }
+pads-value n s = λ j. record { addr = 18446744073709551615; stamp = 0; blk = λ i. sym (zero-at n i) j }
 
 -- ---- what may land, once k positions are filled
 

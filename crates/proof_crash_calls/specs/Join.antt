@@ -33,13 +33,15 @@ use Rattle.spec.specs.Reclaim.{tableFaults, Victim, victim, isNone, victimSegme
 use Rattle.spec.specs.Segments.{segments}
 use Rattle.spec.specs.Write.{opens, noStamp, noSerial, mustWait, scarce, sending, writeChecks, writePlan, writeVerdict}
 use Rattle.law_basic.specs.Geometry.{Ranged}
-use Rattle.law_basic.specs.Ranges.{and-left, and-right}
+use Rattle.law_basic.specs.Ranges.{and-left, and-right, or-left}
 use Rattle.law_views.specs.Views.{Whole, seen}
-use Rattle.proof_crash_items.specs.Member.{true-false, cond-false, or-false}
+use Rattle.law_calls.specs.Refusals.{refusal-kind, refused-unfinished}
+use Rattle.law_drives.specs.Tests.{cond-false, clash}
+use Rattle.proof_crash_items.specs.Member.{or-false}
 use Rattle.proof_crash_items.specs.Named.{named-some}
 use Rattle.proof_crash_items.specs.Seen.{seen-stores, seen-cut, whole-all, whole-cut}
 use Rattle.proof_crash_machine.specs.Facts.{Ghost}
-use Rattle.proof_crash_calls.specs.Base.{or-l, or-r, passes, refuses}
+use Rattle.proof_crash_calls.specs.Base.{or-r, passes}
 use Rattle.proof_crash_calls.specs.Go.{Later, later-same}
 use Rattle.proof_crash_calls.specs.Land.{landCount, landSends, land-ok}
 use Rattle.proof_crash_calls.specs.Landed.{land-asked}
@@ -71,10 +73,6 @@ refused-kind a e = leb-true (kind a) 1 e
 pub refused-uncut : (a : Answer) → isRefused a ≡ true → isCut a ≡ false
 unfolding isCut
 refused-uncut a e = ne-eqb (kind a) 2 (let b : kind a ≢ 2 = omega (arith, refused-kind a e) in b)
-
-pub refused-unfinished : (a : Answer) → isRefused a ≡ true → finished a ≡ false
-unfolding finished
-refused-unfinished a e = ne-eqb (kind a) 12 (let b : kind a ≢ 12 = omega (arith, refused-kind a e) in b)
 
 refused-runs : (a : Answer) → isRefused a ≡ true → endsRun a ≡ false
 unfolding endsRun
@@ -185,7 +183,7 @@ module _ (p : Params) (h : Ranged p) (k : Disk) (m : Memory) (ss : List Send) (n
           → Next p h (x .live .g) n (outcome p (storeDisk p) count k m b (decided o q))
           (sentAfter c (outcome p (storeDisk p) count k m b (decided o q) .answer) ss)
       go none e = unfold decided in due-next c count b q ss′ (ok e) uncut open? sent
-      go (some a) e = unfold decided outcome in stays c a b (refuses cs a e)
+      go (some a) e = unfold decided outcome in stays c a b (refusal-kind cs a e)
 
   -- ---- the calls
 
@@ -197,7 +195,7 @@ module _ (p : Params) (h : Ranged p) (k : Disk) (m : Memory) (ss : List Send) (n
 
   -- rule 2 comes second in every list of checks
   lent-ok : (i : Bool) (t : Bool) (cs : List Check) → firstRefusal (rule 1 i ∷ rule 2 (not long || t) ∷ cs) ≡ none → long ≡ true
-  lent-ok i t cs e = not-false long (or-l (not long) t (passes (rule 1 i ∷ rule 2 (not long || t) ∷ cs) e .1 .0))
+  lent-ok i t cs e = not-false long (or-left (not long) t (passes (rule 1 i ∷ rule 2 (not long || t) ∷ cs) e .1 .0))
 
   lent-ok₂ : (i : Bool) (cs : List Check) → firstRefusal (rule 1 i ∷ rule 2 (not long) ∷ cs) ≡ none → long ≡ true
   lent-ok₂ i cs e = not-false long (passes (rule 1 i ∷ rule 2 (not long) ∷ cs) e .1 .0)
@@ -358,7 +356,7 @@ module _ (p : Params) (h : Ranged p) (k : Disk) (m : Memory) (ss : List Send) (n
       (passes (rule 1 (not (inRange p) || not (ltb d (p .N) && eqb (m .state .missing) (named d))) ∷ rule 2 (not long) ∷ imageChecks p v (named d) (segments p v (named d))) e .0)) in
       let dl : d < p .N = ltb-true d (p .N) (and-left (ltb d (p .N)) (eqb (m .state .missing) (named d)) q) in
       let f : named d ≡ 0 = sym (eqb-true (m .state .missing) (named d) (and-right (ltb d (p .N)) (eqb (m .state .missing) (named d)) q)) ∙ x .live .rel .healthy in
-      true-false (eqb (named d) 0) (eq-eqb (named d) 0 f) (named-some d (omega (arith, dl, h .drives-high)))
+      clash (eq-eqb (named d) 0 f) (named-some d (omega (arith, dl, h .drives-high)))
 
   pub rebuild-refused : (d count : ℕ) → isRefused (callDisk p k m (rebuild d count) .answer) ≡ true
   unfolding callDisk callOn verdict rebuildVerdict
@@ -372,7 +370,7 @@ module _ (p : Params) (h : Ranged p) (k : Disk) (m : Memory) (ss : List Send) (n
           → firstRefusal (rebuildChecks p long v m d (segments p v (named d))) ≡ o
           → isRefused (outcome p (storeDisk p) (storeCount (rebuild d count)) k m (lentBlock (rebuild d count)) (decided o q) .answer) ≡ true
       go none e = absurd (no-rebuild d e)
-      go (some a) e = unfold decided outcome in refuses (rebuildChecks p long v m d (segments p v (named d))) a e
+      go (some a) e = unfold decided outcome in refusal-kind (rebuildChecks p long v m d (segments p v (named d))) a e
 
   rebuild-next : (d count : ℕ) → Goal (rebuild d count)
   unfolding callDisk callOn storeCount lentBlock verdict rebuildVerdict

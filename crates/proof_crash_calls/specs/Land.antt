@@ -23,10 +23,11 @@ use Rattle.spec.specs.Memory.{Memory, slotCount, slots, stripeIn, filledIn, lan
 use Rattle.spec.specs.Memory.{landedMask, markLanded, freeStripe, slotBlock}
 use Rattle.spec.specs.Params.{dataCount, footers, capacity, addressesLen, inflightLen}
 use Rattle.law_basic.specs.Geometry.{Ranged}
-use Rattle.law_basic.specs.Ranges.{Test, test, and-left, and-right, and-both}
+use Rattle.law_basic.specs.Ranges.{Test, test, and-left, and-right, and-both, and-fails}
 use Rattle.law_basic.specs.Ranges.Test.{yes!, no! }
+use Rattle.law_drives.specs.Tests.{cond-true, cond-false}
 use Rattle.proof_crash_items.specs.Items.{valueOf, itemsIn, items-in, length-of}
-use Rattle.proof_crash_items.specs.Member.{Has, cond-true, cond-false, has-keep, has-upFrom, has-below}
+use Rattle.proof_crash_items.specs.Member.{Has, has-keep, has-upFrom, has-below}
 use Rattle.proof_crash_items.specs.Ranges.{capacity-few, parity-on, parOf}
 use Rattle.proof_crash_items.specs.Segs.{OnDrives}
 use Rattle.proof_crash_items.specs.Shape.{Shape, zone-set, zone-set-other, shape-store}
@@ -46,7 +47,7 @@ use Rattle.proof_crash_machine.specs.Val.{Val}
 use Rattle.proof_crash_machine.specs.View.Item.{chunk}
 use Rattle.proof_crash_machine.specs.View.{View as m-View, after, In}
 use Rattle.proof_crash_calls.specs.Ack.{ackBase, ack-go}
-use Rattle.proof_crash_calls.specs.Base.{and-fails, has-slot, another, lone-pass, setAt-else}
+use Rattle.proof_crash_calls.specs.Base.{has-slot, another, lone-pass, setAt-else}
 use Rattle.proof_crash_calls.specs.Cells.{land-number, land-filled, land-entry}
 use Rattle.proof_crash_calls.specs.Completed.{table-done}
 use Rattle.proof_crash_calls.specs.Fill.{landed-may}

@@ -20,9 +20,9 @@ use Rattle.spec.specs.Lists.{only, isIn}
 use Rattle.spec.specs.Memory.{stripeIn, filledIn, landedIn, entryIn, offsetIn, isFree, setClosed, landedMask, markLanded, freeStripe, slotBlock}
 use Rattle.law_basic.specs.Geometry.{Ranged}
 use Rattle.law_basic.specs.Mask.{isIn-with, with-lt, ones-all}
-use Rattle.law_basic.specs.Ranges.{all-in-below}
+use Rattle.law_basic.specs.Ranges.{all-in-below, or-left}
+use Rattle.law_drives.specs.Tests.{clash, not-so}
 use Rattle.proof_crash_items.specs.Items.{valueOf}
-use Rattle.proof_crash_items.specs.Member.{true-false, false-of}
 use Rattle.proof_crash_machine.specs.Exec.{true≢false}
 use Rattle.proof_crash_machine.specs.Facts.{Off}
 use Rattle.proof_crash_machine.specs.Filling.{shut}
@@ -31,7 +31,7 @@ use Rattle.proof_crash_machine.specs.Put.{length-snoc, off-in, off-left, in-fwd
 use Rattle.proof_crash_machine.specs.Val.{Val}
 use Rattle.proof_crash_machine.specs.View.{Item, View as m-View, upd-same, after, In, chunk-num}
 use Rattle.proof_crash_machine.specs.View.Item.{chunk, foot}
-use Rattle.proof_crash_calls.specs.Base.{or-l, or-r, setAt-here, setAt-else}
+use Rattle.proof_crash_calls.specs.Base.{or-r, setAt-here, setAt-else}
 use Rattle.proof_crash_calls.specs.Cells.{SameSlot, same-used, same-then, land-long, land-number, land-filled, land-entry, land-write, land-landed, land-offset}
 use Rattle.proof_crash_calls.specs.Cells.{land-offset-old, land-same, free-long, free-filled, free-same, closed-same}
 use Rattle.proof_crash_calls.specs.Rel.{SlotRel, SlotOf, slot-keep, Long, inUse, used-filled, filled-used, Rel, Waiting}
@@ -88,7 +88,7 @@ module _ (p : Params) (h : Ranged p) (v : m-View) (st : State) (fl : List ℕ) (
   bit-out : (e : ℕ) → e < p .N → isIn (landedMask st i d) e ≡ false → (x : Val) → In (chunk s x) (v′ e z) → ⊥
   bit-out e el q x w =
       let b : (eqb e d || isIn k e) ≡ false = sym (mask-bit e el) ∙ q in
-      let n : e ≢ d = eqb-false e d (or-l (eqb e d) (isIn k e) b) in
+      let n : e ≢ d = eqb-false e d (or-left (eqb e d) (isIn k e) b) in
       a .out e el (or-r (eqb e d) (isIn k e) b) x (subst (λ (l : List Item). In (chunk s x) l) (drive-other v d z c e z n) w)
 
   here : eqb (ones (landedMask st i d)) (p .N) ≡ false → SlotOf p v′ st₁ fl z i (M .F (stripeIn st₁ i)) (M .ready (stripeIn st₁ i))
@@ -191,11 +191,11 @@ module _ (p : Params) (h : Ranged p) (v : m-View) (st : State) (fl : List ℕ) (
     same j n = same-then st st₁ st₂ j (land-same st (R .long) i d o il d8 j n) (free-same st₁ long₁ i il j n)
 
     freed : inUse st₂ i ≡ false
-    freed = false-of (inUse st₂ i) (λ q. let x : ⊥ = omega (arith, used-filled st₂ i q, free-filled st₁ long₁ i il) in x)
+    freed = not-so (inUse st₂ i) (λ q. let x : ⊥ = omega (arith, used-filled st₂ i q, free-filled st₁ long₁ i il) in x)
 
     -- an eighth in use afterwards
     was : (j : ℕ) → inUse st₂ j ≡ true → (j ≢ i) × (inUse st j ≡ true)
-    was j q = let n : j ≢ i = λ e. true-false (inUse st₂ j) q (ap (inUse st₂) e ∙ freed) in (n, sym (same-used st st₂ j (same j n)) ∙ q)
+    was j q = let n : j ≢ i = λ e. clash q (ap (inUse st₂) e ∙ freed) in (n, sym (same-used st st₂ j (same j n)) ∙ q)
 
     -- all stripes begun: another in flight
     other : (M .next ≡ p .S → (j : ℕ) × (j < 8) × (inUse st j ≡ true) × (j ≢ i)) → M .is-open ≡ true → M .next ≡ p .S → (x : ℕ) × (setAt (M .fly) s false x ≡ true)
@@ -228,7 +228,7 @@ module _ (p : Params) (h : Ranged p) (v : m-View) (st : State) (fl : List ℕ) (
         slot j jl (n, q) = there st₂ j jl q n (same j n) (M .F (stripeIn st₂ j)) (M .ready (stripeIn st₂ j)) (ap (M .F) (same j n .number)) (ap (M .ready) (same j n .number))
 
         flies : (x : ℕ) → setAt (M .fly) s false x ≡ true → Dec (x ≡ s) → (j : ℕ) × (j < 8) × (inUse st₂ j ≡ true) × (stripeIn st₂ j ≡ x)
-        flies x q (yes e) = true-false (setAt (M .fly) s false x) q (ap (setAt (M .fly) s false) e ∙ setAt-here (M .fly) s false)
+        flies x q (yes e) = clash q (ap (setAt (M .fly) s false) e ∙ setAt-here (M .fly) s false)
         flies x q (no e) =
             let f : (j : ℕ) × (j < 8) × (inUse st j ≡ true) × (stripeIn st j ≡ x) = R .flies x (sym (setAt-else (M .fly) s false x e) ∙ q) in
             let n : f .0 ≢ i = λ w. e (sym (f .3) ∙ ap (stripeIn st) w ∙ number) in
@@ -286,7 +286,7 @@ module _ (p : Params) (h : Ranged p) (v : m-View) (st : State) (fl : List ℕ) (
         none j jl q = let w : (j ≢ i) × (inUse st j ≡ true) = was j (sym (same-used st₂ (setClosed st₂) j (closed-same st₂ j)) ∙ q) in absurd (w .0 (lone j jl (w .1)))
 
         idle : (x : ℕ) → setAt (M .fly) s false x ≡ true → Dec (x ≡ s) → (j : ℕ) × (j < 8) × (inUse (setClosed st₂) j ≡ true) × (stripeIn (setClosed st₂) j ≡ x)
-        idle x q (yes e) = true-false (setAt (M .fly) s false x) q (ap (setAt (M .fly) s false) e ∙ setAt-here (M .fly) s false)
+        idle x q (yes e) = clash q (ap (setAt (M .fly) s false) e ∙ setAt-here (M .fly) s false)
         idle x q (no e) =
             let f : (j : ℕ) × (j < 8) × (inUse st j ≡ true) × (stripeIn st j ≡ x) = R .flies x (sym (setAt-else (M .fly) s false x e) ∙ q) in
             absurd (e (sym (f .3) ∙ ap (stripeIn st) (lone (f .0) (f .1) (f .2)) ∙ number))
@@ -296,5 +296,5 @@ module _ (p : Params) (h : Ranged p) (v : m-View) (st : State) (fl : List ℕ) (
       where
         go : Dec (x ≡ s) → setAt (M .fly) s false x ≡ false
         go (yes e) = ap (setAt (M .fly) s false) e ∙ setAt-here (M .fly) s false
-        go (no e) = setAt-else (M .fly) s false x e ∙ false-of (M .fly x) (λ q.
+        go (no e) = setAt-else (M .fly) s false x e ∙ not-so (M .fly x) (λ q.
             let f : (j : ℕ) × (j < 8) × (inUse st j ≡ true) × (stripeIn st j ≡ x) = R .flies x q in e (sym (f .3) ∙ ap (stripeIn st) (lone (f .0) (f .1) (f .2)) ∙ number))

@@ -22,10 +22,14 @@ use Rattle.spec.specs.Memory.{Memory, slotCount, slots, stripeIn, filledIn, lan
 use Rattle.spec.specs.Params.{between, dataCount, inRange, footers, capacity, inflightLen, drivesOf}
 use Rattle.spec.specs.Parity.{parityRec}
 use Rattle.law_basic.specs.Geometry.{between-low, between-high, Ranged, position-drive, drive-is-data, data-drive-lt, data-not-parity}
-use Rattle.law_basic.specs.Ranges.{and-left, and-right}
+use Rattle.law_basic.specs.Ranges.{and-left, and-right, and-fails}
+use Rattle.law_calls.specs.Refusals.{state-free}
+use Rattle.law_drives.specs.Members.{nil-left, if-none}
+use Rattle.law_drives.specs.Slots.{slot-found}
+use Rattle.law_drives.specs.Tests.{cond-true, cond-false}
 use Rattle.proof_crash_items.specs.Codec.{Wide}
 use Rattle.proof_crash_items.specs.Items.{valueOf, itemsIn, storeItem, items-store}
-use Rattle.proof_crash_items.specs.Member.{cond-true, cond-false, has-below, any-false}
+use Rattle.proof_crash_items.specs.Member.{has-below, any-false}
 use Rattle.proof_crash_items.specs.Ranges.{parOf}
 use Rattle.proof_crash_items.specs.Sound.{Sound, sound-fits, store-put}
 use Rattle.proof_crash_items.specs.ZoneBytes.{Kind, kindItem}
@@ -40,15 +44,14 @@ use Rattle.proof_crash_machine.specs.Val.{Val}
 use Rattle.proof_crash_machine.specs.View.Item.{chunk}
 use Rattle.proof_crash_machine.specs.View.Store.{put as m-put}
 use Rattle.proof_crash_machine.specs.View.{after, apply, In}
-use Rattle.proof_crash_calls.specs.Base.{and-fails, eqb-self, passes, slot-found, slot-any}
+use Rattle.proof_crash_calls.specs.Base.{eqb-self, passes, slot-any}
 use Rattle.proof_crash_calls.specs.Go.{mst, Go, go-step, go-view}
 use Rattle.proof_crash_calls.specs.Live.{Live, live-inv, live-len}
 use Rattle.proof_crash_calls.specs.Placed.{ready-data, ready-parity, drive-cases}
 use Rattle.proof_crash_calls.specs.Rel.{readyAt, SlotOf, inUse}
-use Rattle.proof_crash_calls.specs.Sending.{opened-low, slots-ok, faults-none}
+use Rattle.proof_crash_calls.specs.Sending.{opened-low, slots-ok}
 use Rattle.proof_crash_calls.specs.Sends.{value-addr, value-stamp}
 use Rattle.proof_crash_calls.specs.Slots.{slot-long}
-use Rattle.proof_crash_calls.specs.Write.{append-none}
 use Rattle.proof_crash_calls.specs.Xored.{parity-is, Fits8, good-fits, parity-wide}
 
 -- what a landing's checks say
@@ -64,11 +67,6 @@ pub record LandAsked (p : Params) (v : View) (st : State) (d s : ℕ) : Type 0 w
   pub to : pointerAt v d (openSegment st) ≤ p .S
   pub group? : group p (pointerAt v d (openSegment st) - 1) ≡ group p s
   pub room : seals p st (slotOf st s) d ≡ true → (e : ℕ) → e < p .N → pointerAt v e (openSegment st) + cond (eqb e d) 1 0 + footers p ≤ capacity p
-
-consIf-none : (b : Bool) (z : ℕ) (l : List ℕ) → consIf b z l ≡ [] → (b ≡ false) × (l ≡ [])
-unfolding consIf
-consIf-none true z l e = absurd (let x : _≡_ {A = ℕ} 0 1 = cc in let q : ⊥ = omega arith in q)
-consIf-none false z l e = (refl, e)
 
 slot-of : (st : State) (s : ℕ) → slotOf st s < 8 → (inUse st (slotOf st s) ≡ true) × (stripeIn st (slotOf st s) ≡ s)
 unfolding slotOf inUse
@@ -116,7 +114,7 @@ land-asked p long v m d s e =
     let i : slotOf st s < 8 = ltb-true (slotOf st s) 8 (and-right (ltb d (p .N)) (ltb (slotOf st s) 8) x) in
     let r : (isIn (landedIn st (slotOf st s)) d ≡ false) × (readyAt p (stripeIn st (slotOf st s)) (filledIn st (slotOf st s)) d ≡ true) =
     ready-parts p st (slotOf st s) d (and-right (ltb d (p .N) && ltb (slotOf st s) 8) (ready p st (slotOf st s) d) w) in
-    let f : (stateFaults p st ≡ []) × (landFaults p v m d s ≡ []) = append-none (stateFaults p st) (landFaults p v m d s) (q .1 .1 .1 .1 .0) in
+    let f : (stateFaults p st ≡ []) × (landFaults p v m d s ≡ []) = nil-left (stateFaults p st) (landFaults p v m d s) (q .1 .1 .1 .1 .0) in
     let g : (misplaced p v d (openSegment st) s ≡ false) × ((seals p st (slotOf st s) d && overfull p v d (openSegment st)) ≡ false) = faults (f .1) in
     let z : (1 ≤ pointerAt v d (openSegment st)) × (pointerAt v d (openSegment st) ≤ p .S) × (group p (pointerAt v d (openSegment st) - 1) ≡ group p s) = placed-well p v d (openSegment st) s (g .0) in
     let o : (inUse st (slotOf st s) ≡ true) × (stripeIn st (slotOf st s) ≡ s) = slot-of st s i in
@@ -127,7 +125,7 @@ land-asked p long v m d s e =
       number = o .1;
       fresh = r .0;
       may = subst (λ (k : ℕ). readyAt p k (filledIn st (slotOf st s)) d ≡ true) (o .1) (r .1);
-      ok = faults-none p st (f .0);
+      ok = state-free p st (f .0);
       from = z .0;
       to = z .1;
       group? = z .2;
@@ -142,9 +140,9 @@ land-asked p long v m d s e =
         let zs : List ℕ = cond (completes p (m .state) (slotOf (m .state) s) d) (flat (entryFaults p v (m .addresses)) (entriesIn (m .state) (slotOf (m .state) s))) [] in
         let a : (misplaced p v d (openSegment (m .state)) s ≡ false)
         × (consIf (seals p (m .state) (slotOf (m .state) s) d && overfull p v d (openSegment (m .state))) (openSegment (m .state)) zs ≡ []) =
-        consIf-none (misplaced p v d (openSegment (m .state)) s) (openSegment (m .state))
+        if-none (misplaced p v d (openSegment (m .state)) s) (openSegment (m .state))
         (consIf (seals p (m .state) (slotOf (m .state) s) d && overfull p v d (openSegment (m .state))) (openSegment (m .state)) zs) x in
-        (a .0, consIf-none (seals p (m .state) (slotOf (m .state) s) d && overfull p v d (openSegment (m .state))) (openSegment (m .state)) zs (a .1) .0)
+        (a .0, if-none (seals p (m .state) (slotOf (m .state) s) d && overfull p v d (openSegment (m .state))) (openSegment (m .state)) zs (a .1) .0)
 
 -- ---- the chunk
 

@@ -4,9 +4,8 @@ use mathlib.Core.List.{List, [], _∷_}
 use mathlib.Core.Bool.{Bool, true, false, not}
 use mathlib.Core.Logic.{inl, _≢_}
 use Prim.Native.Nat.{ℕ, suc, _^_, _≤_, _<_}
-use borrow.Author.Tests.{ne-eqb, eqb-true}
+use borrow.Author.Tests.{ne-eqb}
 use native.Mathlib.Omega.{arith}
-use lib.Dec.{eqb}
 use lib.ListN.{length, take}
 use Rattle.spec.specs.declared.Params.{Params}
 use Rattle.spec.specs.declared.State.{State}
@@ -19,10 +18,11 @@ use Rattle.spec.specs.Lists.{below, isNil, firstOr}
 use Rattle.spec.specs.Memory.{setOpen}
 use Rattle.spec.specs.Params.{drivesOf}
 use Rattle.law_basic.specs.Geometry.{Ranged}
-use Rattle.law_basic.specs.Ranges.{all-in-below}
 use Rattle.law_views.specs.Views.{Fits}
+use Rattle.law_drives.specs.Headers.{empty-all}
+use Rattle.law_drives.specs.Tests.{clash}
 use Rattle.proof_crash_items.specs.Items.{itemsFrom, itemsOf, itemsIn, storeItem}
-use Rattle.proof_crash_items.specs.Member.{Has, true-false, keep-has, below-has, firstOr-has}
+use Rattle.proof_crash_items.specs.Member.{Has, keep-has, below-has, firstOr-has}
 use Rattle.proof_crash_items.specs.Ranges.{parOf}
 use Rattle.proof_crash_items.specs.Shape.{Shape, zone-set-other, shape-store}
 use Rattle.proof_crash_items.specs.Sound.{Sound, AllSound, sound-fits, Follows, follows-all, follows-cut, store-put, follows-list}
@@ -54,10 +54,6 @@ pub no-items : (p : Params) (v : View) (d z : ℕ) → pointerAt v d z ≡ 0 →
 unfolding itemsIn itemsOf stored pointerAt
 no-items p v d z e = ap (λ (n : ℕ). itemsFrom p 0 (take n (zoneAt v d z .blocks))) e ∙ (unfold itemsFrom in refl)
 
-pub empty-pointers : (p : Params) (v : View) (z : ℕ) → emptyOnAll p v z ≡ true → (d : ℕ) → d < p .N → pointerAt v d z ≡ 0
-unfolding emptyOnAll zoneOn drivesOf
-empty-pointers p v z e d l = eqb-true (pointerAt v d z) 0 (all-in-below (λ d. eqb (pointerAt v d z) 0) (p .N) d e l)
-
 pub empty-has : (p : Params) (v : View) (z : ℕ) → Has z (emptyZones p v) → (z < p .Z) × (emptyOnAll p v z ≡ true)
 unfolding emptyZones segmentNumbers
 empty-has p v z k =
@@ -87,12 +83,12 @@ module _ (p : Params) (v : View) (two : 2 ≤ length (emptyZones p v)) where
   may-open h g M e = record {
     shut? = e;
     inZ = lowest-empty .0;
-    empty = λ d l. no-items p v d lowest (empty-pointers p v lowest (lowest-empty .1) d l);
+    empty = λ d l. no-items p v d lowest (empty-all p v lowest (lowest-empty .1) d l);
     space = (
       other-empty .0,
       other-empty .1,
       other-empty .3,
-      λ (d, t, b). let z : ⊥ = omega (arith, b, ap length (no-items p v d (other-empty .0) (empty-pointers p v (other-empty .0) (other-empty .2) d (t .0)))) in z,
+      λ (d, t, b). let z : ⊥ = omega (arith, b, ap length (no-items p v d (other-empty .0) (empty-all p v (other-empty .0) (other-empty .2) d (t .0)))) in z,
     );
   }
 
@@ -148,7 +144,7 @@ module _ (p : Params) (h : Ranged p) (g : Ghost) (v : View) (a : List Val) (c : 
   g′ = naming g (firstOr 0 (emptyZones p v)) (suc (M .serial)) 0 alone
 
   follow : Follows p v ss (headers (parOf p h) g w (suc (M .serial)))
-  follow = headers-follow p h g w (suc (M .serial)) (lowest-empty p v two .0) fits v s (empty-pointers p v w (lowest-empty p v two .1))
+  follow = headers-follow p h g w (suc (M .serial)) (lowest-empty p v two .0) fits v s (empty-all p v w (lowest-empty p v two .1))
 
   pub open-sound : AllSound p v ss
   open-sound = follow .sound
@@ -225,7 +221,7 @@ module _ (p : Params) (h : Ranged p) (g : Ghost) (v : View) (a : List Val) (c : 
     }
       where
         busy? : {A : Type 0} (i : ℕ) → i < 8 → inUse st′ i ≡ true → A
-        busy? i il u = true-false (inUse st′ i) u (same-used st st′ i (open-same st w (suc (M .serial)) i) ∙ idle i il)
+        busy? i il u = clash u (same-used st st′ i (open-same st w (suc (M .serial)) i) ∙ idle i il)
 
     pub open-waits : (x : Val) (y : ℕ) → Waiting p st M x y → Waiting p st′ (openMem M w (suc (M .serial))) x y
-    open-waits x y q = true-false (inUse st (q .i)) (q .inUse?) (idle (q .i) (q .lt))
+    open-waits x y q = clash (q .inUse?) (idle (q .i) (q .lt))

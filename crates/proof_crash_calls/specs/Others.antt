@@ -36,16 +36,16 @@ use Rattle.spec.specs.Reclaim.{tableFaults, victim, victimSegment, victimLive, 
 use Rattle.spec.specs.Segments.{segments}
 use Rattle.spec.specs.Write.{scarce, writeChecks}
 use Rattle.law_basic.specs.Geometry.{ranged}
-use Rattle.law_basic.specs.Ranges.{and-left, and-right}
+use Rattle.law_basic.specs.Ranges.{and-left, and-right, or-left}
 use Rattle.law_views.specs.Views.{seen}
-use Rattle.proof_crash_items.specs.Member.{true-false, false-of}
+use Rattle.law_calls.specs.Refusals.{state-free}
+use Rattle.law_drives.specs.Members.{nil-left}
+use Rattle.law_drives.specs.Tests.{clash, not-so}
 use Rattle.proof_crash_items.specs.Named.{named-some}
 use Rattle.proof_crash_machine.specs.Exec.{true≢false}
 use Rattle.proof_crash_machine.specs.Untrusted.{untrusted}
-use Rattle.proof_crash_calls.specs.Base.{or-l, or-r, passes}
+use Rattle.proof_crash_calls.specs.Base.{or-r, passes}
 use Rattle.proof_crash_calls.specs.Refusals.{Decides, decides, refused-step}
-use Rattle.proof_crash_calls.specs.Sending.{faults-none}
-use Rattle.proof_crash_calls.specs.Write.{append-none}
 
 -- ---- refused calls, whatever their answer
 
@@ -148,19 +148,19 @@ fill-step p s a b = go (firstRefusal (D .checks)) refl
 -- ---- the power is off: the state is all zeros
 
 zero-bad : (p : Params) → stateOk p zeroState ≡ false
-zero-bad p = false-of (stateOk p zeroState) (λ q. out q)
+zero-bad p = not-so (stateOk p zeroState) (λ q. out q)
   where
     live : (a b c d e f g : Bool) → (a && b && c && d && e && f && g) ≡ true → a ≡ true
     live true b c d e f g q = refl
     live false b c d e f g q = q
 
     out : stateOk p zeroState ≡ true → ⊥
-    out q = unfold stateOk zeroState idleState in true-false (eqb 0 1)
+    out q = unfold stateOk zeroState idleState in clash
         (live (eqb 0 1) (ltb 0 (2 ^ p .N)) (leb (ones 0) 1) (leb 0 (p .Z)) (leb 0 (p .S)) (all (slotOk p zeroState) slots) (all (λ o. ltb o (p .S)) (replicate 64 0)) q) refl
 
 -- the state's numbers are out of range: a fault
 bad-fault : (p : Params) (st : State) → stateOk p st ≡ false → stateFaults p st ≡ [] → ⊥
-bad-fault p st e q = true-false (stateOk p st) (faults-none p st q) e
+bad-fault p st e q = clash (state-free p st q) e
 
 pub off-refused : (p : Params) (long : Bool) (v : View) (m : Memory) (c : Call) → restartOf c ≡ none → m .state ≡ zeroState → firstRefusal (decides p long v m c .checks) ≡ none → ⊥
 unfolding decides
@@ -168,29 +168,29 @@ off-refused p long v m (write a b n) r z e = unfold writeChecks in bad (passes (
   where
     bad : stateFaults p (m .state) ≡ [] → ⊥
     bad q = bad-fault p (m .state) (ap (stateOk p) z ∙ zero-bad p) q
-off-refused p long v m (land d s n) r z e = unfold landChecks in bad (append-none (stateFaults p (m .state)) (landFaults p v m d s) (passes (landChecks p long v m d s) e .1 .1 .1 .1 .0) .0)
+off-refused p long v m (land d s n) r z e = unfold landChecks in bad (nil-left (stateFaults p (m .state)) (landFaults p v m d s) (passes (landChecks p long v m d s) e .1 .1 .1 .1 .0) .0)
   where
     bad : stateFaults p (m .state) ≡ [] → ⊥
     bad q = bad-fault p (m .state) (ap (stateOk p) z ∙ zero-bad p) q
 off-refused p long v m (close n) r z e =
-    unfold closeChecks in bad (append-none (stateFaults p (m .state)) (cond (scarce p v 1) (tableFaults p (m .addresses)) []) (passes (closeChecks p long v m) e .1 .1 .1 .1 .0) .0)
+    unfold closeChecks in bad (nil-left (stateFaults p (m .state)) (cond (scarce p v 1) (tableFaults p (m .addresses)) []) (passes (closeChecks p long v m) e .1 .1 .1 .1 .0) .0)
   where
     bad : stateFaults p (m .state) ≡ [] → ⊥
     bad q = bad-fault p (m .state) (ap (stateOk p) z ∙ zero-bad p) q
 off-refused p long v m (reclaim n) r z e =
-    unfold reclaimChecks in bad (append-none (stateFaults p (m .state)) (tableFaults p (m .addresses)) (append-none (stateFaults p (m .state) ++ tableFaults p (m .addresses))
+    unfold reclaimChecks in bad (nil-left (stateFaults p (m .state)) (tableFaults p (m .addresses)) (nil-left (stateFaults p (m .state) ++ tableFaults p (m .addresses))
     (map (λ q. victimSegment (victim p v (m .addresses)))
     (keep (λ q. not (between 1 (p .S) (placeBlock p q))) (victimLive (victim p v (m .addresses)))))
     (passes (reclaimChecks p long v m (victim p v (m .addresses))) e .1 .1 .1 .1 .1 .1 .1 .0) .0) .0)
   where
     bad : stateFaults p (m .state) ≡ [] → ⊥
     bad q = bad-fault p (m .state) (ap (stateOk p) z ∙ zero-bad p) q
-off-refused p long v m (read a) r z e = unfold readChecks in bad (append-none (stateFaults p (m .state)) (foundFaults p v (m .state .missing) (lookup p (m .state .missing) (m .addresses) a))
+off-refused p long v m (read a) r z e = unfold readChecks in bad (nil-left (stateFaults p (m .state)) (foundFaults p v (m .state .missing) (lookup p (m .state .missing) (m .addresses) a))
     (passes (readChecks p long a ++ (zones (stateFaults p (m .state) ++ foundFaults p v (m .state .missing) (lookup p (m .state .missing) (m .addresses) a)) ∷ [])) e .1 .1 .1 .0) .0)
   where
     bad : stateFaults p (m .state) ≡ [] → ⊥
     bad q = bad-fault p (m .state) (ap (stateOk p) z ∙ zero-bad p) q
-off-refused p long v m (fill a b) r z e = unfold readChecks in bad (append-none (stateFaults p (m .state)) (foundFaults p v (m .state .missing) (lookup p (m .state .missing) (m .addresses) a))
+off-refused p long v m (fill a b) r z e = unfold readChecks in bad (nil-left (stateFaults p (m .state)) (foundFaults p v (m .state .missing) (lookup p (m .state .missing) (m .addresses) a))
     (passes (readChecks p (long && eqb (length b) (p .B)) a ++ (zones (stateFaults p (m .state) ++ foundFaults p v (m .state .missing) (lookup p (m .state .missing) (m .addresses) a))
     ∷ zones (decodeFaults p v (m .state .missing) (m .compact) (lookup p (m .state .missing) (m .addresses) a)) ∷ [])) e .1 .1 .1 .0) .0)
   where
@@ -205,7 +205,7 @@ off-refused p long v m (rebuild d n) r z e = unfold rebuildChecks namesMissing i
     ≡ true = not-false (ltb d (p .N) && eqb (m .state .missing) (named d)) (or-r (not (inRange p))
     (not (ltb d (p .N) && eqb (m .state .missing) (named d)))
     (passes (rule 1 (not (inRange p) || not (ltb d (p .N) && eqb (m .state .missing) (named d))) ∷ rule 2 (not long) ∷ imageChecks p v (named d) (segments p v (named d))) e .0)) in
-    named-nothing (not-false (inRange p) (or-l (not (inRange p)) (not (ltb d (p .N) && eqb (m .state .missing) (named d)))
+    named-nothing (not-false (inRange p) (or-left (not (inRange p)) (not (ltb d (p .N) && eqb (m .state .missing) (named d)))
     (passes (rule 1 (not (inRange p) || not (ltb d (p .N) && eqb (m .state .missing) (named d))) ∷ rule 2 (not long) ∷ imageChecks p v (named d) (segments p v (named d))) e .0)))
     (ltb-true d (p .N) (and-left (ltb d (p .N)) (eqb (m .state .missing) (named d)) q))
     (sym (eqb-true (m .state .missing) (named d) (and-right (ltb d (p .N)) (eqb (m .state .missing) (named d)) q)) ∙ none-missing)
@@ -214,7 +214,7 @@ off-refused p long v m (rebuild d n) r z e = unfold rebuildChecks namesMissing i
     none-missing = ap (λ (x : State). x .missing) z ∙ (unfold zeroState idleState in refl)
 
     named-nothing : inRange p ≡ true → d < p .N → named d ≡ 0 → ⊥
-    named-nothing i l f = true-false (eqb (named d) 0) (eq-eqb (named d) 0 f) (named-some d (omega (arith, l, ranged p i .drives-high)))
+    named-nothing i l f = clash (eq-eqb (named d) 0 f) (named-some d (omega (arith, l, ranged p i .drives-high)))
 
 -- after a cut, and before the first restart
 pub off-step : (p : Params) (s : Hist) (c : Call) → restartOf c ≡ none → s .world .memory .state ≡ zeroState → step p s (calls c) ≡ s

@@ -18,8 +18,9 @@ use Rattle.spec.specs.Memory.{stripeIn, filledIn, landedIn, isWrite, entryIn, o
 use Rattle.spec.specs.Params.{dataCount, inflightLen}
 use Rattle.spec.specs.Write.{placed}
 use Rattle.law_basic.specs.Geometry.{Ranged, data-count-high, position-drive, drive-is-data, data-drive-lt, data-not-parity, drive-position, position-lt}
+use Rattle.law_drives.specs.Slots.{parity-long}
+use Rattle.law_drives.specs.Tests.{cond-true, cond-false}
 use Rattle.proof_crash_items.specs.Items.{valueOf}
-use Rattle.proof_crash_items.specs.Member.{cond-true, cond-false}
 use Rattle.proof_crash_machine.specs.Exec.{true≢false}
 use Rattle.proof_crash_machine.specs.Facts.{Off}
 use Rattle.proof_crash_machine.specs.Memory.{setAt, setAt-elim, Mem, flown}
@@ -29,7 +30,7 @@ use Rattle.proof_crash_machine.specs.View.Item.{chunk}
 use Rattle.proof_crash_calls.specs.Base.{eqb-self, setAt-here, setAt-else}
 use Rattle.proof_crash_calls.specs.Cells.{SameSlot, same-used, add-long, add-filled, add-number, add-entry, add-entry-old, add-same, add-write}
 use Rattle.proof_crash_calls.specs.Rel.{readyAt, SlotRel, SlotOf, slot-keep, Long, inUse, filled-used, RelOn, Waiting}
-use Rattle.proof_crash_calls.specs.Slots.{length-slot, slot-same, slot-other, length-slot-parity, slot-parity-other, slot-parity}
+use Rattle.proof_crash_calls.specs.Slots.{length-slot, slot-same, slot-other, slot-parity-other, slot-parity}
 
 -- ---- which chunks may land
 
@@ -156,7 +157,7 @@ module _ (p : Params) (h : Ranged p) (st : State) (L : Long st) (fl : List ℕ) 
   placed-long = go (ℕ-discrete (suc k) (dataCount p))
     where
       go : Dec (suc k ≡ dataCount p) → length now ≡ inflightLen p
-      go (yes e) = ap length (full e) ∙ length-slot-parity p first first-long h i s il
+      go (yes e) = ap length (full e) ∙ parity-long p h first first-long i il s
       go (no e) = ap length (part-full e) ∙ first-long
 
   pub placed-here : slotBlock p now i d ≡ b

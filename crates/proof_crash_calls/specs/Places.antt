@@ -3,8 +3,7 @@ use mathlib.Core.Path.{_≡_, refl, sym, ap, ap₂, _∙_, subst}
 use mathlib.Core.List.{List, []}
 use mathlib.Core.Bool.{Bool, true, false}
 use mathlib.Core.Logic.{_⊎_, inl, inr, ⊎-elim, _≢_}
-use Prim.Native.Nat.{ℕ, suc, _+_, _-_, _*_, _^_, _≤_, _<_}
-use native.Mathlib.Nat.{mul-le-mul}
+use Prim.Native.Nat.{ℕ, suc, _+_, _-_, _^_, _≤_, _<_}
 use borrow.Author.Tests.{eq-eqb, eqb-true}
 use native.Mathlib.Omega.{arith}
 use lib.Dec.{eqb}
@@ -20,16 +19,18 @@ use Rattle.spec.specs.Params.{capacity, placeOf, placeBlock, placeZone, placeDr
 use Rattle.spec.specs.Parity.{mkPiece}
 use Rattle.spec.specs.Rank.{Cand, best, placeOr, candsOf}
 use Rattle.spec.specs.Segments.{segmentOf, segments, offsetOn, hasChunk, offsetOf, candOf, candidates, addressTable}
-use Rattle.law_basic.specs.Geometry.{Ranged, capacity-high, zones-all, place-block, place-zone, place-drive, place-again, place-lt}
+use Rattle.law_basic.specs.Geometry.{Ranged, place-block, place-zone, place-drive, place-again, place-lt}
+use Rattle.law_drives.specs.Tables.{place-at}
+use Rattle.law_drives.specs.Tests.{cond-false}
 use Rattle.proof_crash_items.specs.Cands.{best-none, candsSeen, From, cands-from, cand-value, of-counted}
 use Rattle.proof_crash_items.specs.Items.{valueOf, chunkItem, itemsIn, items-in, chunk-of}
-use Rattle.proof_crash_items.specs.Member.{Has, cond-false, keep-has, has-keep}
+use Rattle.proof_crash_items.specs.Member.{Has, keep-has, has-keep}
 use Rattle.proof_crash_items.specs.Named.{named-none, not-named}
 use Rattle.proof_crash_items.specs.Ranges.{capacity-few, parOf}
+use Rattle.proof_crash_items.specs.Reading.{places-many}
 use Rattle.proof_crash_items.specs.Segs.{OnDrives, zone-bytes, zone-low, remaining-has}
 use Rattle.proof_crash_items.specs.Shape.{ZoneShape, shape-zone}
 use Rattle.proof_crash_items.specs.Stripes.{stored-below, pointer-is, sealed-full, offset-on, stored-piece, counted-has, pieceAt, piece-here, counted-stripe}
-use Rattle.proof_crash_items.specs.Table.{address-entry}
 use Rattle.proof_crash_items.specs.Values.{pieceValue, value-same}
 use Rattle.proof_crash_items.specs.ZoneBytes.{blockIn, by-footer}
 use Rattle.proof_crash_machine.specs.Facts.{Par, Heads, Ghost, Choice, Counted, Off}
@@ -52,11 +53,6 @@ counted-none P hd v m n a b x q = record {
   st = record { on = λ d l k. q .st .on d l (omega (arith, l, a)); xor = q .st .xor };
   dt = q .dt;
 }
-
-pub places-many : (p : Params) → Ranged p → p .N * p .Z * capacity p < neverPlace
-places-many p r =
-    let b : p .N * p .Z * capacity p ≤ 8192 * 87381 = mul-le-mul (zones-all p r) (capacity-high p r) in
-    omega (arith, b)
 
 module _ (p : Params) (h : Ranged p) (g : Ghost) (v : View) (k : OnDrives p h g v) (none? : p .N ≤ g .un) where
   -- the number that names no drive
@@ -282,7 +278,7 @@ module _ (p : Params) (h : Ranged p) (g : Ghost) (v : View) (k : OnDrives p h g 
 
   module _ (tb : List ℕ) (truth : tb ≡ addressTable p (candidates p 0 (segments p v 0))) where
     pub table-best : (a : ℕ) → a < p .L → (w : Cand) → best none (candsOf a said) ≡ some w → Has w said → placeAt tb a ≡ w .place
-    table-best a l w e i = ap (λ (t : List ℕ). placeAt t a) truth ∙ address-entry p said a l small ∙ is
+    table-best a l w e i = ap (λ (t : List ℕ). placeAt t a) truth ∙ place-at p said a l small ∙ is
       where
         is : placeOr (best none (candsOf a said)) ≡ w .place
         is = ap placeOr e ∙ (unfold placeOr in refl)
@@ -298,7 +294,7 @@ module _ (p : Params) (h : Ranged p) (g : Ghost) (v : View) (k : OnDrives p h g 
         never : best none (candsOf a said) ≡ none → placeAt tb a ≡ neverPlace
         never e =
             let is : placeOr (best none (candsOf a said)) ≡ neverPlace = ap placeOr e ∙ (let z : placeOr none ≡ neverPlace = unfold placeOr in refl in z) in
-            ap (λ (t : List ℕ). placeAt t a) truth ∙ address-entry p said a l (let b : placeOr (best none (candsOf a said)) < 256 ^ 4 = omega (arith, is) in b) ∙ is
+            ap (λ (t : List ℕ). placeAt t a) truth ∙ place-at p said a l (let b : placeOr (best none (candsOf a said)) < 256 ^ 4 = omega (arith, is) in b) ∙ is
 
     -- so its entries are as they should be, at the end of a restart
     pub table-said : (a : List Val) (b : Bool) (m : Mode) → Inv (parOf p h) (mst g (itemsIn p v) a b m) → TableOk p h g (itemsIn p v) tb
@@ -327,7 +323,7 @@ module _ (p : Params) (h : Ranged p) (g : Ghost) (v : View) (k : OnDrives p h g 
         never : best none (candsOf a said) ≡ none → placeAt tb a ≡ neverPlace
         never e =
             let is : placeOr (best none (candsOf a said)) ≡ neverPlace = ap placeOr e ∙ (let z : placeOr none ≡ neverPlace = unfold placeOr in refl in z) in
-            ap (λ (t : List ℕ). placeAt t a) truth ∙ address-entry p said a al (let b : placeOr (best none (candsOf a said)) < 256 ^ 4 = omega (arith, is) in b) ∙ is
+            ap (λ (t : List ℕ). placeAt t a) truth ∙ place-at p said a al (let b : placeOr (best none (candsOf a said)) < 256 ^ 4 = omega (arith, is) in b) ∙ is
 
         unread : best none (candsOf a said) ≡ none → (y : Val) × Counted (parOf p h) (g .hd) (itemsIn p v) (g .un) y × (y .addr ≡ a) × (g .base a ≤ y .stamp) → ⊥
         unread e (y, q, ya, ys) =

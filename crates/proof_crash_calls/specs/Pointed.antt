@@ -1,13 +1,13 @@
 -- The address table when a stripe completes: every entry is still the place of a record that counts, at or above the floor. Assumes nothing.
 use mathlib.Core.Path.{_≡_, refl, sym, ap, _∙_}
 use mathlib.Core.List.{List, [], _∷_}
-use mathlib.Core.Bool.{Bool, true, false, cond, _&&_, _||_}
+use mathlib.Core.Bool.{Bool, true, false, cond}
 use mathlib.Core.Logic.{_⊎_, inl, inr, ⊎-elim, _≢_}
-use Prim.Native.Nat.{ℕ, _+_, _*_, _^_, _≤_, _<_}
+use Prim.Native.Nat.{ℕ, _*_, _^_, _≤_, _<_}
 use native.Mathlib.Decide.{decLt, ℕ-discrete}
-use borrow.Author.Tests.{lt-ltb, ltb-true, ltb-false, eqb-true}
+use borrow.Author.Tests.{lt-ltb, ltb-true}
 use native.Mathlib.Omega.{arith}
-use lib.Dec.{ltb, eqb}
+use lib.Dec.{ltb}
 use lib.ListN.{length}
 use Rattle.spec.specs.declared.Params.{Params}
 use Rattle.spec.specs.Bytes.{beOf, toBe, part, splice}
@@ -18,25 +18,18 @@ use Rattle.spec.specs.Memory.{placeAt, setPlace}
 use Rattle.spec.specs.Params.{addressesLen}
 use Rattle.spec.specs.Rank.{Cand, beats, better, best, placeOr, candsOf}
 use Rattle.law_basic.specs.Be.{length-toBe, beOf-toBe}
-use Rattle.law_basic.specs.Ranges.{and-left}
-use Rattle.law_basic.specs.Splice.{length-splice, part-splice, part-splice-below, part-splice-above}
-use Rattle.proof_crash_items.specs.Member.{Has, cond-true, cond-false}
-use Rattle.proof_crash_machine.specs.Exec.{or-cases}
-use Rattle.proof_crash_calls.specs.Base.{or-l}
+use Rattle.law_basic.specs.Splice.{part-splice, part-splice-below, part-splice-above}
+use Rattle.law_drives.specs.Pointed.{set-fits, set-long}
+use Rattle.law_drives.specs.Tests.{cond-true, cond-false}
+use Rattle.proof_crash_items.specs.Cands.{beats-true, beats-false}
+use Rattle.proof_crash_items.specs.Member.{Has}
 
 -- ---- one place set
 
 module _ (p : Params) (tb : List ℕ) (long : length tb ≡ addressesLen p) (a q : ℕ) (al : a < p .L) where
-  fits : 4 * a + length (toBe 4 q) ≤ length tb
-  fits = let l : length tb ≡ 4 * p .L = long ∙ (unfold addressesLen in refl) in omega (arith, length-toBe 4 q, l)
-
-  pub length-place : length (setPlace tb a q) ≡ addressesLen p
-  unfolding setPlace
-  length-place = length-splice tb (4 * a) (toBe 4 q) fits ∙ long
-
   pub place-set : q < 256 ^ 4 → placeAt (setPlace tb a q) a ≡ q
   unfolding placeAt setPlace
-  place-set b = ap (λ (n : ℕ). beOf (part (4 * a) n (splice tb (4 * a) (toBe 4 q)))) (sym (length-toBe 4 q)) ∙ ap beOf (part-splice tb (4 * a) (toBe 4 q) fits) ∙ beOf-toBe 4 q b
+  place-set b = ap (λ (n : ℕ). beOf (part (4 * a) n (splice tb (4 * a) (toBe 4 q)))) (sym (length-toBe 4 q)) ∙ ap beOf (part-splice tb (4 * a) (toBe 4 q) (set-fits p tb a q long al)) ∙ beOf-toBe 4 q b
 
   pub place-other : (b : ℕ) → b < p .L → b ≢ a → placeAt (setPlace tb a q) b ≡ placeAt tb b
   unfolding placeAt setPlace
@@ -46,8 +39,8 @@ module _ (p : Params) (tb : List ℕ) (long : length tb ≡ addressesLen p) (a q
       end = long ∙ (unfold addressesLen in refl)
 
       go : Dec (b < a) → beOf (part (4 * b) 4 (splice tb (4 * a) (toBe 4 q))) ≡ beOf (part (4 * b) 4 tb)
-      go (yes l) = ap beOf (part-splice-below tb (4 * a) (toBe 4 q) fits (4 * b) 4 (omega arith))
-      go (no l) = ap beOf (part-splice-above tb (4 * a) (toBe 4 q) fits (4 * b) 4 (omega (arith, n, length-toBe 4 q)) (omega (arith, end)))
+      go (yes l) = ap beOf (part-splice-below tb (4 * a) (toBe 4 q) (set-fits p tb a q long al) (4 * b) 4 (omega arith))
+      go (no l) = ap beOf (part-splice-above tb (4 * a) (toBe 4 q) (set-fits p tb a q long al) (4 * b) 4 (omega (arith, n, length-toBe 4 q)) (omega (arith, end)))
 
 -- ---- the table of a completed stripe
 
@@ -64,7 +57,7 @@ module _ (p : Params) (v : View) (tb : List ℕ) (cs : List Cand) where
   one-long c t e = go (ltb (c .address) (p .L)) refl
     where
       go : (b : Bool) → ltb (c .address) (p .L) ≡ b → length (cond b (setPlace t (c .address) (pointTo (c .address))) t) ≡ addressesLen p
-      go true q = length-place p t e (c .address) (pointTo (c .address)) (ltb-true (c .address) (p .L) q)
+      go true q = set-long p t (c .address) (pointTo (c .address)) e (ltb-true (c .address) (p .L) q)
       go false q = e
 
   one-other : (c : Cand) (t : List ℕ) → length t ≡ addressesLen p → (a : ℕ) → a < p .L → c .address ≢ a → placeAt (one c t) a ≡ placeAt t a
@@ -102,27 +95,7 @@ module _ (p : Params) (v : View) (tb : List ℕ) (cs : List Cand) where
       go (inr (d, inl m, q)) (no k) = absurd (k (ap (λ (x : Cand). x .address) (sym m) ∙ q))
       go (inr (d, inr m, q)) (no k) = inr (d, m, q)
 
-  pub pointed-long : (ds : List Cand) (t : List ℕ) → length t ≡ addressesLen p → length (pointed p v tb cs ds t) ≡ addressesLen p
-  pointed-long [] t e = unfold pointed in e
-  pointed-long (c ∷ ds) t e = ap length (pointed-step c ds t) ∙ pointed-long ds (one c t) (one-long c t e)
-
 -- ---- the best of one and some
-
-beats-true : (a b : Cand) → beats a b ≡ true → b .stamp ≤ a .stamp
-unfolding beats
-beats-true a b e = ⊎-elim (λ (q : ltb (b .stamp) (a .stamp) ≡ true). let l : b .stamp < a .stamp = ltb-true (b .stamp) (a .stamp) q in omega arith)
-    (λ (q : (eqb (a .stamp) (b .stamp) && rest) ≡ true). let i : a .stamp ≡ b .stamp = eqb-true (a .stamp) (b .stamp) (and-left (eqb (a .stamp) (b .stamp)) rest q) in omega arith)
-    (or-cases (ltb (b .stamp) (a .stamp)) (eqb (a .stamp) (b .stamp) && rest) e)
-  where
-    rest : Bool
-    rest = ltb (b .serial) (a .serial) || (eqb (a .serial) (b .serial) && (ltb (a .drive) (b .drive) || (eqb (a .drive) (b .drive) && ltb (a .offset) (b .offset))))
-
-beats-false : (a b : Cand) → beats a b ≡ false → a .stamp ≤ b .stamp
-unfolding beats
-beats-false a b e = ltb-false (b .stamp) (a .stamp) (or-l (ltb (b .stamp) (a .stamp)) (eqb (a .stamp) (b .stamp) && rest) e)
-  where
-    rest : Bool
-    rest = ltb (b .serial) (a .serial) || (eqb (a .serial) (b .serial) && (ltb (a .drive) (b .drive) || (eqb (a .drive) (b .drive) && ltb (a .offset) (b .offset))))
 
 pub best-some : (b : Cand) (l : List Cand) → (w : Cand) × (best (some b) l ≡ some w) × ((w ≡ b) ⊎ Has w l) × (b .stamp ≤ w .stamp) × ((c : Cand) → Has c l → c .stamp ≤ w .stamp)
 unfolding best better

@@ -13,7 +13,7 @@ use Rattle.spec.specs.Demands.{sendAt, NoneAckedFrom, ReadOk}
 use Rattle.spec.specs.History.{World, Send, Seen, seenAt}
 use Rattle.spec.specs.History.Seen.{unwritten, got}
 use Rattle.law_basic.specs.Geometry.{Ranged}
-use Rattle.proof_crash_items.specs.Member.{false-of}
+use Rattle.law_drives.specs.Tests.{not-so}
 use Rattle.proof_crash_items.specs.Ranges.{parOf}
 use Rattle.proof_crash_machine.specs.Facts.{Ghost, InV}
 use Rattle.proof_crash_machine.specs.History.{State as m-State, Inv, Claim}
@@ -57,7 +57,7 @@ module _ (p : Params) (h : Ranged p) (σ : m-State) (T : Track) (K : ℕ → ℕ
   -- never written: none was acknowledged
   none-acked : K a ≡ 0 → NoneAckedFrom ss a 0
   none-acked e j b l f =
-      false-of (sendAt ss j .acked) (λ q. let k : InV (T .log j) (σ .acked)
+      not-so (sendAt ss j .acked) (λ q. let k : InV (T .log j) (σ .acked)
       × (T .pos (T .log j .stamp) ≡ j)
       × (T .log j .stamp ≤ K a)
       × (0 < T .log j .stamp) = acked-low j l f q in let z : ⊥ = omega (arith, e, k .2, k .3) in z)
@@ -81,7 +81,7 @@ module _ (p : Params) (h : Ranged p) (σ : m-State) (T : Track) (K : ℕ → ℕ
       blocks = same-block (sendAt ss i .block) (y .block) (L .same i il .long ∙ sym (y .long)) (sym (L .same i il .blk) ∙ ap (λ (w : Val). w .blk) here ∙ y .is)
 
       later : NoneAckedFrom ss a (suc i)
-      later j b l f = false-of (sendAt ss j .acked) (λ q.
+      later j b l f = not-so (sendAt ss j .acked) (λ q.
           let k : InV (T .log j) (σ .acked) × (T .pos (T .log j .stamp) ≡ j) × (T .log j .stamp ≤ K a) × (0 < T .log j .stamp) = acked-low j l f q in
           go (T .log j) (I .acks (T .log j) (k .0) .0) (k .1) (omega (arith, k .2, y .stamp)) (decLt (T .log j .stamp) (y .value .stamp)))
         where

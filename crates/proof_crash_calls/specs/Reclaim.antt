@@ -24,10 +24,13 @@ use Rattle.spec.specs.Params.{between, inRange, capacity, inflightLen, placeBlo
 use Rattle.spec.specs.Reclaim.{placesIn, tableFaults, liveIn, flying, Victim, victim, isNone, victimSegment, victimLive, idle, reclaimChecks, resetPlan, copyPlan}
 use Rattle.spec.specs.Write.{opens, noSerial, mustWait, scarce, placed, openedBy, slotFor, begunBy, sending}
 use Rattle.law_basic.specs.Geometry.{Ranged}
-use Rattle.law_basic.specs.Ranges.{Test, test}
+use Rattle.law_basic.specs.Ranges.{Test, test, and-fails, or-left, nil-is}
 use Rattle.law_basic.specs.Ranges.Test.{yes!, no! }
+use Rattle.law_calls.specs.Refusals.{state-free}
+use Rattle.law_drives.specs.Members.{nil-left}
+use Rattle.law_drives.specs.Tests.{cond-true, cond-false, clash}
 use Rattle.proof_crash_items.specs.Items.{valueOf, itemsIn, storeItem, storeItems}
-use Rattle.proof_crash_items.specs.Member.{Has, true-false, cond-true, cond-false, keep-has, isNil-nil, firstOr-has}
+use Rattle.proof_crash_items.specs.Member.{Has, keep-has, firstOr-has}
 use Rattle.proof_crash_items.specs.Ranges.{parOf}
 use Rattle.proof_crash_items.specs.Segs.{OnDrives}
 use Rattle.proof_crash_items.specs.Sound.{Follows, follows-all, follows-cut}
@@ -44,16 +47,15 @@ use Rattle.proof_crash_machine.specs.Val.{Val}
 use Rattle.proof_crash_machine.specs.View.{Item, View as m-View, Store as m-Store, applyAll, In, resets}
 use Rattle.proof_crash_machine.specs.View.Item.{chunk}
 use Rattle.proof_crash_machine.specs.View.Store.{reset as m-reset}
-use Rattle.proof_crash_calls.specs.Base.{or-l, or-r, and-fails, passes}
+use Rattle.proof_crash_calls.specs.Base.{or-r, passes}
 use Rattle.proof_crash_calls.specs.Entries.{entry-value, entry-long}
 use Rattle.proof_crash_calls.specs.Go.{mst, later-same, go-step, go-then, go-view, go-inv}
 use Rattle.proof_crash_calls.specs.Held.{Entry, table-to}
 use Rattle.proof_crash_calls.specs.Live.{Live, CallOk, live-inv, live-none, live-drives, live-after, live-cut}
 use Rattle.proof_crash_calls.specs.Rel.{slot-keep, Rel, Waiting}
-use Rattle.proof_crash_calls.specs.Sending.{Asked, faults-none, Target, sendStores, target, target-entries}
+use Rattle.proof_crash_calls.specs.Sending.{Asked, Target, sendStores, target, target-entries}
 use Rattle.proof_crash_calls.specs.Take.{takenMem, taken-rel, taken-waits, copied-go}
 use Rattle.proof_crash_calls.specs.Victim.{VictimIs, victim-is, place-has, live-has, open-unsealed, quiet, table-left}
-use Rattle.proof_crash_calls.specs.Write.{append-none}
 
 -- ---- the resets are the machine's
 
@@ -272,8 +274,8 @@ module _ (p : Params) (h : Ranged p) (v : View) (m : Memory) (ss : List Send) (n
         where
           ok : stateOk p st ≡ true
           ok =
-              faults-none p st (append-none (stateFaults p st) (tableFaults p (m .addresses))
-              (append-none (stateFaults p st ++ tableFaults p (m .addresses))
+              state-free p st (nil-left (stateFaults p st) (tableFaults p (m .addresses))
+              (nil-left (stateFaults p st ++ tableFaults p (m .addresses))
               (map (λ q. victimSegment (some w)) (keep (λ q. not (between 1 (p .S) (placeBlock p q))) (victimLive (some w))))
               (q .1 .1 .1 .1 .1 .1 .1 .0) .0) .0)
 
@@ -289,7 +291,7 @@ module _ (p : Params) (h : Ranged p) (v : View) (m : Memory) (ss : List Send) (n
               (sym (cond-true (isNil (victimLive (some w))) (resetPlan p m (victimSegment (some w)))
               (copyPlan p v m (firstOr 0 (idle p v st (some w)))) t))
               (subst (λ (z : ℕ). CallOk p h (l .g) v (resetPlan p m z) ss ss n) (sym seg)
-              (reset-ok (w .segment) (vi .low) (vi .sealed) (sym (vi .live) ∙ sym alive ∙ isNil-nil (victimLive (some w)) t) ok))
+              (reset-ok (w .segment) (vi .low) (vi .sealed) (sym (vi .live) ∙ sym alive ∙ nil-is (victimLive (some w)) t) ok))
           pick? (no! t) =
               subst (λ (y : Plan). CallOk p h (l .g) v y ss ss n)
               (sym (cond-false (isNil (victimLive (some w))) (resetPlan p m (victimSegment (some w)))
@@ -319,7 +321,7 @@ module _ (p : Params) (h : Ranged p) (v : View) (m : Memory) (ss : List Send) (n
                   from-idle x i = unfold idle in keep-has (λ q. not (flying p v st q)) x (victimLive (some w)) i .0
 
       none-taken : Q none → CallOk p h (l .g) v (plan none) ss ss n
-      none-taken q = true-false (isNone none) (unfold isNone in refl) (or-l (isNone none) (not (isNil (victimLive none)) && isNil (idle p v st none)) (q .1 .1 .1 .0))
+      none-taken q = clash (unfold isNone in refl) (or-left (isNone none) (not (isNil (victimLive none)) && isNil (idle p v st none)) (q .1 .1 .1 .0))
 
       go : (w : Opt Victim) → victim p v (m .addresses) ≡ w → Q (victim p v (m .addresses)) → CallOk p h (l .g) v (reclaimPlan p v m) ss ss n
       go none e q = subst (λ (y : Plan). CallOk p h (l .g) v y ss ss n) (sym (is ∙ ap plan e)) (none-taken (subst Q e q))

@@ -31,14 +31,15 @@ use Rattle.spec.specs.Reclaim.{victim, victimSegment, victimLive, idle, reclaim
 use Rattle.spec.specs.Restart.{freeZones, namesDrive, rewrites, restartChecks, restartPlan, restartVerdict}
 use Rattle.spec.specs.Segments.{segments, greatestSerial}
 use Rattle.spec.specs.Write.{writeChecks, writePlan, writeVerdict}
-use Rattle.law_basic.specs.Ranges.{Test, test, and-both}
+use Rattle.law_basic.specs.Ranges.{Test, test, and-both, or-left}
 use Rattle.law_basic.specs.Ranges.Test.{yes!, no! }
 use Rattle.law_views.specs.Views.{seen}
-use Rattle.proof_crash_items.specs.Member.{true-false, cond-true, cond-false}
+use Rattle.law_calls.specs.Refusals.{refusal-kind, refused-unfinished}
+use Rattle.law_drives.specs.Tests.{cond-true, cond-false, clash}
 use Rattle.proof_crash_machine.specs.Exec.{true≢false}
 use Rattle.proof_crash_machine.specs.Untrusted.{untrusted}
-use Rattle.proof_crash_calls.specs.Base.{or-l, or-r, refuses}
-use Rattle.proof_crash_calls.specs.Join.{refused-unfinished, sent-refused}
+use Rattle.proof_crash_calls.specs.Base.{or-r}
+use Rattle.proof_crash_calls.specs.Join.{sent-refused}
 
 -- ---- every verdict is decided by checks
 
@@ -122,7 +123,7 @@ refused-step p s c a e = λ j. record {
 }
   where
     no : isRefused a ≡ true
-    no = refuses (decides p (lentOk p (s .world .disk) (s .world .memory)) (seen p (s .world .disk)) (s .world .memory) c .checks) a e
+    no = refusal-kind (decides p (lentOk p (s .world .disk) (s .world .memory)) (seen p (s .world .disk)) (s .world .memory) c .checks) a e
 
     r : callDisk p (s .world .disk) (s .world .memory) c ≡ mkAfter a (s .world .disk) (s .world .memory) (lentBlock c)
     r = refused-after p (s .world .disk) (s .world .memory) c a e
@@ -149,9 +150,9 @@ out-of-order p k m d n e = go (test (not (inRange p) || not (namesDrive p d))) (
         → (a : Answer) × (firstRefusal (rule 1 (not (inRange p) || not (namesDrive p d)) ∷ rule 2 (not (lentOk p k m)) ∷ cs) ≡ some a)
     go (yes! x) y = (Refused 1, first (not (inRange p) || not (namesDrive p d)) x (rule 2 (not (lentOk p k m)) ∷ cs))
     go (no! x) (yes! y) = (Refused 2, second (not (inRange p) || not (namesDrive p d)) (not (lentOk p k m)) x y cs)
-    go (no! x) (no! y) = true-false (inRange p && namesDrive p d && lentOk p k m)
+    go (no! x) (no! y) = clash
         (and-both (inRange p && namesDrive p d) (lentOk p k m)
-        (and-both (inRange p) (namesDrive p d) (not-false (inRange p) (or-l (not (inRange p)) (not (namesDrive p d)) x))
+        (and-both (inRange p) (namesDrive p d) (not-false (inRange p) (or-left (not (inRange p)) (not (namesDrive p d)) x))
         (not-false (namesDrive p d) (or-r (not (inRange p)) (not (namesDrive p d)) x))) (not-false (lentOk p k m) y)) e
 
 -- it begins no run: the history is as it was
@@ -179,7 +180,7 @@ boot-step p s d n m im ps e = λ j. record {
     o = out-of-order p (s .world .disk) m d n e
 
     no : isRefused (o .0) ≡ true
-    no = refuses (decides p (lentOk p (s .world .disk) m) (seen p (s .world .disk)) m (restart d n) .checks) (o .0) (o .1)
+    no = refusal-kind (decides p (lentOk p (s .world .disk) m) (seen p (s .world .disk)) m (restart d n) .checks) (o .0) (o .1)
 
     r : callDisk p (u .disk) (u .memory) (restart d n) ≡ mkAfter (o .0) (s .world .disk) m (lentBlock (restart d n))
     r = ap (λ (x : World). callDisk p (x .disk) (x .memory) (restart d n)) same ∙ refused-after p (s .world .disk) m (restart d n) (o .0) (o .1)

@@ -20,8 +20,9 @@ use Rattle.spec.specs.Rank.{Cand}
 use Rattle.spec.specs.Restart.{openOf, nextOf, restartMemory}
 use Rattle.spec.specs.Segments.{headerAt, remaining, Segment, segmentOf, segments, candidates, addressTable, greatestStamp, greatestSerial, unsealed}
 use Rattle.law_basic.specs.Geometry.{Ranged}
+use Rattle.law_drives.specs.Tests.{clash}
 use Rattle.proof_crash_items.specs.Items.{itemsIn}
-use Rattle.proof_crash_items.specs.Member.{Has, true-false, map-has, greatest-some}
+use Rattle.proof_crash_items.specs.Member.{Has, map-has, greatest-some}
 use Rattle.proof_crash_items.specs.Named.{named-none}
 use Rattle.proof_crash_items.specs.SegFacts.{begun-on, serial-is}
 use Rattle.proof_crash_items.specs.Segs.{OnDrives, zone-bytes, head-serials, remaining-has}
@@ -106,7 +107,7 @@ module _ (p : Params) (h : Ranged p) (v : View) (ss : List Send) (j : ℕ) (g : 
 
   open-as : b ≡ true → (openOf (unsealed (segments p v 0)) ≡ suc z) × (n ≡ nextOf p (unsealed (segments p v 0)))
   open-as e = ⊎-elim (λ (q : (b ≡ true) × (openOf (unsealed (segments p v 0)) ≡ suc z) × (nextOf p (unsealed (segments p v 0)) ≡ n)). (q .1, sym (q .2)))
-      (λ (q : (b ≡ false) × (openOf (unsealed (segments p v 0)) ≡ 0)). true-false b e (q .0)) (f .is)
+      (λ (q : (b ≡ false) × (openOf (unsealed (segments p v 0)) ≡ 0)). clash e (q .0)) (f .is)
 
   idle-live :
       Live p h v (idleState 1 0 (greatestStamp (candidates p 0 (segments p v 0))) (greatestSerial (segments p v 0))

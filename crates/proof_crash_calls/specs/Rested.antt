@@ -13,8 +13,8 @@ use Rattle.spec.specs.Drives.{View}
 use Rattle.spec.specs.History.{Send}
 use Rattle.spec.specs.Memory.{idleState}
 use Rattle.law_basic.specs.Geometry.{Ranged}
+use Rattle.law_drives.specs.Tests.{clash, not-so}
 use Rattle.proof_crash_items.specs.Items.{itemsIn}
-use Rattle.proof_crash_items.specs.Member.{true-false, false-of}
 use Rattle.proof_crash_items.specs.RestMem.{idle-filled}
 use Rattle.proof_crash_machine.specs.Exec.{true≢false}
 use Rattle.proof_crash_machine.specs.Facts.{Ghost}
@@ -41,7 +41,7 @@ idle-long live gone t sr opened next = record {
 }
 
 pub idle-unused : (live gone t sr opened next i : ℕ) → inUse (idleState live gone t sr opened next) i ≡ false
-idle-unused live gone t sr opened next i = false-of (inUse (idleState live gone t sr opened next) i)
+idle-unused live gone t sr opened next i = not-so (inUse (idleState live gone t sr opened next) i)
     (λ q. let z : ⊥ = omega (arith, used-filled (idleState live gone t sr opened next) i q, idle-filled live gone t sr opened next i) in z)
 
 -- the state of a healthy restart, and the machine's memory: the open segment, if there is one, has the stripes below next on all drives, and not all S
@@ -67,7 +67,7 @@ rest-rel p v fl live t sr opened next b z k tl sl eb ez ek few whole = record {
 }
   where
     free : {A : Type 0} (i : ℕ) → inUse (idleState live 0 t sr opened next) i ≡ true → A
-    free i q = true-false (inUse (idleState live 0 t sr opened next) i) q (idle-unused live 0 t sr opened next i)
+    free i q = clash q (idle-unused live 0 t sr opened next i)
 
 -- so a run begins
 pub rest-live : (p : Params) (h : Ranged p) (v : View) (fl tb : List ℕ) (ss : List Send) (n : ℕ) (g : Ghost) (a : List Val) (c : Bool) (T : Track) (live t sr opened next : ℕ) (b : Bool) (z k : ℕ)
@@ -81,6 +81,6 @@ rest-live p h v fl tb ss n g a c T live t sr opened next b z k r R idle table = 
   T = T;
   reached = r;
   rel = R;
-  waits = λ j l q. true-false (sendAt ss j .waits) q (idle j l);
+  waits = λ j l q. clash q (idle j l);
   table = table;
 }

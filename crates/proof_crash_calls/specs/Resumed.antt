@@ -23,17 +23,13 @@ use Rattle.proof_crash_items.specs.Segs.{OnDrives}
 use Rattle.proof_crash_items.specs.Shape.{Shape}
 use Rattle.proof_crash_items.specs.Sound.{BytesOk}
 use Rattle.proof_crash_machine.specs.Facts.{Ghost, InV, Choice, Counted}
-use Rattle.proof_crash_machine.specs.History.{Mode, State as m-State, Inv}
-use Rattle.proof_crash_machine.specs.Order.{Track, Tracked}
+use Rattle.proof_crash_machine.specs.History.{Mode, Inv}
+use Rattle.proof_crash_machine.specs.Order.{Track, less}
 use Rattle.proof_crash_machine.specs.Val.{Val, pads}
 use Rattle.proof_crash_calls.specs.Go.{mst}
 use Rattle.proof_crash_calls.specs.Live.{Reached}
 use Rattle.proof_crash_calls.specs.Readings.{Shows}
 use Rattle.proof_crash_calls.specs.Sends.{length-forget, forget-logged}
-
--- fewer blocks sent
-pub tracked-less : (σ τ : m-State) (T : Track) → ((x : Val) → InV x (τ .g .sent) → InV x (σ .g .sent)) → Tracked σ T → Tracked τ T
-tracked-less σ τ T f k = record { here = λ x m. k .here x (f x m); order = λ x y m n b. k .order x y (f x m) (f y n) b }
 
 module _ (p : Params) (h : Ranged p) (v : View) (ss : List Send) (n : ℕ) (g : Ghost) (a : List Val) (c : Bool) (m : Mode) (T : Track) (r : Reached p h v ss n g a c m T) where
   -- other drives u, ghost, mode and mark, what was acknowledged is as it was
@@ -41,7 +37,7 @@ module _ (p : Params) (h : Ranged p) (v : View) (ss : List Send) (n : ℕ) (g : 
       → ((x : Val) → InV x (g′ .sent) → InV x (g .sent)) → n′ ≤ length ss → (length ss ≡ n′ → c′ ≡ false) → Reached p h u ss n′ g′ a c′ m′ T
   reached-to u g′ c′ m′ n′ I sh by fewer low still = record {
     inv = I;
-    tracked = tracked-less (mst g (itemsIn p v) a c m) (mst g′ (itemsIn p u) a c′ m′) T fewer (r .tracked);
+    tracked = less (mst g (itemsIn p v) a c m) (mst g′ (itemsIn p u) a c′ m′) T fewer (r .tracked);
     shape = sh;
     bytes = by;
     logged = r .logged;

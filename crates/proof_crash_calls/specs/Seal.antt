@@ -18,6 +18,7 @@ use Rattle.spec.specs.Params.{footers, capacity, drivesOf}
 use Rattle.law_basic.specs.Geometry.{Ranged}
 use Rattle.law_basic.specs.Stores.{storeAll-append}
 use Rattle.law_views.specs.Views.{Fits}
+use Rattle.law_drives.specs.Counting.{pigeon}
 use Rattle.proof_crash_items.specs.Items.{itemAt, itemsOf, itemsIn, items-in, item-foot, length-of, storeItem, items-store}
 use Rattle.proof_crash_items.specs.Ranges.{parOf}
 use Rattle.proof_crash_items.specs.Shape.{Shape, zone-set, zone-set-other, shape-store}
@@ -36,7 +37,6 @@ use Rattle.proof_crash_machine.specs.Val.{Val}
 use Rattle.proof_crash_machine.specs.View.{Item, View as m-View, after, apply, In, chunk-num, chunk-hdr}
 use Rattle.proof_crash_machine.specs.View.Item.{chunk, foot}
 use Rattle.proof_crash_machine.specs.View.Store.{put as m-put}
-use Rattle.proof_crash_calls.specs.Base.{pigeon}
 use Rattle.proof_crash_calls.specs.Go.{mst, Go, go-step, go-view, Chain, chain-append}
 use Rattle.proof_crash_calls.specs.Held.{Grown, grown-same, grown-then, grown-put}
 
@@ -74,7 +74,7 @@ module _ (P : Par) (g : Ghost) (d z : ℕ) (l : List Item) (f : m-Zone P g d z l
   all-stripes = omega (
     arith,
     begun,
-    pigeon (length l - 1) (P .S) at (λ s b. omega (arith, is s b .1 .0))
+    pigeon (P .S) (length l - 1) at (λ s b. omega (arith, is s b .1 .0))
         (λ s t a b e. chunk-num (sym (is s a .1 .1) ∙ ap (λ (k : ℕ). getD l (suc k) (foot 0)) e ∙ is t b .1 .1)),
   )
 

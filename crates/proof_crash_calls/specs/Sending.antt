@@ -13,16 +13,18 @@ use lib.Count.{ones}
 use Rattle.spec.specs.declared.Params.{Params}
 use Rattle.spec.specs.declared.State.{State}
 use Rattle.spec.specs.Drives.{View, Store, storeView, storeAll, emptyZones, headerStores}
-use Rattle.spec.specs.Lists.{all, any, consIf, keep, isNil, indexOf, firstOr}
-use Rattle.spec.specs.Memory.{slotCount, slots, stripeIn, filledIn, landedIn, isFree, isFull, isFilling, inFlight, freeSlot, fillingSlot, hasFilling, slotOk}
-use Rattle.spec.specs.Memory.{stateOk, stateFaults, setOpen, beginStripe}
+use Rattle.spec.specs.Lists.{all, any, keep, isNil, indexOf, firstOr}
+use Rattle.spec.specs.Memory.{slotCount, slots, stripeIn, filledIn, landedIn, isFree, isFull, isFilling, inFlight, freeSlot, fillingSlot, hasFilling, slotOk, stateOk, setOpen, beginStripe}
 use Rattle.spec.specs.Params.{dataCount, placeBlock, placeZone, placeDrive}
 use Rattle.spec.specs.Write.{mustOpen, opens, noSerial, otherGroup, mustWait, openedBy, slotFor, begunBy}
 use Rattle.law_basic.specs.Geometry.{Ranged, data-count-low}
-use Rattle.law_basic.specs.Ranges.{Test, test, and-left, and-right, and-both, length-below}
+use Rattle.law_basic.specs.Ranges.{Test, test, and-left, and-right, and-both, length-below, and-fails, and-false, or-left, nil-is}
 use Rattle.law_basic.specs.Ranges.Test.{yes!, no! }
+use Rattle.law_calls.specs.Refusals.{next-low}
+use Rattle.law_drives.specs.Slots.{slot-found}
+use Rattle.law_drives.specs.Tests.{cond-true, cond-false, clash, not-so}
 use Rattle.proof_crash_items.specs.Items.{itemsIn}
-use Rattle.proof_crash_items.specs.Member.{Has, true-false, cond-true, cond-false, false-of, and-false-1, and-false-2, has-keep, all-has, isNil-nil}
+use Rattle.proof_crash_items.specs.Member.{Has, and-false-1, has-keep, all-has}
 use Rattle.proof_crash_items.specs.Ranges.{parOf}
 use Rattle.proof_crash_items.specs.Shape.{Shape}
 use Rattle.proof_crash_items.specs.Sound.{AllSound}
@@ -39,7 +41,7 @@ use Rattle.proof_crash_machine.specs.Order.{Track, noTrack}
 use Rattle.proof_crash_machine.specs.Val.{Val}
 use Rattle.proof_crash_machine.specs.View.{Item}
 use Rattle.proof_crash_machine.specs.View.Item.{chunk, foot}
-use Rattle.proof_crash_calls.specs.Base.{or-l, or-r, and-fails, slot-found, has-slot, keep-rest}
+use Rattle.proof_crash_calls.specs.Base.{or-r, has-slot, keep-rest}
 use Rattle.proof_crash_calls.specs.Begin.{begunMem, withSlot, with-here, begin-rel, begin-waits, begin-cover}
 use Rattle.proof_crash_calls.specs.Cells.{same-used, begin-filled, open-same}
 use Rattle.proof_crash_calls.specs.Go.{mst, Later, later-same, Go, go-none, go-step, go-more, go-inv}
@@ -68,9 +70,6 @@ state-parts p st e =
     and-seven (eqb (st .live) 1) (ltb (st .missing) (2 ^ p .N)) (leb (ones (st .missing)) 1) (leb (st .opened) (p .Z)) (leb (st .next) (p .S))
     (all (slotOk p st) slots) (all (λ o. ltb o (p .S)) (st .offsets)) e
 
-pub next-low : (p : Params) (st : State) → stateOk p st ≡ true → st .next ≤ p .S
-next-low p st e = leb-true (st .next) (p .S) (state-parts p st e .1)
-
 pub opened-low : (p : Params) (st : State) → stateOk p st ≡ true → st .opened ≤ p .Z
 opened-low p st e = leb-true (st .opened) (p .Z) (state-parts p st e .0)
 
@@ -88,15 +87,6 @@ slots-ok p st e i il = split (all-has (slotOk p st) slots (state-parts p st e .2
               (ltb (stripeIn st i) (p .S) && leb (filledIn st i) (dataCount p) && ltb (getD (st .writes) i 0) (2 ^ dataCount p))
               (ltb (landedIn st i) (2 ^ p .N)) q),
         )
-
--- no zone is bad: the state's numbers are in range
-pub faults-none : (p : Params) (st : State) → stateFaults p st ≡ [] → stateOk p st ≡ true
-unfolding stateFaults
-faults-none p st e = go (stateOk p st) refl e
-  where
-    go : (b : Bool) → stateOk p st ≡ b → consIf {A = ℕ} (not b) 0 [] ≡ [] → stateOk p st ≡ true
-    go true q e = q
-    go false q e = unfold consIf in absurd (let z : _≡_ {A = ℕ} 0 1 = cc in let x : ⊥ = omega arith in x)
 
 -- ---- the eighths
 
@@ -127,7 +117,7 @@ free-slot st b = go (test (any (isFree st) slots))
 pub none-flying : (st : State) → isNil (inFlight st) ≡ true → (i : ℕ) → i < 8 → inUse st i ≡ false
 unfolding inFlight inUse
 none-flying st e i il =
-    false-of (not (isFree st i)) (λ q. absurd (subst (λ (l : List ℕ). Has i l) (isNil-nil (keep (λ i. not (isFree st i)) slots) e) (has-keep (λ i. not (isFree st i)) i slots (has-slot i il) q)))
+    not-so (not (isFree st i)) (λ q. absurd (subst (λ (l : List ℕ). Has i l) (nil-is (keep (λ i. not (isFree st i)) slots) e) (has-keep (λ i. not (isFree st i)) i slots (has-slot i il) q)))
 
 -- ---- the stripe that takes the block
 
@@ -335,17 +325,17 @@ module _ (p : Params) (h : Ranged p) (g : Ghost) (v : View) (a : List Val) (c : 
         (unfold mustWait in A .waits) (ap not not-filling)
 
     few : (leb slotCount (length (inFlight st)) || (mustOpen p st && not (isNil (inFlight st)))) ≡ false
-    few = or-l (leb slotCount (length (inFlight st)) || (mustOpen p st && not (isNil (inFlight st)))) (not (mustOpen p st) && any (otherGroup p st) (inFlight st)) waits?
+    few = or-left (leb slotCount (length (inFlight st)) || (mustOpen p st && not (isNil (inFlight st)))) (not (mustOpen p st) && any (otherGroup p st) (inFlight st)) waits?
 
     free : (freeSlot st < 8) × (inUse st (freeSlot st) ≡ false)
-    free = free-slot st (leb-false 8 (length (inFlight st)) (unfold slotCount in or-l (leb slotCount (length (inFlight st))) (mustOpen p st && not (isNil (inFlight st))) few))
+    free = free-slot st (leb-false 8 (length (inFlight st)) (unfold slotCount in or-left (leb slotCount (length (inFlight st))) (mustOpen p st && not (isNil (inFlight st))) few))
 
     begins : mustOpen p st ≡ false → Target p h g v a c st fl M [] (beginStripe st (freeSlot st)) (freeSlot st)
     begins e = target-begin p h g v a c st fl M R I sh o
         (omega (arith, R .next o, next-low p st (A .ok), eqb-false (st .next) (p .S) (or-r (eqb (st .opened) 0) (eqb (st .next) (p .S)) (unfold mustOpen in e)))) (freeSlot st) (free .0) (free .1)
       where
         o : M .is-open ≡ true
-        o = R .is-open ∙ ap not (or-l (eqb (st .opened) 0) (eqb (st .next) (p .S)) (unfold mustOpen in e))
+        o = R .is-open ∙ ap not (or-left (eqb (st .opened) 0) (eqb (st .next) (p .S)) (unfold mustOpen in e))
 
     -- a segment must be opened: none is open, since nothing is in flight
     opens-now :
@@ -381,7 +371,7 @@ module _ (p : Params) (h : Ranged p) (g : Ghost) (v : View) (a : List Val) (c : 
                 full (inr x) =
                     let f : (s : ℕ) × (M .fly s ≡ true) = R .busy q (R .next q ∙ eqb-true (st .next) (p .S) x) in
                     let y : (i : ℕ) × (i < 8) × (inUse st i ≡ true) × (stripeIn st i ≡ f .0) = R .flies (f .0) (f .1) in
-                    true-false (inUse st (y .0)) (y .2) (idle (y .0) (y .1))
+                    clash (y .2) (idle (y .0) (y .1))
 
   pub target : Target p h g v a c st fl M (sendStores p v st) (begunBy p st (openedBy p v st)) (slotFor p st)
   target = go (test (hasFilling p st)) (test (mustOpen p st))
@@ -397,7 +387,7 @@ module _ (p : Params) (h : Ranged p) (g : Ghost) (v : View) (a : List Val) (c : 
           (begunBy p st (openedBy p v st)) (beginStripe (setOpen st (firstOr 0 (emptyZones p v)) (suc (st .serial .0))) (freeSlot st)) (slotFor p st) (freeSlot st)
           (stores-some p v st o) (begun-new p st (openedBy p v st) e ∙ ap (λ (x : State). beginStripe x (freeSlot st)) (opened-new p v st o)) (slot-free p st e) (opens-now e m)
       go (no! e) (no! m) =
-          let o : opens p st ≡ false = unfold opens in and-false-2 (not (hasFilling p st)) (mustOpen p st) m in
+          let o : opens p st ≡ false = unfold opens in and-false (not (hasFilling p st)) (mustOpen p st) m in
           target-as p h g v a c st fl M (sendStores p v st) [] (begunBy p st (openedBy p v st)) (beginStripe st (freeSlot st)) (slotFor p st) (freeSlot st)
           (stores-none p v st o) (begun-new p st (openedBy p v st) e ∙ ap (λ (x : State). beginStripe x (freeSlot st)) (opened-old p v st o)) (slot-free p st e) (begins e m)
 

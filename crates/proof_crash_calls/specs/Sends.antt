@@ -15,15 +15,15 @@ use Rattle.spec.specs.declared.State.{State}
 use Rattle.spec.specs.Demands.{sendAt}
 use Rattle.spec.specs.History.{Send, mkSend, acknowledge, forget}
 use Rattle.spec.specs.Layout.{Rec}
-use Rattle.law_basic.specs.Ranges.{Test, test, and-left, and-right, and-both, getD-map}
+use Rattle.law_basic.specs.Ranges.{Test, test, and-left, and-right, and-both, getD-map, and-fails}
 use Rattle.law_basic.specs.Ranges.Test.{yes!, no! }
+use Rattle.law_drives.specs.Tests.{cond-true, cond-false, clash}
 use Rattle.proof_crash_items.specs.Items.{valueOf}
-use Rattle.proof_crash_items.specs.Member.{true-false, cond-true, cond-false}
 use Rattle.proof_crash_machine.specs.Facts.{Ghost, InV}
 use Rattle.proof_crash_machine.specs.Memory.{setAt, Mem}
 use Rattle.proof_crash_machine.specs.Order.{Track, sentTo}
 use Rattle.proof_crash_machine.specs.Val.{Val}
-use Rattle.proof_crash_calls.specs.Base.{and-fails, setAt-here, setAt-else}
+use Rattle.proof_crash_calls.specs.Base.{setAt-here, setAt-else}
 use Rattle.proof_crash_calls.specs.Rel.{Waiting}
 
 -- ---- values
@@ -108,7 +108,7 @@ module _ (p : Params) (a : List Val) (T : Track) (ss : List Send) (L : Logged p 
       acks j (yes l) b q =
           let k : InV (T .log j) a × (T .pos (T .log j .stamp) ≡ j) = L .acks j l (ap (λ (z : Send). z .acked) (sym (old-send j l)) ∙ q) in
           (rw (old-log j l) (k .0), ap (λ (z : Val). sentTo T x .pos (z .stamp)) (old-log j l) ∙ old-pos (T .log j .stamp) (low (T .log j) (k .0)) ∙ k .1)
-      acks j (no l) b q = true-false (y .acked) (ap (λ (z : Send). z .acked) (sym (ap (sendAt (ss ++ (y ∷ []))) (last j l b) ∙ new-send)) ∙ q) fresh
+      acks j (no l) b q = clash (ap (λ (z : Send). z .acked) (sym (ap (sendAt (ss ++ (y ∷ []))) (last j l b) ∙ new-send)) ∙ q) fresh
 
 -- ---- the run is over
 
@@ -239,7 +239,7 @@ module _ (T : Track) (ss : List Send) (s : ℕ) (a : List Val) where
       q′ = ap (λ (z : Send). z .waits) (sym (send-map (acknowledge s) ss j b)) ∙ q
 
       go : Test (hit j) → (j < length ss) × (sendAt ss j .waits ≡ true) × (sendAt ss j .stripe ≢ s) × (sendAt (map (acknowledge s) ss) j .stripe ≡ sendAt ss j .stripe)
-      go (yes! e) = true-false (acknowledge s (sendAt ss j) .waits) q′ (ap (λ (z : Send). z .waits) (ack-hit (sendAt ss j) e))
+      go (yes! e) = clash q′ (ap (λ (z : Send). z .waits) (ack-hit (sendAt ss j) e))
       go (no! e) =
           let w : sendAt ss j .waits ≡ true = ap (λ (z : Send). z .waits) (sym (ack-miss (sendAt ss j) e)) ∙ q′ in (
             b,

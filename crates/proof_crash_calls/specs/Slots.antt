@@ -75,10 +75,6 @@ module _ (p : Params) (fl : List ℕ) (long : length fl ≡ inflightLen p) (r : 
   par-long : length (parity (p .B) (map (slotBlock p fl i) (dataDrives p s))) ≡ p .B
   par-long = length-parity (p .B) (map (slotBlock p fl i) (dataDrives p s)) (data-blocks-long p fl long i s il)
 
-  pub length-slot-parity : length (setSlotParity p fl i s) ≡ inflightLen p
-  unfolding setSlotParity
-  length-slot-parity = length-slot p fl long i (parityDrive p s) (parity (p .B) (map (slotBlock p fl i) (dataDrives p s))) il par-lt par-long
-
   pub slot-parity-other : (j e : ℕ) → j < 8 → e < p .N → (j ≢ i) ⊎ (e ≢ parityDrive p s) → slotBlock p (setSlotParity p fl i s) j e ≡ slotBlock p fl j e
   unfolding setSlotParity
   slot-parity-other j e jl el n = slot-other p fl long i (parityDrive p s) (parity (p .B) (map (slotBlock p fl i) (dataDrives p s))) il par-lt par-long j e jl el n

@@ -18,7 +18,7 @@ use Rattle.spec.specs.Lists.Opt.{none}
 use Rattle.spec.specs.Memory.{Memory, zeroState}
 use Rattle.spec.specs.Params.{named}
 use Rattle.law_basic.specs.Geometry.{Ranged}
-use Rattle.proof_crash_items.specs.Member.{cond-true}
+use Rattle.law_drives.specs.Tests.{cond-true}
 use Rattle.proof_crash_machine.specs.Exec.{true≢false}
 use Rattle.proof_crash_machine.specs.Facts.{Ghost}
 use Rattle.proof_crash_machine.specs.Memory.{ended}

@@ -1,13 +1,13 @@
 -- The segment that reclaim takes: sealed, not the open one; without live blocks, nothing that is read lies in it. Assumes nothing.
 use mathlib.Core.Path.{_≡_, refl, sym, ap, _∙_, subst}
 use mathlib.Core.List.{List, [], _∷_, map}
-use mathlib.Core.Bool.{Bool, true, false, cond, not}
+use mathlib.Core.Bool.{Bool, true, false, not}
 use mathlib.Core.Logic.{_⊎_, inl, inr, ⊎-elim, _≢_}
 use Prim.Native.Nat.{ℕ, _-_, _≤_, _<_}
 use native.Mathlib.Decide.{ℕ-discrete}
 use borrow.Author.Tests.{ne-eqb, eqb-true, eqb-false, not-true, not-false}
 use native.Mathlib.Omega.{arith}
-use lib.Dec.{ltb, eqb}
+use lib.Dec.{eqb}
 use lib.ListN.{length}
 use Rattle.spec.specs.declared.Params.{Params}
 use Rattle.spec.specs.declared.State.{State}
@@ -23,8 +23,10 @@ use Rattle.law_basic.specs.Geometry.{Ranged, place-again}
 use Rattle.law_basic.specs.Mask.{isIn-empty, ones-all}
 use Rattle.law_basic.specs.Ranges.{Test, test}
 use Rattle.law_basic.specs.Ranges.Test.{yes!, no! }
+use Rattle.law_drives.specs.Best.{fewer-is}
+use Rattle.law_drives.specs.Tests.{clash}
 use Rattle.proof_crash_items.specs.Items.{itemsIn}
-use Rattle.proof_crash_items.specs.Member.{Has, true-false, keep-has, has-keep, below-has, has-below, all-has, has-all, any-has, has-any, any-false, has-flat, map-has, has-map}
+use Rattle.proof_crash_items.specs.Member.{Has, keep-has, has-keep, below-has, has-below, all-has, has-all, any-has, has-any, any-false, has-flat, map-has, has-map}
 use Rattle.proof_crash_items.specs.Ranges.{capacity-few, parOf}
 use Rattle.proof_crash_items.specs.Segs.{OnDrives}
 use Rattle.proof_crash_machine.specs.Facts.{InV, Counted, Off, Facts}
@@ -45,26 +47,14 @@ use Rattle.proof_crash_calls.specs.Sending.{slots-ok}
 
 -- ---- which segment
 
-opt-some : {x y : Victim} → some x ≡ some y → x ≡ y
-opt-some e = cc
-
 opt-none : {A : Type 0} {x : Victim} → none ≡ some x → A
 opt-none e = absurd (let z : _≡_ {A = ℕ} 0 1 = cc in let q : ⊥ = omega arith in q)
-
-fewer-in : (o : Opt Victim) (b x : Victim) → fewer o b ≡ some x → (o ≡ some x) ⊎ (x ≡ b)
-unfolding fewer
-fewer-in none b x e = inr (sym (opt-some e))
-fewer-in (some a) b x e = go (ltb (length (b .live)) (length (a .live))) e
-  where
-    go : (t : Bool) → some (cond t b a) ≡ some x → (some a ≡ some x) ⊎ (x ≡ b)
-    go true q = inr (sym (opt-some q))
-    go false q = inl q
 
 fewest-in : (o : Opt Victim) (l : List Victim) (x : Victim) → fewest o l ≡ some x → (o ≡ some x) ⊎ Has x l
 unfolding fewest
 fewest-in o [] x e = inl e
 fewest-in o (b ∷ l) x e =
-    ⊎-elim (λ (q : fewer o b ≡ some x). ⊎-elim (λ (w : o ≡ some x). inl w) (λ (w : x ≡ b). inr (inl w)) (fewer-in o b x q)) (λ (q : Has x l). inr (inr q)) (fewest-in (fewer o b) l x e)
+    ⊎-elim (λ (q : fewer o b ≡ some x). ⊎-elim (λ (w : o ≡ some x). inl w) (λ (w : x ≡ b). inr (inl w)) (fewer-is o b x q)) (λ (q : Has x l). inr (inr q)) (fewest-in (fewer o b) l x e)
 
 pub record VictimIs (p : Params) (v : View) (tb : List ℕ) (w : Victim) : Type 0 where
   pub low : w .segment < p .Z
@@ -139,7 +129,7 @@ some-clear f n e = go (test (any (λ d. not (f d)) (below n)))
   where
     go : Test (any (λ d. not (f d)) (below n)) → (d : ℕ) × (d < n) × (f d ≡ false)
     go (yes! q) = let a : (d : ℕ) × Has d (below n) × (not (f d) ≡ true) = any-has (λ d. not (f d)) (below n) q in (a .0, below-has (a .0) n (a .1), not-true (f (a .0)) (a .2))
-    go (no! q) = true-false (all f (below n)) (has-all f (below n) (λ d i. not-false (f d) (any-false (λ d. not (f d)) (below n) q d i))) e
+    go (no! q) = clash (has-all f (below n) (λ d i. not-false (f d) (any-false (λ d. not (f d)) (below n) q d i))) e
 
 module _ (p : Params) (h : Ranged p) (v : View) (st : State) (fl tb : List ℕ) (ss : List Send) (n : ℕ) (l : Live p h v st fl tb ss n) (ok : stateOk p st ≡ true) where
   abbrev M : Mem

@@ -26,6 +26,8 @@ use Rattle.spec.specs.Params.{dataCount, inRange, inflightLen}
 use Rattle.spec.specs.Reclaim.{tableFaults, victim, idle}
 use Rattle.spec.specs.Write.{opens, noStamp, noSerial, mustWait, scarce, placed, openedBy, slotFor, begunBy, sending, writeChecks, writePlan}
 use Rattle.law_basic.specs.Geometry.{Ranged}
+use Rattle.law_basic.specs.Ranges.{or-left}
+use Rattle.law_calls.specs.Refusals.{state-free}
 use Rattle.proof_crash_items.specs.Items.{valueOf, itemsIn}
 use Rattle.proof_crash_items.specs.Ranges.{parOf}
 use Rattle.proof_crash_machine.specs.Facts.{Ghost, InV}
@@ -36,19 +38,15 @@ use Rattle.proof_crash_machine.specs.History.Step.{lose}
 use Rattle.proof_crash_machine.specs.Memory.{Mem}
 use Rattle.proof_crash_machine.specs.Order.{sentTo, noTrack}
 use Rattle.proof_crash_machine.specs.Val.{Val}
-use Rattle.proof_crash_calls.specs.Base.{or-l, or-r, passes}
+use Rattle.proof_crash_calls.specs.Base.{or-r, passes}
 use Rattle.proof_crash_calls.specs.Fill.{pad-all}
 use Rattle.proof_crash_calls.specs.Go.{mst, Later, later-same, Go, go-step, go-then, go-view, go-inv}
 use Rattle.proof_crash_calls.specs.Held.{TableOk, entry-sent, table-to}
 use Rattle.proof_crash_calls.specs.Live.{Live, Stopped, CallOk, live-inv, live-after, live-cut, live-stamps, live-acks, live-within}
 use Rattle.proof_crash_calls.specs.Rel.{inUse, Rel, Waiting}
-use Rattle.proof_crash_calls.specs.Sending.{Asked, faults-none, filling-slot, Target, sendStores, target, target-entries}
+use Rattle.proof_crash_calls.specs.Sending.{Asked, filling-slot, Target, sendStores, target, target-entries}
 use Rattle.proof_crash_calls.specs.Sends.{value-addr, value-stamp, value-blk, SameSend, Logged, Waits, length-sent, old-send, new-send, old-log, new-log, old-pos, new-pos, sent-logged}
 use Rattle.proof_crash_calls.specs.Take.{stampedMem, stamp-rel, stamp-waits, takenMem, taken-rel, taken-waits, taken-new, sent-go}
-
-pub append-none : {A : Type 0} (l r : List A) → l ++ r ≡ [] → (l ≡ []) × (r ≡ [])
-append-none [] r e = (refl, e)
-append-none (x ∷ l) r e = absurd (let z : _≡_ {A = ℕ} 0 1 = cc in let q : ⊥ = omega arith in q)
 
 -- ---- closing
 
@@ -73,7 +71,7 @@ module _ (p : Params) (h : Ranged p) (v : View) (m : Memory) (ss : List Send) (n
       × ((stateFaults p (m .state) ++ cond (scarce p v 1) (tableFaults p (m .addresses)) [] ≡ []) × Unit {0})))) = passes (closeChecks p long v m) e in
       let f : hasFilling p (m .state) ≡ true =
       not-false (hasFilling p (m .state))
-      (or-l (not (hasFilling p (m .state))) (scarce p v 1 && not (isNil (idle p v (m .state) (victim p v (m .addresses))))) (q .1 .1 .1 .0)) in
+      (or-left (not (hasFilling p (m .state))) (scarce p v 1 && not (isNil (idle p v (m .state) (victim p v (m .addresses))))) (q .1 .1 .1 .0)) in
       let s : (fillingSlot p (m .state) < 8) × (inUse (m .state) (fillingSlot p (m .state)) ≡ true) × (filledIn (m .state) (fillingSlot p (m .state)) < dataCount p) = filling-slot p (m .state) f in
       record {
         sound = tt;
@@ -107,9 +105,9 @@ write-asked p long v m ad b e =
     record {
       block = eqb-true (length b) (p .B) (not-false (eqb (length b) (p .B)) (or-r (not long) (not (eqb (length b) (p .B))) (q .1 .0)));
       address = leb-false (p .L) ad (q .1 .1 .1 .0);
-      stamp = last (or-l (noStamp st) (noSerial p st) (q .1 .1 .1 .1 .0));
+      stamp = last (or-left (noStamp st) (noSerial p st) (q .1 .1 .1 .1 .0));
       asked = record {
-        ok = faults-none p st (q .1 .1 .1 .1 .1 .1 .1 .0);
+        ok = state-free p st (q .1 .1 .1 .1 .1 .1 .1 .0);
         waits = q .1 .1 .1 .1 .1 .0;
         serial = or-r (noStamp st) (noSerial p st) (q .1 .1 .1 .1 .0);
         room = λ o. room o (q .1 .1 .1 .1 .1 .1 .0);

@@ -1,32 +1,31 @@
 -- The records of counted stripes, and which of an address holds: what a restart reads is the machine's Reads. Assumes nothing.
 use mathlib.Core.Path.{_≡_, refl, sym, ap, _∙_, subst}
 use mathlib.Core.List.{List, [], _∷_, map}
-use mathlib.Core.Bool.{Bool, true, false, cond, not, _&&_, _||_}
+use mathlib.Core.Bool.{Bool, true, false, not, _&&_, _||_}
 use mathlib.Core.Logic.{_⊎_, inl, inr, ⊎-elim, _≢_}
 use Prim.Native.Nat.{ℕ, _≤_, _<_}
 use borrow.Author.Tests.{eq-eqb, ne-eqb, ltb-true, ltb-false, eqb-true}
 use native.Mathlib.Omega.{arith}
 use lib.Dec.{ltb, eqb}
 use Rattle.spec.specs.declared.Params.{Params}
-use Rattle.spec.specs.Bytes.{parity}
 use Rattle.spec.specs.Drives.{View}
 use Rattle.spec.specs.Layout.{parityDrive, dataDrive, dataPosition, isData, dataDrives, Rec}
-use Rattle.spec.specs.Lists.{Opt, below, flat, greatest, isIn}
+use Rattle.spec.specs.Lists.{Opt, below, flat, greatest}
 use Rattle.spec.specs.Lists.Opt.{none, some}
-use Rattle.spec.specs.Params.{dataCount, named, present}
-use Rattle.spec.specs.Parity.{Piece, mkPiece, parityRec, parityPiece}
+use Rattle.spec.specs.Params.{dataCount, named}
 use Rattle.spec.specs.Rank.{Cand, beats, better, best, candsOf}
-use Rattle.spec.specs.Segments.{remaining, Segment, segmentOf, segments, counted, storedPiece, pieceOf, storedRec, recOf, candOf, segmentCands, candidates, greatestStamp}
+use Rattle.spec.specs.Segments.{remaining, Segment, segmentOf, segments, counted, candOf, segmentCands, candidates, greatestStamp}
 use Rattle.law_basic.specs.Geometry.{Ranged, data-drive-lt, data-not-parity, drive-position, position-lt}
-use Rattle.law_basic.specs.Ranges.{map-map}
+use Rattle.law_drives.specs.Segs.{piece-rec}
+use Rattle.law_drives.specs.Tests.{cond-true, cond-false}
 use Rattle.proof_crash_machine.specs.Exec.{and-1, or-cases}
 use Rattle.proof_crash_machine.specs.Facts.{Ghost, Choice, R, Counted}
 use Rattle.proof_crash_machine.specs.Finish.{Reads}
-use Rattle.proof_crash_machine.specs.Reset.{gone, same}
+use Rattle.proof_crash_machine.specs.Reset.{same}
 use Rattle.proof_crash_machine.specs.Rewrite.{st}
 use Rattle.proof_crash_machine.specs.Val.{Val}
 use Rattle.proof_crash_items.specs.Items.{valueOf, itemsIn}
-use Rattle.proof_crash_items.specs.Member.{Has, cond-true, cond-false, keep-has, has-keep, below-has, has-below, flat-has, has-flat, map-has, has-map, greatest-most}
+use Rattle.proof_crash_items.specs.Member.{Has, keep-has, has-keep, below-has, has-below, flat-has, has-flat, map-has, has-map, greatest-most}
 use Rattle.proof_crash_items.specs.Ranges.{parOf}
 use Rattle.proof_crash_items.specs.Segs.{OnDrives, has-remaining, remaining-has}
 use Rattle.proof_crash_items.specs.Stripes.{pieceAt, counted-stripe, stripe-counted}
@@ -46,7 +45,7 @@ pub stamp-none : stampOf none ≡ 0
 unfolding stampOf
 stamp-none = refl
 
-beats-true : (a b : Cand) → beats a b ≡ true → b .stamp ≤ a .stamp
+pub beats-true : (a b : Cand) → beats a b ≡ true → b .stamp ≤ a .stamp
 unfolding beats
 beats-true a b e = ⊎-elim (λ (q : ltb (b .stamp) (a .stamp) ≡ true). let l : b .stamp < a .stamp = ltb-true (b .stamp) (a .stamp) q in omega arith)
     (λ (q : (eqb (a .stamp) (b .stamp) && rest) ≡ true). let i : a .stamp ≡ b .stamp = eqb-true (a .stamp) (b .stamp) (and-1 (eqb (a .stamp) (b .stamp)) rest q) in omega arith)
@@ -55,7 +54,7 @@ beats-true a b e = ⊎-elim (λ (q : ltb (b .stamp) (a .stamp) ≡ true). let l 
     rest : Bool
     rest = ltb (b .serial) (a .serial) || (eqb (a .serial) (b .serial) && (ltb (a .drive) (b .drive) || (eqb (a .drive) (b .drive) && ltb (a .offset) (b .offset))))
 
-beats-false : (a b : Cand) → beats a b ≡ false → a .stamp ≤ b .stamp
+pub beats-false : (a b : Cand) → beats a b ≡ false → a .stamp ≤ b .stamp
 unfolding beats
 beats-false a b e = ltb-false (b .stamp) (a .stamp) (go (ltb (b .stamp) (a .stamp)) (eqb (a .stamp) (b .stamp) && rest) e)
   where
@@ -133,21 +132,6 @@ has-data-drive p r s d l n =
 
 -- ---- the record of a piece
 
-pub rec-of : (p : Params) (gone : ℕ) (g : Segment) (s d : ℕ) → pieceOf p gone g s d .rec ≡ recOf p gone g s d
-unfolding pieceOf recOf parityPiece
-rec-of p gone g s d = go (isIn gone d)
-  where
-    go :
-        (b : Bool)
-        → cond b (mkPiece (parity (p .B) (map (λ (q : Piece). q .block) (map (storedPiece g s) (present p gone))))
-        (parityRec s (map (λ (q : Piece). q .rec) (map (storedPiece g s) (present p gone))))) (storedPiece g s d) .rec
-        ≡ cond b (parityRec s (map (storedRec g s) (present p gone))) (storedRec g s d)
-    go true = ap (parityRec s) (map-map (λ (q : Piece). q .rec) (storedPiece g s) (present p gone) ∙ same)
-      where
-        same : map (λ (a : ℕ). storedPiece g s a .rec) (present p gone) ≡ map (storedRec g s) (present p gone)
-        same = unfold storedPiece storedRec in refl
-    go false = unfold storedPiece storedRec in refl
-
 module _ (p : Params) (r : Ranged p) (g : Ghost) (v : View) (k : OnDrives p r g v) (m : ℕ) (c : Choice (parOf p r) (g .un) m) where
   abbrev G : ℕ → Segment
   G z = segmentOf p v (named m) z
@@ -190,7 +174,7 @@ module _ (p : Params) (r : Ranged p) (g : Ghost) (v : View) (k : OnDrives p r g 
   -- its address and stamp are those of the piece
   pub cand-value : (z s d : ℕ) → (candOf p (named m) (G z) s d .address ≡ pieceAt p r g v k m c z s d .addr) × (candOf p (named m) (G z) s d .stamp ≡ pieceAt p r g v k m c z s d .stamp)
   unfolding candOf pieceAt pieceValue valueOf
-  cand-value z s d = (ap (λ (x : Rec). x .address) (sym (rec-of p (named m) (G z) s d)), ap (λ (x : Rec). x .stamp) (sym (rec-of p (named m) (G z) s d)))
+  cand-value z s d = (ap (λ (x : Rec). x .address) (sym (piece-rec p (named m) (G z) s d)), ap (λ (x : Rec). x .stamp) (sym (piece-rec p (named m) (G z) s d)))
 
   pub cand-counted : (x : Cand) (f : From x)
       → Counted (parOf p r) (g .hd) (itemsIn p v) m (pieceAt p r g v k m c (f .z) (f .s) (f .d)) × (pieceAt p r g v k m c (f .z) (f .s) (f .d) .addr ≡ x .address)

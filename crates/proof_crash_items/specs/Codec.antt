@@ -9,7 +9,7 @@ use lib.Seq.{getD-take, getD-drop, take-at, drop-append-add}
 use Rattle.spec.specs.declared.Params.{Params}
 use Rattle.spec.specs.Bytes.{toBe, part, field, bytesOf, readField}
 use Rattle.spec.specs.Drives.{zeroSpare}
-use Rattle.spec.specs.Layout.{headerWidths, headerValues, headerFields, headerBlock, headerSerial, headerCopied, Rec, mkRec, recordFields, recordBytes, recordOf, footerBlock}
+use Rattle.spec.specs.Layout.{headerWidths, headerValues, headerFields, headerBlock, Rec, mkRec, recordFields, recordBytes, recordOf, footerBlock}
 use Rattle.spec.specs.Lists.{flat, total, padTo, zipped}
 use Rattle.spec.specs.Params.{recordWidths, spareLen, perFooter}
 use Rattle.law_basic.specs.Be.{length-toBe}
@@ -57,10 +57,6 @@ record-bytes r w = λ j. mkRec (a j) (t j) (s j)
     s : readField recordWidths 2 (fieldBytes recordWidths vs) ≡ r .stripe
     s = back 2 ∙ readField-bytesOf recordWidths vs 2 [] (omega arith) (omega arith) (w .stripe)
 
-pub length-record : (r : Rec) → length (recordBytes r) ≡ spareLen
-unfolding recordBytes recordFields spareLen recordWidths
-length-record r = length-fields (8 ∷ 8 ∷ 4 ∷ []) (r .address ∷ r .stamp ∷ r .stripe ∷ []) refl
-
 pub length-zeroSpare : length zeroSpare ≡ spareLen
 unfolding zeroSpare
 length-zeroSpare = length-replicate spareLen 0
@@ -74,16 +70,6 @@ module _ (p : Params) (d z serial copied : ℕ) where
   pub length-header : 64 ≤ p .B → length (headerBlock p d z serial copied) ≡ p .B
   unfolding headerBlock headerFields headerValues headerWidths total
   length-header h = length-padTo (p .B) (fieldBytes headerWidths (headerValues p d z serial copied)) (omega (arith, length-fields headerWidths (headerValues p d z serial copied) refl))
-
-  pub header-serial : serial < 256 ^ 8 → headerSerial (headerBlock p d z serial copied) ≡ serial
-  unfolding headerSerial headerBlock headerFields headerValues headerWidths padTo
-  header-serial l = readField-bytesOf headerWidths (headerValues p d z serial copied) 9
-      (replicate (p .B - length (fieldBytes headerWidths (headerValues p d z serial copied))) 0) (omega arith) (omega arith) l
-
-  pub header-copied : copied < 256 ^ 8 → headerCopied (headerBlock p d z serial copied) ≡ copied
-  unfolding headerCopied headerBlock headerFields headerValues headerWidths padTo
-  header-copied l = readField-bytesOf headerWidths (headerValues p d z serial copied) 10
-      (replicate (p .B - length (fieldBytes headerWidths (headerValues p d z serial copied))) 0) (omega arith) (omega arith) l
 
 -- ---- footers
 

@@ -15,13 +15,13 @@ use Rattle.spec.specs.Drives.Store.{put, reset}
 use Rattle.spec.specs.Layout.{headerSerial, headerCopied, Rec, recordOf}
 use Rattle.spec.specs.Params.{capacity}
 use Rattle.law_views.specs.Views.{Fits, AllFit}
+use Rattle.law_drives.specs.Tests.{cond-true, cond-false}
 use Rattle.proof_crash_machine.specs.Exec.{low}
 use Rattle.proof_crash_machine.specs.Facts.{Off}
 use Rattle.proof_crash_machine.specs.Val.{Val}
 use Rattle.proof_crash_machine.specs.View.{Item, View as m-View, Store as m-Store, upd, upd-elim, after, cleared as m-cleared, apply, applyAll, chunk-val, chunk-num, chunk-hdr, chunk-foot}
 use Rattle.proof_crash_machine.specs.View.Item.{hdr, chunk, foot}
 use Rattle.proof_crash_machine.specs.View.Store.{put as m-put, reset as m-reset}
-use Rattle.proof_crash_items.specs.Member.{cond-true, cond-false}
 use Rattle.proof_crash_items.specs.Shape.{Shape, zone-set, zone-set-other, shape-store, fit-take}
 
 -- ---- what a block is, by its offset

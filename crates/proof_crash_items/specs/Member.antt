@@ -1,13 +1,14 @@
 -- Tests over a list, and membership in it: both directions. Assumes nothing.
 use mathlib.Core.Path.{_≡_, refl, sym, ap, ap₂, _∙_, subst}
 use mathlib.Core.List.{List, [], _∷_, _++_, map}
-use mathlib.Core.Bool.{Bool, true, false, cond, not, _&&_, _||_}
+use mathlib.Core.Bool.{Bool, true, false, not, _&&_, _||_}
 use mathlib.Core.Logic.{_⊎_, inl, inr, ⊎-elim}
 use Prim.Native.Nat.{ℕ, zero, suc, _+_, max, _≤_, _<_}
 use native.Mathlib.Decide.{decLe, ℕ-discrete}
 use native.Mathlib.Omega.{arith}
 use lib.ListN.{length, getD}
 use Rattle.spec.specs.Lists.{upFrom, below, all, any, consIf, keep, isNil, flat, greatest, firstOr}
+use Rattle.law_drives.specs.Tests.{clash, not-so}
 use Rattle.proof_crash_machine.specs.Exec.{true≢false, and-1, and-2, both, or-cases, or-1, or-2}
 
 abbrev pub Has : {A : Type 0} → A → List A → Type 0
@@ -16,30 +17,11 @@ Has a (b ∷ l) = (a ≡ b) ⊎ Has a l
 
 -- ---- tests
 
-pub true-false : {A : Type 0} (b : Bool) → b ≡ true → b ≡ false → A
-true-false b p q = true≢false (sym q ∙ p)
-
-pub cond-true : {A : Type 0} (b : Bool) (x y : A) → b ≡ true → cond b x y ≡ x
-cond-true true x y e = refl
-cond-true false x y e = true≢false e
-
-pub cond-false : {A : Type 0} (b : Bool) (x y : A) → b ≡ false → cond b x y ≡ y
-cond-false false x y e = refl
-cond-false true x y e = true≢false (sym e)
-
-pub false-of : (b : Bool) → (b ≡ true → ⊥) → b ≡ false
-false-of true h = absurd (h refl)
-false-of false h = refl
-
 pub or-false : (a b : Bool) → a ≡ false → b ≡ false → (a || b) ≡ false
 or-false a b p q = ap₂ _||_ p q
 
 pub and-false-1 : (a b : Bool) → a ≡ false → (a && b) ≡ false
 and-false-1 a b p = ap (λ (x : Bool). x && b) p
-
-pub and-false-2 : (a b : Bool) → b ≡ false → (a && b) ≡ false
-and-false-2 true b p = p
-and-false-2 false b p = refl
 
 pub not-of-true : (b : Bool) → b ≡ true → not b ≡ false
 not-of-true b e = ap not e
@@ -140,7 +122,7 @@ none-any f [] h = refl
 none-any f (b ∷ l) h = or-false (f b) (any f l) (h b (inl refl)) (none-any f l (λ a m. h a (inr m)))
 
 pub any-false : {A : Type 0} (f : A → Bool) (l : List A) → any f l ≡ false → (a : A) → Has a l → f a ≡ false
-any-false f l e a m = false-of (f a) (λ t. true-false (any f l) (has-any f l a m t) e)
+any-false f l e a m = not-so (f a) (λ t. clash (has-any f l a m t) e)
 
 pub flat-has : {A B : Type 0} (f : A → List B) (b : B) (l : List A) → Has b (flat f l) → (a : A) × Has a l × Has b (f a)
 unfolding flat
@@ -173,11 +155,6 @@ pub has-getD : {A : Type 0} (l : List A) (a d : A) → Has a l → (k : ℕ) × 
 has-getD [] a d m = absurd m
 has-getD (b ∷ l) a d (inl e) = (0, omega arith, sym e)
 has-getD (b ∷ l) a d (inr m) = let r : (k : ℕ) × (k < length l) × (getD l k d ≡ a) = has-getD l a d m in (suc (r .0), omega (arith, r .1), r .2)
-
-pub isNil-nil : {A : Type 0} (l : List A) → isNil l ≡ true → l ≡ []
-unfolding isNil
-isNil-nil [] e = refl
-isNil-nil (a ∷ l) e = true≢false e
 
 pub isNil-has : {A : Type 0} (l : List A) (a : A) → Has a l → isNil l ≡ false
 unfolding isNil

@@ -98,10 +98,6 @@ module _ (p : Params) (h : Ranged p) (m : ℕ) where
   unfolding drivesOf
   has-drives d l = has-below d (p .N) l
 
-  pub drives-has : (d : ℕ) → Has d (drivesOf p) → d < p .N
-  unfolding drivesOf
-  drives-has d k = below-has d (p .N) k
-
   -- tests over the present drives
   pub all-present : (f : ℕ → Bool) → all f (present p (named m)) ≡ true → (d : ℕ) → d < p .N → d ≢ m → f d ≡ true
   all-present f e d l n = all-has f (present p (named m)) e d (has-present d l n)

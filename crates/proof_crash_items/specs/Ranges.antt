@@ -1,26 +1,14 @@
 -- Parameters in range, as facts; and the machine's parameters from them. Assumes nothing.
-use mathlib.Core.Path.{_≡_}
-use Prim.Native.Nat.{ℕ, _+_, _-_, _*_, _/_, _%_, _^_, _<_}
-use native.Mathlib.Nat.{mod-lt, div-add-mod', div-lt-iff-lt-mul}
+use Prim.Native.Nat.{ℕ, _+_, _^_, _<_}
 use native.Mathlib.Omega.{arith}
 use Rattle.spec.specs.declared.Params.{Params}
 use Rattle.spec.specs.Calls.Check.{zones}
 use Rattle.spec.specs.Layout.{parityDrive, group}
-use Rattle.spec.specs.Params.{perFooter, footers, capacity}
-use Rattle.law_basic.specs.Geometry.{Ranged, per-footer-low, footers-low, capacity-high}
+use Rattle.spec.specs.Params.{capacity}
+use Rattle.law_basic.specs.Geometry.{Ranged, footers-low, capacity-high}
 use Rattle.proof_crash_machine.specs.Facts.{Par}
 
 module _ (p : Params) (h : Ranged p) where
-  -- every data offset has its footer block
-  pub footer-of : (o : ℕ) → o < p .S → o / perFooter p < footers p
-  unfolding footers
-  footer-of o l =
-      let m : 0 < perFooter p = omega (arith, per-footer-low p h) in
-      let x : ℕ = p .S + perFooter p - 1 in
-      let e : x / perFooter p * perFooter p + x % perFooter p ≡ x = div-add-mod' x (perFooter p) in
-      let r : x % perFooter p < perFooter p = mod-lt x m in
-      div-lt-iff-lt-mul m .1 (omega (arith, e, r, l))
-
   pub capacity-few : 1 + p .S < capacity p
   unfolding capacity
   capacity-few = omega (arith, footers-low p h)

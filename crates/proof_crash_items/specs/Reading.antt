@@ -11,7 +11,6 @@ use native.Mathlib.Omega.{arith}
 use lib.Dec.{leb, eqb}
 use lib.ListN.{length, getD, replicate, length-replicate}
 use Rattle.spec.specs.declared.Params.{Params}
-use Rattle.spec.specs.declared.State.{State}
 use Rattle.spec.specs.declared.Answer.{Answer}
 use Rattle.spec.specs.declared.Answer.the-variants.{Filled}
 use Rattle.spec.specs.Answers.{kind}
@@ -34,24 +33,26 @@ use Rattle.spec.specs.Read.{placeFaults, Found, lookup, foundFaults, shown, dec
 use Rattle.spec.specs.Read.Found.{nowhere, here, away}
 use Rattle.spec.specs.Segments.{Segment, segmentOf, segments, offsetOn, hasChunk, counts, storedPiece, pieceOf, offsetOf, candOf, candidates, addressTable, compactTable}
 use Rattle.law_basic.specs.Geometry.{between-of, Ranged, capacity-high, zones-all, addresses-all, place-block, place-zone, place-drive, place-lt}
-use Rattle.law_basic.specs.Ranges.{and-both}
+use Rattle.law_basic.specs.Ranges.{and-both, and-false}
 use Rattle.law_basic.specs.Xor.{length-parity}
 use Rattle.law_views.specs.Views.{Whole, seen}
+use Rattle.law_calls.specs.Refusals.{state-fine}
+use Rattle.law_drives.specs.Tables.{place-at}
+use Rattle.law_drives.specs.Tests.{cond-true, cond-false}
 use Rattle.proof_crash_machine.specs.Exec.{true≢false, found}
 use Rattle.proof_crash_machine.specs.Facts.{Ghost, InV, Choice, Counted}
 use Rattle.proof_crash_machine.specs.History.{at}
 use Rattle.proof_crash_machine.specs.History.Step.{missing}
 use Rattle.proof_crash_machine.specs.Reset.{same}
-use Rattle.proof_crash_machine.specs.Rewrite.{st}
 use Rattle.proof_crash_machine.specs.Val.{Val, pads}
 use Rattle.proof_crash_items.specs.Cands.{stampOf, stamp-some, stamp-none, candsSeen, From, cand-counted, stampRead, winner}
 use Rattle.proof_crash_items.specs.Items.{valueOf, itemsIn}
-use Rattle.proof_crash_items.specs.Member.{Has, cond-true, cond-false, or-false, and-false-1, and-false-2, none-any, map-has}
+use Rattle.proof_crash_items.specs.Member.{Has, or-false, and-false-1, none-any, map-has}
 use Rattle.proof_crash_items.specs.Named.{is-named, not-named, present-has}
 use Rattle.proof_crash_items.specs.Ranges.{capacity-few, parOf}
 use Rattle.proof_crash_items.specs.Segs.{OnDrives, remaining-has}
 use Rattle.proof_crash_items.specs.Stripes.{stored-below, pointer-is, offset-on, stored-piece, stored-long, counted-has, pieceAt, piece-here, piece-lost}
-use Rattle.proof_crash_items.specs.Table.{address-entry, shown-first, shown-some}
+use Rattle.proof_crash_items.specs.Table.{shown-first, shown-some}
 use Rattle.proof_crash_items.specs.Values.{pieceValue, blocks-of-long, pieces-long}
 
 -- memory whose tables are what the drives say, m missing
@@ -62,10 +63,6 @@ pub record Tabled (p : Params) (v : View) (m : ℕ) (mem : Memory) : Type 0 wher
   pub ok : stateOk p (mem .state) ≡ true
 
 -- ---- the calls, where nothing is wrong
-
-no-faults : (p : Params) (st : State) → stateOk p st ≡ true → stateFaults p st ≡ []
-unfolding stateFaults consIf
-no-faults p st e = ap (λ (b : Bool). consIf (not b) 0 []) e
 
 module _ (p : Params) (dk : Disk) (mem : Memory) (a : ℕ) (h₁ : inRange p ≡ true) (h₂ : lentOk p dk mem ≡ true) (h₄ : a < p .L) (h₉ : stateOk p (mem .state) ≡ true) where
   abbrev f : Found
@@ -86,7 +83,7 @@ module _ (p : Params) (dk : Disk) (mem : Memory) (a : ℕ) (h₁ : inRange p ≡
     read-call =
         ap (λ (x : Opt Answer). outcome p (storeDisk p) 0 dk mem (lentBlock (read a)) (decided x (mkPlan [] (readAnswer p f) mem [])) .answer)
         (passes (lentOk p dk mem) h₂ (zones (stateFaults p (mem .state) ++ foundFaults p (seen p dk) (mem .state .missing) f) ∷ [])
-        ∙ ap₂ (λ (x y : List ℕ). ninth (x ++ y) none) (no-faults p (mem .state) h₉) fine)
+        ∙ ap₂ (λ (x y : List ℕ). ninth (x ++ y) none) (state-fine p (mem .state) h₉) fine)
 
     module _ (decodes : decodeFaults p (seen p dk) (mem .state .missing) (mem .compact) f ≡ []) where
       pub fill-call : seenFilled (callDisk p dk mem (fill a (replicate (p .B) 0))) ≡ got (readPiece p (seen p dk) (mem .state .missing) (mem .compact) f .block)
@@ -99,7 +96,7 @@ module _ (p : Params) (dk : Disk) (mem : Memory) (a : ℕ) (h₁ : inRange p ≡
           (decided x (mkPlan [] Filled mem (readPiece p (seen p dk) (mem .state .missing) (mem .compact) f .block)))))
           (passes (lentOk p dk mem && eqb (length (replicate {A = ℕ} (p .B) 0)) (p .B)) e
           (zones (stateFaults p (mem .state) ++ foundFaults p (seen p dk) (mem .state .missing) f) ∷ zones (decodeFaults p (seen p dk) (mem .state .missing) (mem .compact) f) ∷ [])
-          ∙ ap₂ (λ (x y : List ℕ). ninth (x ++ y) (ninth (decodeFaults p (seen p dk) (mem .state .missing) (mem .compact) f) none)) (no-faults p (mem .state) h₉) fine
+          ∙ ap₂ (λ (x y : List ℕ). ninth (x ++ y) (ninth (decodeFaults p (seen p dk) (mem .state .missing) (mem .compact) f) none)) (state-fine p (mem .state) h₉) fine
           ∙ ap (λ (y : List ℕ). ninth y none) decodes)
 
   -- never written
@@ -139,7 +136,7 @@ module _ (p : Params) (dk : Disk) (mem : Memory) (a : ℕ) (h₁ : inRange p ≡
 
 -- ---- the place of a record
 
-places-many : (p : Params) → Ranged p → p .N * p .Z * capacity p < neverPlace
+pub places-many : (p : Params) → Ranged p → p .N * p .Z * capacity p < neverPlace
 places-many p r =
     let a : p .N * p .Z ≤ 8192 = zones-all p r in
     let b : p .N * p .Z * capacity p ≤ 8192 * 87381 = mul-le-mul a (capacity-high p r) in
@@ -229,7 +226,7 @@ module _ (p : Params) (r : Ranged p) (g : Ghost) (dk : Disk) (w : Whole p dk) (k
 
         go : Dec (f .d ≡ m) → (not (isIn (named m) (f .d)) && leb (pointerAt v (f .d) (f .z)) (1 + off)) ≡ false
         go (yes e) = and-false-1 (not (isIn (named m) (f .d))) (leb (pointerAt v (f .d) (f .z)) (1 + off)) (ap not (is-named p r m (f .d) (f .drv) ∙ eq-eqb (f .d) m e))
-        go (no n) = and-false-2 (not (isIn (named m) (f .d))) (leb (pointerAt v (f .d) (f .z)) (1 + off)) (lt-leb (pointerAt v (f .d) (f .z)) (1 + off)
+        go (no n) = and-false (not (isIn (named m) (f .d))) (leb (pointerAt v (f .d) (f .z)) (1 + off)) (lt-leb (pointerAt v (f .d) (f .z)) (1 + off)
             (omega (
               arith,
               off-here n,
@@ -315,7 +312,7 @@ module _ (p : Params) (r : Ranged p) (g : Ghost) (dk : Disk) (w : Whole p dk) (k
       where
         entry : placeAt (mem .addresses) a ≡ x .place
         entry = ap (λ (tb : List ℕ). placeAt tb a) (t .addresses)
-            ∙ address-entry p cands a l (subst (λ (y : Opt Cand). placeOr y < 256 ^ 4) (sym e) (unfold placeOr in omega (arith, place-low)))
+            ∙ place-at p cands a l (subst (λ (y : Opt Cand). placeOr y < 256 ^ 4) (sym e) (unfold placeOr in omega (arith, place-low)))
             ∙ (unfold placeOr in ap placeOr e)
 
         found : (b : Bool) → isIn (named m) (f .d) ≡ b → lookup p (mem .state .missing) (mem .addresses) a ≡ cond b (away (x .place)) (here (x .place))
@@ -340,7 +337,7 @@ module _ (p : Params) (r : Ranged p) (g : Ghost) (dk : Disk) (w : Whole p dk) (k
     where
       entry : placeAt (mem .addresses) a ≡ neverPlace
       entry = ap (λ (tb : List ℕ). placeAt tb a) (t .addresses)
-          ∙ address-entry p cands a l (subst (λ (y : Opt Cand). placeOr y < 256 ^ 4) (sym e) (unfold placeOr in omega arith))
+          ∙ place-at p cands a l (subst (λ (y : Opt Cand). placeOr y < 256 ^ 4) (sym e) (unfold placeOr in omega arith))
           ∙ (unfold placeOr in ap placeOr e)
 
       found : lookup p (mem .state .missing) (mem .addresses) a ≡ nowhere

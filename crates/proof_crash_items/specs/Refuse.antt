@@ -24,7 +24,11 @@ use Rattle.spec.specs.Params.{inRange, footers, capacity, named, present, absen
 use Rattle.spec.specs.Restart.{freeZones, namesDrive, rewrites, restartChecks}
 use Rattle.spec.specs.Segments.{lowDrive, headerAt, leftBy1, isCopy, remaining, Segment, segmentOf, segments, recsOn, counted, pieceOf, recOf, greatestSerial, unsealed}
 use Rattle.law_basic.specs.Geometry.{Ranged, addresses-all}
-use Rattle.law_basic.specs.Ranges.{and-both, length-upFrom, getD-upFrom, getD-map, sameList-refl}
+use Rattle.law_basic.specs.Ranges.{and-both, length-upFrom, getD-upFrom, getD-map, sameList-refl, and-false}
+use Rattle.law_drives.specs.Accept.{outside-none}
+use Rattle.law_drives.specs.Records.{blocks-at}
+use Rattle.law_drives.specs.Segs.{piece-rec}
+use Rattle.law_drives.specs.Tests.{not-so}
 use Rattle.proof_crash_machine.specs.Accept.{accepted}
 use Rattle.proof_crash_machine.specs.Facts.{Ghost, InV, Good, Choice, R, Off}
 use Rattle.proof_crash_machine.specs.Final.{right}
@@ -34,10 +38,8 @@ use Rattle.proof_crash_machine.specs.Reset.{gone}
 use Rattle.proof_crash_machine.specs.Val.{Val, pads}
 use Rattle.proof_crash_machine.specs.View.{Item}
 use Rattle.proof_crash_machine.specs.View.Item.{chunk}
-use Rattle.proof_crash_items.specs.Cands.{rec-of}
 use Rattle.proof_crash_items.specs.Items.{valueOf, chunkItem, itemsIn, items-in, chunk-of}
-use Rattle.proof_crash_items.specs.Member.{Has, false-of, or-false, and-false-1, and-false-2, keep-has, has-keep, keep-nil, upFrom-has, below-has}
-use Rattle.proof_crash_items.specs.Member.{has-below, none-any, map-has, has-getD, isNil-has}
+use Rattle.proof_crash_items.specs.Member.{Has, or-false, and-false-1, keep-has, has-keep, keep-nil, upFrom-has, below-has, has-below, none-any, map-has, has-getD, isNil-has}
 use Rattle.proof_crash_items.specs.Named.{has-absent, none-present}
 use Rattle.proof_crash_items.specs.Ranges.{parOf}
 use Rattle.proof_crash_items.specs.SegFacts.{segment-fields, seg-low, seg-R, begun-on, serial-is, copied-is, seg-used, ragged-of}
@@ -45,7 +47,7 @@ use Rattle.proof_crash_items.specs.Segs.{OnDrives, zone-bytes, zone-low,
 use Rattle.proof_crash_items.specs.Shape.{ZoneShape, shape-zone}
 use Rattle.proof_crash_items.specs.Stripes.{spareRecs, length-spareRecs, getD-spareRecs, stored-below, pointer-is, zones-by, recs-on, pieceAt, counted-stripe}
 use Rattle.proof_crash_items.specs.Values.{pieceValue}
-use Rattle.proof_crash_items.specs.ZoneBytes.{sparesIn, blockIn, ZoneBytes, getD-blocks}
+use Rattle.proof_crash_items.specs.ZoneBytes.{sparesIn, blockIn, ZoneBytes}
 
 -- ---- rising lists
 
@@ -84,7 +86,7 @@ few f [] h e = omega arith
 few f (a ∷ l) h e = go (f a) refl (few f l (h .1) (λ x y i j. e x y (inr i) (inr j)))
   where
     go : (b : Bool) → f a ≡ b → length (keep f l) ≤ 1 → length (consIf b a (keep f l)) ≤ 1
-    go true q ih = unfold consIf in (let n : keep f l ≡ [] = keep-nil f l (λ x i. false-of (f x) (λ t. let w : a ≡ x = e a x (inl refl) (inr i) q t in let j : ⊥ = omega (arith, w, h .0 x i) in j)) in
+    go true q ih = unfold consIf in (let n : keep f l ≡ [] = keep-nil f l (λ x i. not-so (f x) (λ t. let w : a ≡ x = e a x (inl refl) (inr i) q t in let j : ⊥ = omega (arith, w, h .0 x i) in j)) in
         let z : length (keep f l) ≡ 0 = ap length n in omega arith)
     go false q ih = unfold consIf in ih
 
@@ -98,14 +100,6 @@ keep-map {A} {B} f h (a ∷ l) = go (f (h a)) (keep-map f h l)
     go false e = unfold consIf in e
 
 -- ---- records by offset
-
-outside-none : (p : Params) (i : ℕ) (rs : List Rec) → ((k : ℕ) → k < length rs → inGroupOf p (i + k) (getD rs k (mkRec 0 0 0) .stripe) ≡ true) → outside p i rs ≡ false
-unfolding outside
-outside-none p i [] h = refl
-outside-none p i (x ∷ rs) h =
-    or-false (not (inGroupOf p i (x .stripe))) (outside p (suc i) rs)
-    (ap not (ap (λ (n : ℕ). inGroupOf p n (x .stripe)) (let e : i ≡ i + 0 = omega arith in e) ∙ h 0 (omega arith)))
-    (outside-none p (suc i) rs (λ k l. ap (λ (n : ℕ). inGroupOf p n (getD rs k (mkRec 0 0 0) .stripe)) (let e : suc i + k ≡ i + suc k = omega arith in e) ∙ h (suc k) (omega arith)))
 
 twice-none : (rs : List Rec) → ((j k : ℕ) → j < length rs → k < length rs → getD rs j (mkRec 0 0 0) .stripe ≡ getD rs k (mkRec 0 0 0) .stripe → j ≡ k) → twice rs ≡ false
 unfolding twice
@@ -145,7 +139,7 @@ footers-made p r d z q s f = ap not (same-blocks (blocksOf (take (footersStored 
 
     each : (j : ℕ) → j < n → getD (blocksOf (take n (drop (1 + p .S) (q .blocks)))) j [] ≡ getD (footersOf p q 0 n) j []
     each j l =
-        getD-blocks (take n (drop (1 + p .S) (q .blocks))) j
+        blocks-at (take n (drop (1 + p .S) (q .blocks))) j
         ∙ ap (λ (c : Chunk). c .block) (getD-take n (drop (1 + p .S) (q .blocks)) j noChunk l ∙ getD-drop (1 + p .S) (q .blocks) j noChunk
         ∙ ap (λ (i : ℕ). getD (q .blocks) i noChunk) (let e : 1 + p .S + j ≡ suc (p .S + j) = omega arith in e) ∙ f .feet j (few-footers .1 j l))
         ∙ sym right
@@ -261,7 +255,7 @@ module _ (p : Params) (r : Ranged p) (g : Ghost) (v : View) (k : OnDrives p r g 
     good-rec b x (inl e) =
         let a : x .address ≡ paddingAddress = pads-address b x e in
         or-false (leb (p .L) (x .address) && not (eqb (x .address) paddingAddress)) (ltb (x .address) (p .L) && eqb (x .stamp) 0)
-        (and-false-2 (leb (p .L) (x .address)) (not (eqb (x .address) paddingAddress)) (ap not (eq-eqb (x .address) paddingAddress a)))
+        (and-false (leb (p .L) (x .address)) (not (eqb (x .address) paddingAddress)) (ap not (eq-eqb (x .address) paddingAddress a)))
         (and-false-1 (ltb (x .address) (p .L)) (eqb (x .stamp) 0) (le-ltb (x .address) (p .L) (omega (arith, a, addresses-all p r))))
       where
         pads-address : (b : List ℕ) (x : Rec) → valueOf b x ≡ pads → x .address ≡ paddingAddress
@@ -270,7 +264,7 @@ module _ (p : Params) (r : Ranged p) (g : Ghost) (v : View) (k : OnDrives p r g 
         let w : (0 < valueOf b x .stamp) × (valueOf b x .addr < p .L) = known (valueOf b x) i in
         or-false (leb (p .L) (x .address) && not (eqb (x .address) paddingAddress)) (ltb (x .address) (p .L) && eqb (x .stamp) 0)
         (and-false-1 (leb (p .L) (x .address)) (not (eqb (x .address) paddingAddress)) (lt-leb (p .L) (x .address) (addr-is b x (w .1))))
-        (and-false-2 (ltb (x .address) (p .L)) (eqb (x .stamp) 0) (ne-eqb (x .stamp) 0 (λ e. let j : ⊥ = omega (arith, e, stamp-is b x (w .0)) in j)))
+        (and-false (ltb (x .address) (p .L)) (eqb (x .stamp) 0) (ne-eqb (x .stamp) 0 (λ e. let j : ⊥ = omega (arith, e, stamp-is b x (w .0)) in j)))
       where
         addr-is : (b : List ℕ) (x : Rec) → valueOf b x .addr < p .L → x .address < p .L
         addr-is b x l = unfold valueOf in l
@@ -297,7 +291,7 @@ module _ (p : Params) (r : Ranged p) (g : Ghost) (v : View) (k : OnDrives p r g 
           where
             case : (t : Bool) → isData p (x .stripe) d ≡ t → Off (itemsIn p v d z) (suc j) (chunk (x .stripe) (valueOf (blockIn (zoneAt v d z) (suc j) .block) x)) → storedBad p d x ≡ false
             case false e f = unfold storedBad in and-false-1 (isData p (x .stripe) d) (badRec p x) e
-            case true e f = unfold storedBad in and-false-2 (isData p (x .stripe) d) (badRec p x) (good-rec (blockIn (zoneAt v d z) (suc j) .block) x
+            case true e f = unfold storedBad in and-false (isData p (x .stripe) d) (badRec p x) (good-rec (blockIn (zoneAt v d z) (suc j) .block) x
                 (zone-facts p r g v k d z l (trusted p r g v k m c d l n) .origin (x .stripe) (valueOf (blockIn (zoneAt v d z) (suc j) .block) x)
                 (off-in (itemsIn p v d z) (suc j) (chunk (x .stripe) (valueOf (blockIn (zoneAt v d z) (suc j) .block) x)) f) (data-drive (x .stripe) d e)))
 
@@ -307,8 +301,8 @@ module _ (p : Params) (r : Ranged p) (g : Ghost) (v : View) (k : OnDrives p r g 
       where
         one : (d : ℕ) → d < p .N → (s : ℕ) → Has s (counted p (named m) (G z)) → (t : Bool) → isData p s d ≡ t → decodedBad p (named m) (G z) d s ≡ false
         one d l s i false e = unfold decodedBad in and-false-1 (isData p s d) (badRec p (recOf p (named m) (G z) s d)) e
-        one d l s i true e = unfold decodedBad in and-false-2 (isData p s d) (badRec p (recOf p (named m) (G z) s d)) (
-            subst (λ (x : Rec). badRec p x ≡ false) (rec-of p (named m) (G z) s d) (good-rec (pieceOf p (named m) (G z) s d .block) (pieceOf p (named m) (G z) s d .rec) (good d l s i e)))
+        one d l s i true e = unfold decodedBad in and-false (isData p s d) (badRec p (recOf p (named m) (G z) s d)) (
+            subst (λ (x : Rec). badRec p x ≡ false) (piece-rec p (named m) (G z) s d) (good-rec (pieceOf p (named m) (G z) s d .block) (pieceOf p (named m) (G z) s d .rec) (good d l s i e)))
           where
             good : (d : ℕ) → d < p .N → (s : ℕ) → Has s (counted p (named m) (G z)) → isData p s d ≡ true → Good g (valueOf (pieceOf p (named m) (G z) s d .block) (pieceOf p (named m) (G z) s d .rec))
             good d l s i e = unfold pieceAt pieceValue in k .facts .parity .sound m c z s (pieceAt p r g v k m c z s) (counted-stripe p r g v k m c z s b i) (pieceAt p r g v k m c z s d)
@@ -323,7 +317,7 @@ module _ (p : Params) (r : Ranged p) (g : Ghost) (v : View) (k : OnDrives p r g 
     -- ---- footers
     footers-fine : footerFault p (named m) (G z) ≡ false
     unfolding footerFault
-    footers-fine = and-false-2 (not (G z .full)) (any (λ d. footerFaultIn p (getD (G z .zonesBy) d noZone)) (present p (named m)))
+    footers-fine = and-false (not (G z .full)) (any (λ d. footerFaultIn p (getD (G z .zonesBy) d noZone)) (present p (named m)))
         (none-present p r m (λ d. footerFaultIn p (getD (G z .zonesBy) d noZone)) (λ d l n.
         ap (footerFaultIn p) (zones-by p r g v k m c z d l)
         ∙ footers-made p r d z (zoneAt v d z) (shape-zone p v (k .shape) d z l b) (zone-bytes p r g v k d z l (trusted p r g v k m c d l n) b)))
@@ -345,7 +339,7 @@ module _ (p : Params) (r : Ranged p) (g : Ghost) (v : View) (k : OnDrives p r g 
           go (yes q) =
               and-false-1 (not (eqb (G y .seg) (G z .seg))) (eqb (G y .serial) (G z .serial))
               (ap not (eq-eqb (G y .seg) (G z .seg) (segment-fields p r g v k m c y .0 ∙ q ∙ sym (segment-fields p r g v k m c z .0))))
-          go (no q) = and-false-2 (not (eqb (G y .seg) (G z .seg))) (eqb (G y .serial) (G z .serial)) (ne-eqb (G y .serial) (G z .serial) (λ w.
+          go (no q) = and-false (not (eqb (G y .seg) (G z .seg))) (eqb (G y .serial) (G z .serial)) (ne-eqb (G y .serial) (G z .serial) (λ w.
               q (k .facts .swap .serials y z (seg-used p r g v k m c y j) (seg-used p r g v k m c z i) (sym (serial-is p r g v k m c y j) ∙ w ∙ serial-is p r g v k m c z i))))
 
   -- ---- one unsealed segment
@@ -374,7 +368,7 @@ module _ (p : Params) (r : Ranged p) (g : Ghost) (v : View) (k : OnDrives p r g 
       || stripeFault p (named m) (G z)
       || addressFault p (named m) (G z)
       || footerFault p (named m) (G z)) (not (G z .full) && leb 2 (length (unsealed gs))) h₄
-      (and-false-2 (not (G z .full)) (leb 2 (length (unsealed gs))) (lt-leb 2 (length (unsealed gs)) (omega (arith, one-unsealed))))
+      (and-false (not (G z .full)) (leb 2 (length (unsealed gs))) (lt-leb 2 (length (unsealed gs)) (omega (arith, one-unsealed))))
 
   segments-fine : segmentFaults p (named m) (segments p v (named m)) ≡ []
   unfolding segmentFaults
@@ -417,7 +411,7 @@ module _ (p : Params) (r : Ranged p) (g : Ghost) (v : View) (k : OnDrives p r g 
       let gs : List Segment = segments p v (named m) in
       let a₁ : (not (inRange p) || not (namesDrive p m)) ≡ false = or-false (not (inRange p)) (not (namesDrive p m)) (ap not h₁) (ap not h₂) in
       let a₂ : not long ≡ false = ap not h₃ in
-      let a₈ : (rewrites p (named m) gs && isNil (freeZones p gs)) ≡ false = and-false-2 (rewrites p (named m) gs) (isNil (freeZones p gs)) free-zone in
+      let a₈ : (rewrites p (named m) gs && isNil (freeZones p gs)) ≡ false = and-false (rewrites p (named m) gs) (isNil (freeZones p gs)) free-zone in
       ap₂ (λ (x y : Bool). ruled 1 x (ruled 2 y (firstRefusal
       (imageChecks p v (named m) gs ++ (rule 6 (rewrites p (named m) gs && eqb (greatestSerial gs) lastCount) ∷ rule 8
       (rewrites p (named m) gs && isNil (freeZones p gs)) ∷ []))))) a₁ a₂

@@ -1,91 +1,50 @@
 -- The memory that a restart leaves: its tables, and a state with nothing in flight whose numbers are in range. Assumes nothing.
-use mathlib.Core.Path.{_≡_, refl, sym, ap, ap₂, _∙_, subst}
+use mathlib.Core.Path.{_≡_, refl, sym, ap, _∙_, subst}
 use mathlib.Core.List.{List, [], _∷_}
 use mathlib.Core.Bool.{Bool, true, false, cond, not, _&&_}
 use mathlib.Core.Logic.{_⊎_, inl, inr, ⊎-elim}
-use Prim.Native.Nat.{ℕ, zero, suc, _^_, _≤_, _<_}
+use Prim.Native.Nat.{ℕ, _^_, _≤_, _<_}
 use native.Mathlib.Decide.{decLt}
-use borrow.Author.Tests.{le-leb, lt-ltb, eq-eqb, leb-true, ltb-true, eqb-true}
+use borrow.Author.Tests.{eq-eqb, leb-true, ltb-true, eqb-true}
 use native.Mathlib.Omega.{arith}
 use lib.Dec.{leb, ltb, eqb}
-use lib.ListN.{length, getD, replicate, length-replicate, List·getD-eq-default, getD-replicate}
+use lib.ListN.{length}
 use lib.Count.{ones, onesIn}
 use lib.Pow.{pow-lt, pow-pos}
 use Rattle.spec.specs.declared.Params.{Params}
 use Rattle.spec.specs.Drives.{View, Disk}
 use Rattle.spec.specs.Engine.{lentOk}
-use Rattle.spec.specs.Lists.{below, all, keep, powers, only}
-use Rattle.spec.specs.Memory.{slots, idleState, stripeIn, filledIn, landedIn, slotOk, stateOk}
-use Rattle.spec.specs.Params.{dataCount, imageLen, pointersLen, addressesLen, compactLen, inflightLen, noDrive, named}
+use Rattle.spec.specs.Lists.{below, keep, powers, only}
+use Rattle.spec.specs.Memory.{idleState, filledIn}
+use Rattle.spec.specs.Params.{imageLen, pointersLen, addressesLen, compactLen, inflightLen, noDrive, named}
 use Rattle.spec.specs.Restart.{openOf, nextOf, restartMemory, namesDrive}
 use Rattle.spec.specs.Segments.{remaining, Segment, segmentOf, segments, counts, counted, candidates, addressTable, compactTable, greatestStamp, greatestSerial, unsealed}
 use Rattle.law_basic.specs.Geometry.{Ranged}
 use Rattle.law_basic.specs.Mask.{only-pow}
 use Rattle.law_basic.specs.Ranges.{and-both, length-below, length-keep}
 use Rattle.law_views.specs.Views.{Whole}
+use Rattle.law_drives.specs.States.{idle-ok}
+use Rattle.law_drives.specs.Tables.{zero-at, length-addresses}
 use Rattle.proof_crash_machine.specs.Exec.{or-cases, allB, all-true}
 use Rattle.proof_crash_machine.specs.Facts.{Ghost, Choice}
 use Rattle.proof_crash_machine.specs.History.Step.{missing}
 use Rattle.proof_crash_machine.specs.OpenSeg.{opened}
 use Rattle.proof_crash_machine.specs.Reset.{gone}
-use Rattle.proof_crash_items.specs.Member.{Has, keep-has, has-all, map-has}
+use Rattle.proof_crash_items.specs.Member.{Has, keep-has, map-has}
 use Rattle.proof_crash_items.specs.Named.{named-none}
 use Rattle.proof_crash_items.specs.Ranges.{parOf}
 use Rattle.proof_crash_items.specs.Reading.{Tabled}
 use Rattle.proof_crash_items.specs.Segs.{OnDrives, remaining-has}
-use Rattle.proof_crash_items.specs.Table.{length-addresses, length-compact}
+use Rattle.proof_crash_items.specs.Table.{length-compact}
 
 -- ---- an idle state
 
-zeros-at : (n i : ℕ) → _≡_ {A = ℕ} (getD (replicate n 0) i 0) 0
-zeros-at n i = go (decLt i n)
-  where
-    go : Dec (i < n) → _≡_ {A = ℕ} (getD (replicate n 0) i 0) 0
-    go (yes l) = getD-replicate n i 0 0 l
-    go (no l) = List·getD-eq-default (replicate n 0) 0 {n = i} (omega (arith, length-replicate {A = ℕ} n 0))
-
 pub idle-filled : (live gone stamp serial opened next i : ℕ) → filledIn (idleState live gone stamp serial opened next) i ≡ 0
 unfolding filledIn idleState
-idle-filled live gone stamp serial opened next i = zeros-at 8 i
+idle-filled live gone stamp serial opened next i = zero-at 8 i
 
 two-pow : (k : ℕ) → 0 < 2 ^ k
 two-pow k = pow-pos k
-
-idle-slot : (p : Params) → Ranged p → (live gone stamp serial opened next i : ℕ) → slotOk p (idleState live gone stamp serial opened next) i ≡ true
-unfolding slotOk idleState stripeIn filledIn landedIn
-idle-slot p r live gone stamp serial opened next i =
-    ap₂ (λ (a b : ℕ). ltb a (p .S) && leb b (dataCount p) && ltb b (2 ^ dataCount p) && ltb b (2 ^ p .N)) (zeros-at 8 i) (zeros-at 8 i)
-    ∙ and-both (ltb 0 (p .S) && leb 0 (dataCount p) && ltb 0 (2 ^ dataCount p)) (ltb 0 (2 ^ p .N))
-    (and-both (ltb 0 (p .S) && leb 0 (dataCount p)) (ltb 0 (2 ^ dataCount p))
-    (and-both (ltb 0 (p .S)) (leb 0 (dataCount p)) (lt-ltb 0 (p .S) (omega (arith, r .stripes-low))) (le-leb 0 (dataCount p) (omega arith)))
-    (lt-ltb 0 (2 ^ dataCount p) (two-pow (dataCount p)))) (lt-ltb 0 (2 ^ p .N) (two-pow (p .N)))
-
-replicate-has : (n a x : ℕ) → Has x (replicate n a) → x ≡ a
-replicate-has zero a x i = absurd i
-replicate-has (suc n) a x (inl e) = e
-replicate-has (suc n) a x (inr i) = replicate-has n a x i
-
-pub idle-ok : (p : Params) → Ranged p → (gone stamp serial opened next : ℕ) → gone < 2 ^ p .N → ones gone ≤ 1 → opened ≤ p .Z → next ≤ p .S
-    → stateOk p (idleState 1 gone stamp serial opened next) ≡ true
-idle-ok p r gone stamp serial opened next h₁ h₂ h₃ h₄ =
-    go (all (slotOk p (idleState 1 gone stamp serial opened next)) slots)
-    (has-all (slotOk p (idleState 1 gone stamp serial opened next)) slots (λ i m. idle-slot p r 1 gone stamp serial opened next i))
-  where
-    go : (b : Bool) → b ≡ true → stateOk p (idleState 1 gone stamp serial opened next) ≡ true
-    go b e = unfold stateOk idleState in
-        and-both (eqb 1 1
-        && ltb gone (2 ^ p .N)
-        && leb (ones gone) 1
-        && leb opened (p .Z)
-        && leb next (p .S)
-        && all (slotOk p (idleState 1 gone stamp serial opened next)) slots) (all (λ o. ltb o (p .S)) (replicate 64 0))
-        (and-both (eqb 1 1 && ltb gone (2 ^ p .N) && leb (ones gone) 1 && leb opened (p .Z) && leb next (p .S)) (all (slotOk p (idleState 1 gone stamp serial opened next)) slots)
-        (and-both (eqb 1 1 && ltb gone (2 ^ p .N) && leb (ones gone) 1 && leb opened (p .Z)) (leb next (p .S))
-        (and-both (eqb 1 1 && ltb gone (2 ^ p .N) && leb (ones gone) 1) (leb opened (p .Z))
-        (and-both (eqb 1 1 && ltb gone (2 ^ p .N)) (leb (ones gone) 1) (and-both (eqb 1 1) (ltb gone (2 ^ p .N)) refl (lt-ltb gone (2 ^ p .N) h₁)) (le-leb (ones gone) 1 h₂))
-        (le-leb opened (p .Z) h₃)) (le-leb next (p .S) h₄))
-        (has-all (slotOk p (idleState 1 gone stamp serial opened next)) slots (λ i m. idle-slot p r 1 gone stamp serial opened next i)))
-        (has-all (λ o. ltb o (p .S)) (replicate 64 0) (λ o i. lt-ltb o (p .S) (omega (arith, replicate-has 64 0 o i, r .stripes-low))))
 
 -- ---- the drive that a restart names
 

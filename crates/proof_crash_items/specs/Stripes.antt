@@ -19,6 +19,7 @@ use Rattle.spec.specs.Parity.{Piece, mkPiece, parityPiece}
 use Rattle.spec.specs.Segments.{Segment, recordsIn, segmentOf, recsOn, offsetOn, hasChunk, counts, counted, storedPiece, pieceOf, storedRec}
 use Rattle.law_basic.specs.Geometry.{Ranged}
 use Rattle.law_basic.specs.Ranges.{length-below, map-below-same, map-map, getD-map-below}
+use Rattle.law_drives.specs.Tests.{cond-true, cond-false}
 use Rattle.proof_crash_machine.specs.Exec.{true≢false}
 use Rattle.proof_crash_machine.specs.Facts.{Ghost, Choice, Stripe, Off}
 use Rattle.proof_crash_machine.specs.History.{at}
@@ -29,7 +30,7 @@ use Rattle.proof_crash_machine.specs.Val.{Val, 𝟘, _⊕_, ⊕-self, xorN, dec
 use Rattle.proof_crash_machine.specs.View.{Item, In, in-some, chunk-hdr}
 use Rattle.proof_crash_machine.specs.View.Item.{chunk}
 use Rattle.proof_crash_items.specs.Items.{valueOf, chunkItem, itemsOf, itemsIn, items-in, of-chunk, chunk-of}
-use Rattle.proof_crash_items.specs.Member.{Has, cond-true, cond-false, keep-has, has-keep, below-has, has-below, has-any, has-map}
+use Rattle.proof_crash_items.specs.Member.{Has, keep-has, has-keep, below-has, has-below, has-any, has-map}
 use Rattle.proof_crash_items.specs.Named.{is-named, not-named, present-has, all-present, present-all}
 use Rattle.proof_crash_items.specs.Ranges.{capacity-few, parOf}
 use Rattle.proof_crash_items.specs.Segs.{OnDrives, zone-bytes, zone-low, trusted}

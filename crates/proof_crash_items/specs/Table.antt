@@ -3,35 +3,31 @@ use mathlib.Core.Path.{_≡_, refl, sym, ap, ap₂, _∙_, subst}
 use mathlib.Core.List.{List, [], _∷_, _++_, map, append-nil}
 use mathlib.Core.Bool.{true, false, cond, _&&_}
 use mathlib.Core.Logic.{inl, inr, ⊎-elim, _≢_}
-use Prim.Native.Nat.{ℕ, zero, suc, _+_, _-_, _*_, _/_, _%_, _^_, _≤_, _<_}
+use Prim.Native.Nat.{ℕ, zero, suc, _+_, _-_, _*_, _/_, _%_, _≤_, _<_}
 use native.Mathlib.Nat.{mod-lt, mul-assoc, suc-mul, zero-mul, add-mul, div-add-mod'}
 use native.Mathlib.Decide.{ℕ-discrete}
 use borrow.Author.Tests.{lt-ltb, eq-eqb, ne-eqb, ltb-true, eqb-true}
 use native.Mathlib.Omega.{arith}
 use lib.Dec.{ltb, eqb}
-use lib.ListN.{length, getD, replicate, length-append, List·getD-append, length-map}
+use lib.ListN.{length, getD, replicate, List·getD-append, length-map}
 use lib.Seq.{getD-append-add}
 use lib.Arith.{digits-div, digits-lt}
 use Rattle.spec.specs.declared.Params.{Params}
-use Rattle.spec.specs.Bytes.{beOf, toBe, part}
 use Rattle.spec.specs.Drives.{Zone, View, zoneAt, pointerAt, zoneOn, dataStored}
 use Rattle.spec.specs.Layout.{group, groupOffsets, compactEntry, Rec, mkRec, recordOf}
-use Rattle.spec.specs.Lists.Opt.{none}
 use Rattle.spec.specs.Lists.{upFrom, below, isNil, flat, firstOr, padTo}
-use Rattle.spec.specs.Memory.{placeAt, compactAt, shownAt}
-use Rattle.spec.specs.Params.{addressesLen, compactLen, named, drivesOf}
-use Rattle.spec.specs.Rank.{Cand, best, placeOr, candsOf}
-use Rattle.spec.specs.Segments.{remaining, Segment, segmentOf, segments, recsOn, offsetOn, hasChunk, addressTable, compactRow, rowOf, compactTable}
-use Rattle.law_basic.specs.Be.{length-toBe, beOf-toBe}
+use Rattle.spec.specs.Memory.{compactAt, shownAt}
+use Rattle.spec.specs.Params.{compactLen, named, drivesOf}
+use Rattle.spec.specs.Segments.{remaining, Segment, segmentOf, segments, recsOn, offsetOn, hasChunk, compactRow, rowOf, compactTable}
 use Rattle.law_basic.specs.Geometry.{Ranged}
-use Rattle.law_basic.specs.Ranges.{and-left, and-right, and-both, length-below, getD-map, getD-map-below, length-padTo}
-use Rattle.law_basic.specs.Xor.{long-map}
+use Rattle.law_basic.specs.Ranges.{and-left, and-right, and-both, getD-map, length-padTo}
+use Rattle.law_drives.specs.Tables.{long-flat}
+use Rattle.law_drives.specs.Tests.{cond-true, cond-false}
 use Rattle.proof_crash_machine.specs.Facts.{Ghost, Choice, Off}
 use Rattle.proof_crash_machine.specs.View.{Item}
 use Rattle.proof_crash_machine.specs.View.Item.{chunk}
-use Rattle.proof_crash_items.specs.Codec.{joined, part-joined}
 use Rattle.proof_crash_items.specs.Items.{valueOf, chunkItem, itemsIn, items-in, chunk-of}
-use Rattle.proof_crash_items.specs.Member.{Has, cond-true, cond-false, keep-has, has-keep, upFrom-has, has-upFrom, isNil-has, firstOr-has}
+use Rattle.proof_crash_items.specs.Member.{Has, keep-has, has-keep, upFrom-has, has-upFrom, isNil-has, firstOr-has}
 use Rattle.proof_crash_items.specs.Ranges.{parOf}
 use Rattle.proof_crash_items.specs.Refuse.{Rising, remaining-rising}
 use Rattle.proof_crash_items.specs.Segs.{OnDrives, zone-low, zone-facts, trusted, remaining-has}
@@ -39,16 +35,6 @@ use Rattle.proof_crash_items.specs.Stripes.{spareRecs, length-spareRecs,
 use Rattle.proof_crash_items.specs.ZoneBytes.{blockIn}
 
 -- ---- lists of lists of one length
-
-flat-joined : (f : ℕ → List ℕ) (l : List ℕ) → flat f l ≡ joined (map f l)
-unfolding flat
-flat-joined f [] = refl
-flat-joined f (a ∷ l) = ap (λ (x : List ℕ). f a ++ x) (flat-joined f l)
-
-pub part-flat : (f : ℕ → List ℕ) (w n k : ℕ) → ((a : ℕ) → length (f a) ≡ w) → k < n → part (w * k) w (flat f (below n)) ≡ f k
-part-flat f w n k h l =
-    ap (part (w * k) w) (flat-joined f (below n) ∙ sym (append-nil (joined (map f (below n)))))
-    ∙ part-joined w (map f (below n)) k [] (long-map w f (below n) h) (omega (arith, length-map (below n) f, length-below n, l)) ∙ getD-map-below f n k [] l
 
 getD-flat-from : (f : ℕ → List ℕ) (w i n k j : ℕ) → ((a : ℕ) → i ≤ a → a < i + n → length (f a) ≡ w) → k < n → j < w → getD (flat f (upFrom i n)) (k * w + j) 0 ≡ getD (f (i + k)) j 0
 unfolding flat upFrom
@@ -70,29 +56,6 @@ pub getD-flat : (f : ℕ → List ℕ) (w n k j : ℕ) → ((a : ℕ) → a < n 
 unfolding below
 getD-flat f w n k j h l b = getD-flat-from f w 0 n k j (λ a p q. h a (omega arith)) l b ∙ ap (λ (x : ℕ). getD (f x) j 0) (let e : 0 + k ≡ k = omega arith in e)
 
-length-flat-from : (f : ℕ → List ℕ) (w i n : ℕ) → ((a : ℕ) → i ≤ a → a < i + n → length (f a) ≡ w) → length (flat f (upFrom i n)) ≡ n * w
-unfolding flat upFrom
-length-flat-from f w i zero h = sym (zero-mul w)
-length-flat-from f w i (suc n) h =
-    length-append (f i) (flat f (upFrom (suc i) n)) ∙ ap₂ (λ (x y : ℕ). x + y) (h i (omega arith) (omega arith)) (length-flat-from f w (suc i) n (λ a p q. h a (omega arith) (omega arith)))
-    ∙ omega (arith, suc-mul n w)
-
-pub length-flat-below : (f : ℕ → List ℕ) (w n : ℕ) → ((a : ℕ) → a < n → length (f a) ≡ w) → length (flat f (below n)) ≡ n * w
-unfolding below
-length-flat-below f w n h = length-flat-from f w 0 n (λ a p q. h a (omega arith))
-
--- ---- the address table
-
-pub length-addresses : (p : Params) (cs : List Cand) → length (addressTable p cs) ≡ addressesLen p
-unfolding addressTable addressesLen
-length-addresses p cs = length-flat-below (λ a. toBe 4 (placeOr (best none (candsOf a cs)))) 4 (p .L) (λ a l. length-toBe 4 (placeOr (best none (candsOf a cs)))) ∙ omega arith
-
-pub address-entry : (p : Params) (cs : List Cand) (a : ℕ) → a < p .L → placeOr (best none (candsOf a cs)) < 256 ^ 4 → placeAt (addressTable p cs) a ≡ placeOr (best none (candsOf a cs))
-unfolding placeAt addressTable
-address-entry p cs a l b =
-    ap beOf (part-flat (λ a. toBe 4 (placeOr (best none (candsOf a cs)))) 4 (p .L) a (λ a. length-toBe 4 (placeOr (best none (candsOf a cs)))) l)
-    ∙ beOf-toBe 4 (placeOr (best none (candsOf a cs))) b
-
 -- ---- one element of a rising list
 
 flat-none-of : {A : Type 0} (h : ℕ → List A) (z : ℕ) (l : List ℕ) → (Has z l → ⊥) → flat (λ y. cond (eqb y z) (h y) []) l ≡ []
@@ -109,7 +72,7 @@ flat-one-of h z (y ∷ l) r (inl e) =
 flat-one-of h z (y ∷ l) r (inr i) =
     ap₂ _++_ (cond-false (eqb y z) (h y) [] (ne-eqb y z (λ e. let q : ⊥ = omega (arith, e, r .0 z i) in q))) (flat-one-of h z l (r .1) i)
 
-flat-map : {A B C : Type 0} (f : B → List C) (h : A → B) (l : List A) → flat f (map h l) ≡ flat (λ (a : A). f (h a)) l
+pub flat-map : {A B C : Type 0} (f : B → List C) (h : A → B) (l : List A) → flat f (map h l) ≡ flat (λ (a : A). f (h a)) l
 unfolding flat
 flat-map f h [] = refl
 flat-map {C = C} f h (a ∷ l) = ap (λ (x : List C). f (h a) ++ x) (flat-map f h l)
@@ -165,8 +128,8 @@ module _ (p : Params) (r : Ranged p) (g : Ghost) (v : View) (k : OnDrives p r g 
   pub length-compact : length (compactTable p (segments p v (named m))) ≡ compactLen p
   unfolding compactTable drivesOf compactLen
   length-compact =
-      length-flat-below (λ d. flat (λ z. compactRow p (rowOf p (segments p v (named m)) d z)) (below (p .Z))) (p .Z * p .S) (p .N)
-      (λ d l. length-flat-below (λ z. compactRow p (rowOf p (segments p v (named m)) d z)) (p .S) (p .Z) (λ z b. row-long d z l b))
+      long-flat (λ d. flat (λ z. compactRow p (rowOf p (segments p v (named m)) d z)) (below (p .Z))) (p .Z * p .S) (p .N)
+      (λ d l. long-flat (λ z. compactRow p (rowOf p (segments p v (named m)) d z)) (p .S) (p .Z) (λ z b. row-long d z l b))
       ∙ sym (mul-assoc (p .N) (p .Z) (p .S))
 
   pub compact-entry :
@@ -180,7 +143,7 @@ module _ (p : Params) (r : Ranged p) (g : Ghost) (v : View) (k : OnDrives p r g 
       let e : (d * p .Z + z) * p .S + o ≡ d * (p .Z * p .S) + (z * p .S + o) = omega (arith, add-mul (d * p .Z) z (p .S), mul-assoc d (p .Z) (p .S)) in
       ap (λ (x : ℕ). getD (flat (λ d. flat (λ z. compactRow p (rowOf p (segments p v (named m)) d z)) (below (p .Z))) (below (p .N))) x 0) e
       ∙ getD-flat (λ d. flat (λ z. compactRow p (rowOf p (segments p v (named m)) d z)) (below (p .Z))) (p .Z * p .S) (p .N) d (z * p .S + o)
-      (λ d l. length-flat-below (λ z. compactRow p (rowOf p (segments p v (named m)) d z)) (p .S) (p .Z) (λ z b. row-long d z l b)) l (digits-lt b s)
+      (λ d l. long-flat (λ z. compactRow p (rowOf p (segments p v (named m)) d z)) (p .S) (p .Z) (λ z b. row-long d z l b)) l (digits-lt b s)
       ∙ getD-flat (λ z. compactRow p (rowOf p (segments p v (named m)) d z)) (p .S) (p .Z) z o (λ z b. row-long d z l b) b s
 
   -- the entry of a chunk of a remaining segment

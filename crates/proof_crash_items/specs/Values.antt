@@ -3,10 +3,9 @@ use mathlib.Core.Path.{_≡_, refl, sym, ap, _∙_}
 use mathlib.Core.List.{List, [], _∷_, map}
 use mathlib.Core.Bool.{Bool, true, false, cond}
 use mathlib.Core.Logic.{inl, inr}
-use Prim.Native.Nat.{ℕ, zero, suc, _+_, _<_}
-use native.Mathlib.Decide.{decLt}
+use Prim.Native.Nat.{ℕ, zero, suc, _+_}
 use native.Mathlib.Omega.{arith}
-use lib.ListN.{length, getD, replicate, length-replicate, List·getD-eq-default, getD-replicate}
+use lib.ListN.{length, getD}
 use lib.Bits.{bitXor, xor-zero-l}
 use Rattle.spec.specs.declared.Params.{Params}
 use Rattle.spec.specs.Bytes.{xors, parity, xorAll}
@@ -14,9 +13,11 @@ use Rattle.spec.specs.Layout.{Rec}
 use Rattle.spec.specs.Lists.{upFrom, below, consIf, keep}
 use Rattle.spec.specs.Parity.{Piece, mkPiece, parityRec, parityPiece}
 use Rattle.law_basic.specs.Xor.{AllLong, length-parity}
+use Rattle.law_drives.specs.Tables.{zero-at}
+use Rattle.law_drives.specs.Tests.{cond-true, cond-false}
 use Rattle.proof_crash_machine.specs.Val.{Val, 𝟘, _⊕_, ⊕-comm, ⊕-assoc, ⊕-zero, ⊕-swap, xorN}
 use Rattle.proof_crash_items.specs.Items.{valueOf}
-use Rattle.proof_crash_items.specs.Member.{Has, cond-true, cond-false}
+use Rattle.proof_crash_items.specs.Member.{Has}
 
 unfoldable pub pieceValue : Piece → Val
 pieceValue q = valueOf (q .block) (q .rec)
@@ -39,13 +40,6 @@ getD-xors (a ∷ s) [] i e = absurd (let q : ⊥ = omega arith in q)
 getD-xors (a ∷ s) (b ∷ t) zero e = refl
 getD-xors (a ∷ s) (b ∷ t) (suc i) e = getD-xors s t i (omega arith)
 
-getD-zeros : (n i : ℕ) → _≡_ {A = ℕ} (getD (replicate n 0) i 0) 0
-getD-zeros n i = go (decLt i n)
-  where
-    go : Dec (i < n) → _≡_ {A = ℕ} (getD (replicate n 0) i 0) 0
-    go (yes l) = getD-replicate n i 0 0 l
-    go (no l) = List·getD-eq-default (replicate n 0) 0 {n = i} (omega (arith, length-replicate {A = ℕ} n 0))
-
 -- pieces of one length
 abbrev pub PiecesLong : ℕ → List Piece → Type 0
 PiecesLong n [] = Unit {0}
@@ -62,7 +56,7 @@ pieces-long n f (d ∷ l) h = (h d (inl refl), pieces-long n f l (λ e m. h e (i
 -- the parity of pieces is the exclusive or of their values
 pub parity-value : (p : Params) (s : ℕ) (qs : List Piece) → PiecesLong (p .B) qs → pieceValue (parityPiece p s qs) ≡ xorL (map pieceValue qs)
 unfolding parityPiece parityRec pieceValue valueOf xorL 𝟘 _⊕_ parity xorAll
-parity-value p s [] h = λ j. record { addr = 0; stamp = 0; blk = λ i. getD-zeros (p .B) i j }
+parity-value p s [] h = λ j. record { addr = 0; stamp = 0; blk = λ i. zero-at (p .B) i j }
 parity-value p s (q ∷ qs) h = first ∙ ap (λ (x : Val). pieceValue q ⊕ x) (parity-value p s qs (h .1))
   where
     first : pieceValue (parityPiece p s (q ∷ qs)) ≡ pieceValue q ⊕ pieceValue (parityPiece p s qs)

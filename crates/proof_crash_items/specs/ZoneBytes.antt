@@ -2,7 +2,7 @@
 use mathlib.Core.Path.{_≡_, refl, sym, ap, ap₂, _∙_, subst}
 use mathlib.Core.List.{List, [], _∷_}
 use mathlib.Core.Bool.{true, false}
-use Prim.Native.Nat.{ℕ, zero, suc, _+_, _-_, _*_, _/_, _%_, _^_, _≤_, _<_}
+use Prim.Native.Nat.{ℕ, suc, _+_, _-_, _*_, _/_, _%_, _^_, _≤_, _<_}
 use native.Mathlib.Decide.{ℕ-discrete}
 use native.Mathlib.Omega.{arith}
 use lib.ListN.{length, getD, take, drop, set, length-drop, length-map}
@@ -12,15 +12,17 @@ use Rattle.spec.specs.Bytes.{part}
 use Rattle.spec.specs.Drives.{Chunk, mkChunk, noChunk, Zone, putZone, resetZone, blocksOf, sparesOf, recordIn, zeroSpare}
 use Rattle.spec.specs.Layout.{headerBlock, headerSerial, headerCopied, Rec, recordBytes, recordOf, footerBlock, footerRecord}
 use Rattle.spec.specs.Params.{spareLen, perFooter, footers, capacity}
-use Rattle.law_basic.specs.Geometry.{Ranged}
+use Rattle.law_basic.specs.Geometry.{Ranged, footer-of}
 use Rattle.law_basic.specs.Xor.{AllLong}
+use Rattle.law_drives.specs.Laid.{header-serial, header-copied, length-record}
+use Rattle.law_drives.specs.Records.{spares-at, blocks-at}
 use Rattle.proof_crash_machine.specs.Exec.{low}
 use Rattle.proof_crash_machine.specs.Reset.{same}
 use Rattle.proof_crash_machine.specs.View.{Item}
 use Rattle.proof_crash_machine.specs.View.Item.{hdr, chunk, foot}
-use Rattle.proof_crash_items.specs.Codec.{Wide, record-bytes, length-record, length-zeroSpare, length-header, header-serial, header-copied, length-footer, footer-record}
+use Rattle.proof_crash_items.specs.Codec.{Wide, record-bytes, length-zeroSpare, length-header, length-footer, footer-record}
 use Rattle.proof_crash_items.specs.Items.{valueOf, chunkItem, itemAt, item-data, item-foot}
-use Rattle.proof_crash_items.specs.Ranges.{footer-of, capacity-few}
+use Rattle.proof_crash_items.specs.Ranges.{capacity-few}
 use Rattle.proof_crash_items.specs.Shape.{ZoneShape}
 
 -- the spares of a zone's data blocks
@@ -51,18 +53,6 @@ unfolding sparesOf
 long-spares [] h = tt
 long-spares (c ∷ cs) h = (h 0 (omega arith), long-spares cs (λ k l. h (suc k) (omega arith)))
 
-pub getD-spares : (cs : List Chunk) (k : ℕ) → getD (sparesOf cs) k [] ≡ getD cs k noChunk .spare
-unfolding sparesOf noChunk
-getD-spares [] k = refl
-getD-spares (c ∷ cs) zero = refl
-getD-spares (c ∷ cs) (suc k) = getD-spares cs k
-
-pub getD-blocks : (cs : List Chunk) (k : ℕ) → getD (blocksOf cs) k [] ≡ getD cs k noChunk .block
-unfolding blocksOf noChunk
-getD-blocks [] k = refl
-getD-blocks (c ∷ cs) zero = refl
-getD-blocks (c ∷ cs) (suc k) = getD-blocks cs k
-
 pub length-sparesOf : (cs : List Chunk) → length (sparesOf cs) ≡ length cs
 unfolding sparesOf
 length-sparesOf cs = length-map cs (λ (c : Chunk). c .spare)
@@ -76,7 +66,7 @@ module _ (p : Params) (h : Ranged p) (q : Zone) (s : ZoneShape p q) where
 
   pub spare-in : (o : ℕ) → o < p .S → getD (sparesIn p q) o [] ≡ blockIn q (suc o) .spare
   spare-in o l =
-      getD-spares (take (p .S) (drop 1 (q .blocks))) o
+      spares-at (take (p .S) (drop 1 (q .blocks))) o
       ∙ ap (λ (c : Chunk). c .spare) (getD-take (p .S) (drop 1 (q .blocks)) o noChunk l
       ∙ getD-drop 1 (q .blocks) o noChunk
       ∙ ap (λ (k : ℕ). getD (q .blocks) k noChunk) (let e : 1 + o ≡ suc o = omega arith in e))
@@ -84,7 +74,7 @@ module _ (p : Params) (h : Ranged p) (q : Zone) (s : ZoneShape p q) where
   pub spares-long : AllLong spareLen (sparesIn p q)
   spares-long = long-spares (take (p .S) (drop 1 (q .blocks))) (λ k l.
       let b : k < p .S = omega (arith, l, length-data) in
-      ap length (sym (getD-spares (take (p .S) (drop 1 (q .blocks))) k) ∙ spare-in k b) ∙ s .long (suc k) (omega (arith, b, capacity-few p h)) .1)
+      ap length (sym (spares-at (take (p .S) (drop 1 (q .blocks))) k) ∙ spare-in k b) ∙ s .long (suc k) (omega (arith, b, capacity-few p h)) .1)
 
   -- ---- the lengths of what is put, and the room for it
   pub kind-fits : (d z : ℕ) (b t : List ℕ) → Kind p d z q b t → (q .pointer < capacity p) × (length b ≡ p .B) × (length t ≡ spareLen)
@@ -220,7 +210,7 @@ module _ (p : Params) (h : Ranged p) (d z : ℕ) (q : Zone) (s : ZoneShape p q) 
       let a : suc (p .S + o / perFooter p) < q .pointer = omega (arith, e, k) in
       let i : (1 + p .S) + o / perFooter p ≡ suc (p .S + o / perFooter p) = omega arith in
       let r : getD (blocksOf (drop (1 + p .S) (q .blocks))) (o / perFooter p) [] ≡ footerBlock p (sparesIn p q) (o / perFooter p) =
-      getD-blocks (drop (1 + p .S) (q .blocks)) (o / perFooter p) ∙ ap (λ (c : Chunk). c .block) (getD-drop (1 + p .S) (q .blocks) (o / perFooter p) noChunk
+      blocks-at (drop (1 + p .S) (q .blocks)) (o / perFooter p) ∙ ap (λ (c : Chunk). c .block) (getD-drop (1 + p .S) (q .blocks) (o / perFooter p) noChunk
       ∙ ap (λ (n : ℕ). getD (q .blocks) n noChunk) i ∙ f .feet (o / perFooter p) a) in
       ap recordOf (ap (part (spareLen * (o % perFooter p)) spareLen) r
       ∙ footer-record p h (sparesIn p q) (spares-long p h q s) o (omega (arith, l, length-sparesIn p h q s))

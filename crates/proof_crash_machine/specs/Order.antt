@@ -53,7 +53,7 @@ track p _ _ (rebuild-store σ u l e m k) T = T
 track p _ _ (rebuild-done σ u n l b a) T = T
 
 -- fewer in cur
-less : (σ τ : State) (T : Track) → ((x : Val) → InV x (τ .g .sent) → InV x (σ .g .sent)) → Tracked σ T → Tracked τ T
+pub less : (σ τ : State) (T : Track) → ((x : Val) → InV x (τ .g .sent) → InV x (σ .g .sent)) → Tracked σ T → Tracked τ T
 less σ τ T h k = record { here = λ x m. k .here x (h x m); order = λ x y m n b. k .order x y (h x m) (h y n) b }
 
 -- one more, with a greater stamp

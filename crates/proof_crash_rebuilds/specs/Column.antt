@@ -17,6 +17,7 @@ use Rattle.spec.specs.Segments.{remaining, Segment, segmentOf, counts, counted}
 use Rattle.law_basic.specs.Be.{room}
 use Rattle.law_basic.specs.Geometry.{Ranged}
 use Rattle.law_basic.specs.Ranges.{upFrom-snoc, length-below, map-append, length-keep}
+use Rattle.law_drives.specs.Tests.{cond-true, cond-false}
 use Rattle.proof_crash_machine.specs.Facts.{Ghost, Choice, Stripe, Ragged}
 use Rattle.proof_crash_machine.specs.Rebuild2.{RPlan, chunks, column}
 use Rattle.proof_crash_machine.specs.Rewrite.{st}
@@ -24,7 +25,7 @@ use Rattle.proof_crash_machine.specs.Val.{Val}
 use Rattle.proof_crash_machine.specs.View.{Item}
 use Rattle.proof_crash_machine.specs.View.Item.{hdr, chunk, foot}
 use Rattle.proof_crash_items.specs.Items.{itemsIn}
-use Rattle.proof_crash_items.specs.Member.{Has, cond-true, cond-false, below-has, has-below, any-has, has-any, getD-has, has-getD}
+use Rattle.proof_crash_items.specs.Member.{Has, below-has, has-below, any-has, has-any, getD-has, has-getD}
 use Rattle.proof_crash_items.specs.Ranges.{capacity-few, parOf}
 use Rattle.proof_crash_items.specs.Refuse.{rising-below}
 use Rattle.proof_crash_items.specs.SegFacts.{segment-fields, seg-low, ragged-of}

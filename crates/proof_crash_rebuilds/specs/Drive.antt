@@ -38,6 +38,7 @@ use Rattle.proof_crash_items.specs.Shape.{Shape, zone-set, zone-set-other, shap
 use Rattle.proof_crash_items.specs.Sound.{AllSound, BytesOn, BytesOk, sound-fits, bytes-stores, sound-take, sound-drop, Follows, follows-nil, follows-append, follows-all}
 use Rattle.proof_crash_items.specs.Start.{outside-nothing}
 use Rattle.proof_crash_items.specs.Stripes.{pointer-is}
+use Rattle.proof_crash_items.specs.Table.{flat-map}
 use Rattle.proof_crash_items.specs.ZoneBytes.{bytes-empty}
 use Rattle.proof_crash_restarts.specs.Link.{stateOn, Linked, linked-step, shape-after, shape-cut, bytes-after, bytes-cut}
 use Rattle.proof_crash_restarts.specs.Missing.{missing-on}
@@ -115,11 +116,6 @@ drive-resets-other p r d b [] h v s e y n = refl
 drive-resets-other p r d b (z ∷ l) h v s e y n =
     drive-resets-other p r d b l (λ e i. h e (inr i)) (storeView (reset d z) v) (shape-store p v (reset d z) s (b, h z (inl refl))) e y n
     ∙ (unfold storeView in zone-set-other p v s d z (resetZone (zoneAt v d z)) b e y (inl n))
-
-flat-map : {A B C : Type 0} (f : B → List C) (h : A → B) (l : List A) → flat f (map h l) ≡ flat (λ (a : A). f (h a)) l
-unfolding flat
-flat-map f h [] = refl
-flat-map {C = C} f h (a ∷ l) = ap (λ (x : List C). f (h a) ++ x) (flat-map f h l)
 
 -- ---- the rebuild
 

@@ -17,6 +17,7 @@ use Rattle.spec.specs.Params.{capacity, named}
 use Rattle.spec.specs.Read.Found.{here}
 use Rattle.spec.specs.Segments.{Segment, segmentOf, offsetOn, hasChunk, counts, counted}
 use Rattle.law_basic.specs.Geometry.{Ranged}
+use Rattle.law_drives.specs.Counting.{pigeon}
 use Rattle.proof_crash_machine.specs.Exec.{low}
 use Rattle.proof_crash_machine.specs.Facts.{Ghost, Choice, Off}
 use Rattle.proof_crash_machine.specs.Put.{off-in}
@@ -30,7 +31,6 @@ use Rattle.proof_crash_items.specs.Refuse.{Rising, rising-keep, rising-below}
 use Rattle.proof_crash_items.specs.Segs.{OnDrives, zone-low, zone-len, zone-facts, trusted}
 use Rattle.proof_crash_items.specs.Stripes.{stored-below, sealed-full, offset-on, in-has-chunk, counted-has, has-counted}
 use Rattle.proof_crash_items.specs.ZoneBytes.{blockIn}
-use Rattle.proof_crash_restarts.specs.Order.{pigeon}
 use Rattle.proof_crash_rebuilds.specs.Sorted.{rising-index, rising-least, onto}
 
 module _ (p : Params) (r : Ranged p) (g : Ghost) (v : View) (k : OnDrives p r g v) (m : ℕ) (c : Choice (parOf p r) (g .un) m) where

@@ -9,10 +9,11 @@ use borrow.Author.Tests.{lt-ltb, le-ltb}
 use native.Mathlib.Omega.{arith}
 use lib.Dec.{ltb}
 use lib.ListN.{length, getD}
+use Rattle.law_drives.specs.Counting.{pigeon}
+use Rattle.law_drives.specs.Tests.{cond-true, cond-false}
 use Rattle.proof_crash_machine.specs.Exec.{low}
-use Rattle.proof_crash_items.specs.Member.{cond-true, cond-false, getD-has}
+use Rattle.proof_crash_items.specs.Member.{getD-has}
 use Rattle.proof_crash_items.specs.Refuse.{Rising}
-use Rattle.proof_crash_restarts.specs.Order.{pigeon}
 
 pub rising-lt : (l : List ℕ) → Rising l → (i j : ℕ) → i < j → j < length l → getD l i 0 < getD l j 0
 rising-lt [] r i j a b = absurd (let q : ⊥ = omega arith in q)

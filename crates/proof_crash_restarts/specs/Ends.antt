@@ -16,6 +16,8 @@ use Rattle.spec.specs.Restart.{openOf, nextOf}
 use Rattle.spec.specs.Segments.{remaining, Segment, segmentOf, segments, hasChunk, counts, counted, uncounted, candidates, greatestStamp, greatestSerial, unsealed}
 use Rattle.law_basic.specs.Geometry.{Ranged}
 use Rattle.law_basic.specs.Ranges.{and-both, length-below, length-keep}
+use Rattle.law_drives.specs.Counting.{pigeon}
+use Rattle.law_drives.specs.Tests.{not-so}
 use Rattle.proof_crash_machine.specs.Accept.{accepted}
 use Rattle.proof_crash_machine.specs.Exec.{true≢false, low}
 use Rattle.proof_crash_machine.specs.Facts.{Ghost, Choice, Stripe, Counted, Off, Used, Whole as m-Whole, Ragged}
@@ -29,13 +31,12 @@ use Rattle.proof_crash_machine.specs.View.Item.{chunk}
 use Rattle.proof_crash_machine.specs.View.{In, in-some, chunk-hdr}
 use Rattle.proof_crash_items.specs.Cands.{candsSeen, greatest-counted, stampRead, reads}
 use Rattle.proof_crash_items.specs.Items.{itemsIn}
-use Rattle.proof_crash_items.specs.Member.{Has, false-of, keep-has, has-keep, below-has, has-below, has-any, map-has, has-map, has-getD, greatest-most}
+use Rattle.proof_crash_items.specs.Member.{Has, keep-has, has-keep, below-has, has-below, has-any, map-has, has-map, has-getD, greatest-most}
 use Rattle.proof_crash_items.specs.Named.{none-named, has-present}
 use Rattle.proof_crash_items.specs.Ranges.{parOf}
 use Rattle.proof_crash_items.specs.SegFacts.{serial-is, ragged-of}
 use Rattle.proof_crash_items.specs.Segs.{zone-len, remaining-has}
 use Rattle.proof_crash_items.specs.Stripes.{sealed-full, in-has-chunk, pieceAt, counted-stripe}
-use Rattle.proof_crash_restarts.specs.Order.{pigeon}
 use Rattle.proof_crash_restarts.specs.Rest.{Settled, far-off, settled-remains, settled-used}
 use Rattle.proof_crash_restarts.specs.Same.{Stripe-none-any, Counted-none-any, Reads-none-any}
 
@@ -82,7 +83,7 @@ module _ (p : Params) (r : Ranged p) (g : Ghost) (v : View) (k : Settled p r g v
   ragged-unsealed : (y : ℕ) → Ragged (parOf p r) (g .un) (itemsIn p v) y → Has y (remaining p v (named noDrive)) × (G y .full ≡ false)
   ragged-unsealed y (d, t, a, b) =
       let i : Has y (remaining p v (named noDrive)) = settled-remains p r g v k y (d, t, a) in
-      (i, false-of (G y .full) (λ e. let q : ⊥ = omega (arith, full-length y d (settled-used p r g v k y i .0) (t .0) e, b) in q))
+      (i, not-so (G y .full) (λ e. let q : ⊥ = omega (arith, full-length y d (settled-used p r g v k y i .0) (t .0) e, b) in q))
 
   pub us-has : (q : Segment) → Has q (unsealed (segments p v (named noDrive))) → (z : ℕ) × Has z (remaining p v (named noDrive)) × (q ≡ G z) × (G z .full ≡ false)
   unfolding unsealed segments
@@ -135,7 +136,7 @@ module _ (p : Params) (r : Ranged p) (g : Ghost) (v : View) (k : Settled p r g v
     tidy d z s x l u m =
         let i : Has z (remaining p v (named noDrive)) = settled-remains p r g v k z (d, (l, trust d l .0), in-some (chunk s x) (itemsIn p v d z) m) in
         let b : z < p .Z = settled-used p r g v k z i .0 in
-        let e : G z .full ≡ false = false-of (G z .full) (λ q. u (λ n a. omega (arith, full-length z n b a q))) in
+        let e : G z .full ≡ false = not-so (G z .full) (λ q. u (λ n a. omega (arith, full-length z n b a q))) in
         let h : Has s (counted p (named noDrive) (G z)) = chunk-counted z d s x i e l m in
         let st : Stripe (parOf p r) (itemsIn p v) noDrive z s (pieceAt p r g v (k .on) noDrive none-choice z s) = counted-stripe p r g v (k .on) noDrive none-choice z s b h in (
           pieceAt p r g v (k .on) noDrive none-choice z s,

@@ -21,6 +21,8 @@ use Rattle.spec.specs.Restart.{isWhole, missingFooters}
 use Rattle.spec.specs.Segments.{remaining, Segment, segmentOf, offsetOn, hasChunk, counts, counted}
 use Rattle.law_basic.specs.Geometry.{Ranged}
 use Rattle.law_basic.specs.Ranges.{length-below, map-map, getD-map-below, length-keep}
+use Rattle.law_drives.specs.Counting.{pigeon}
+use Rattle.law_drives.specs.Tests.{clash}
 use Rattle.proof_crash_machine.specs.Exec.{low}
 use Rattle.proof_crash_machine.specs.Facts.Pair.{alone}
 use Rattle.proof_crash_machine.specs.Facts.{Ghost, R, Stripe, Used}
@@ -36,7 +38,7 @@ use Rattle.proof_crash_machine.specs.Val.{Val}
 use Rattle.proof_crash_machine.specs.View.{Item, View as m-View, after, In}
 use Rattle.proof_crash_machine.specs.View.Item.{chunk, foot}
 use Rattle.proof_crash_items.specs.Items.{itemsOf, itemsIn, items-in}
-use Rattle.proof_crash_items.specs.Member.{Has, true-false, has-keep, below-has, has-below}
+use Rattle.proof_crash_items.specs.Member.{Has, has-keep, below-has, has-below}
 use Rattle.proof_crash_items.specs.Named.{none-named, present-all}
 use Rattle.proof_crash_items.specs.Ranges.{parOf}
 use Rattle.proof_crash_items.specs.Segs.{zone-bytes, zone-len}
@@ -46,7 +48,7 @@ use Rattle.proof_crash_items.specs.Stripes.{pointer-is, offset-on, counted-has,
 use Rattle.proof_crash_items.specs.ZoneBytes.{sparesIn, blockIn, Kind, kindItem, old-spares}
 use Rattle.proof_crash_restarts.specs.Ends.{InOrder, none-choice, full-is, one-of}
 use Rattle.proof_crash_restarts.specs.Link.{stateOn, Linked, linked-on, linked-step}
-use Rattle.proof_crash_restarts.specs.Order.{pigeon, flat-same, pointer-zone}
+use Rattle.proof_crash_restarts.specs.Order.{flat-same, pointer-zone}
 use Rattle.proof_crash_restarts.specs.Rest.{Settled, far-off, settled-remains, settled-used}
 use Rattle.proof_crash_restarts.specs.Runs.{Always, run-always, run-end, runs-always, runs-end, run-sound, runs-sound}
 use Rattle.proof_crash_restarts.specs.Same.{segment-same}
@@ -320,7 +322,7 @@ module _ (p : Params) (r : Ranged p) (g₀ : Ghost) (a : List Val) (s : Bool) (v
       set = q .foot .set
 
       go : Dec (z ≡ o) → ⊥
-      go (yes w) = true-false (sealedIn p u (named noDrive) o) sealed (sym (full-is p r (withPr g₀ alone) u set o) ∙ ap (λ (x : ℕ). segmentOf p u (named noDrive) x .full) (sym w) ∙ e)
+      go (yes w) = clash sealed (sym (full-is p r (withPr g₀ alone) u set o) ∙ ap (λ (x : ℕ). segmentOf p u (named noDrive) x .full) (sym w) ∙ e)
         where
           sealed : sealedIn p u (named noDrive) o ≡ true
           sealed = unfold sealedIn zoneOn in present-all p r noDrive (λ d. eqb (pointerAt u d o) (capacity p)) (λ d l n. eq-eqb (pointerAt u d o) (capacity p) (q .done d l l))

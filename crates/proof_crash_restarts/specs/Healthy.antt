@@ -21,8 +21,9 @@ use Rattle.spec.specs.Params.{footers, noDrive, named}
 use Rattle.spec.specs.Restart.{freeZones, isWhole, isRagged, missingFooters, rewriteStores, dropStores, mendStores, restartStores, rewrites}
 use Rattle.spec.specs.Segments.{headerAt, remaining, Segment, segmentOf, segments, counts, counted, uncounted, greatestSerial, unsealed}
 use Rattle.law_basic.specs.Geometry.{Ranged}
-use Rattle.law_basic.specs.Ranges.{and-both, length-below, length-keep, sameList-true}
+use Rattle.law_basic.specs.Ranges.{and-both, length-below, length-keep, sameList-true, nil-is}
 use Rattle.law_basic.specs.Stores.{storeAll-append}
+use Rattle.law_drives.specs.Tests.{cond-true, clash}
 use Rattle.proof_crash_machine.specs.Drop.{dropped}
 use Rattle.proof_crash_machine.specs.Exec.{true≢false}
 use Rattle.proof_crash_machine.specs.Facts.Pair.{alone}
@@ -34,7 +35,7 @@ use Rattle.proof_crash_machine.specs.OpenSeg.{opened}
 use Rattle.proof_crash_machine.specs.Reset.{same}
 use Rattle.proof_crash_machine.specs.Val.{Val}
 use Rattle.proof_crash_machine.specs.View.{applyAll}
-use Rattle.proof_crash_items.specs.Member.{Has, true-false, cond-true, keep-has, has-keep, has-any, map-has, has-map, isNil-nil, firstOr-has, greatest-some}
+use Rattle.proof_crash_items.specs.Member.{Has, keep-has, has-keep, has-any, map-has, has-map, firstOr-has, greatest-some}
 use Rattle.proof_crash_items.specs.Named.{none-named}
 use Rattle.proof_crash_items.specs.Refuse.{one-unsealed, free-zone}
 use Rattle.proof_crash_items.specs.SegFacts.{seg-low, begun-on, serial-is}
@@ -214,7 +215,7 @@ module _ (p : Params) (r : Ranged p) (v₀ : View) (g₀ : Ghost) (a : List Val)
 
           go : (b : Bool) → eqb (greatestSerial gs) lastCount ≡ b → b ≡ false
           go false e = refl
-          go true e = true-false (rewrites p (named noDrive) gs && eqb (greatestSerial gs) lastCount) (and-both (rewrites p (named noDrive) gs) (eqb (greatestSerial gs) lastCount) yes? e) six
+          go true e = clash (and-both (rewrites p (named noDrive) gs) (eqb (greatestSerial gs) lastCount) yes? e) six
 
       next-low : suc (greatestSerial gs) < 256 ^ 8
       next-low = let x : greatestSerial gs ≢ lastCount = eqb-false (greatestSerial gs) lastCount not-last in omega (arith, x, wide-serials)
@@ -302,7 +303,7 @@ module _ (p : Params) (r : Ranged p) (v₀ : View) (g₀ : Ghost) (a : List Val)
         counted-in = subst (λ (x : ℕ). counted p x G ≡ below (length (counted p x G))) (sym none-named) (sameList-true (counted p 0 G) (below (length (counted p 0 G))) (two .0))
 
         uncounted-in : uncounted p (named noDrive) G ≡ []
-        uncounted-in = subst (λ (x : ℕ). uncounted p x G ≡ []) (sym none-named) (isNil-nil (uncounted p 0 G) (two .1))
+        uncounted-in = subst (λ (x : ℕ). uncounted p x G ≡ []) (sym none-named) (nil-is (uncounted p 0 G) (two .1))
 
     mended-right : AllSound p v (mendStores p gs (segmentOf p v₀ (named noDrive) o))
     mended-right = subst (λ (x : Segment). AllSound p v (mendStores p gs x)) same-G (go (isWhole p (segmentOf p v (named noDrive) o)) refl (isRagged p (segmentOf p v (named noDrive) o)) refl)

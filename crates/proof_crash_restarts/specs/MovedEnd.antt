@@ -16,7 +16,7 @@ use Rattle.spec.specs.Params.{capacity, noDrive, named, present}
 use Rattle.spec.specs.Restart.{rewriteStores, dropStores}
 use Rattle.spec.specs.Segments.{remaining, Segment, segmentOf, segments, hasChunk, counts, counted, uncounted, storedPiece}
 use Rattle.law_basic.specs.Geometry.{Ranged}
-use Rattle.law_basic.specs.Ranges.{length-below}
+use Rattle.law_basic.specs.Ranges.{length-below, and-false}
 use Rattle.proof_crash_machine.specs.Facts.Pair.{alone, pair}
 use Rattle.proof_crash_machine.specs.Facts.{Ghost, Choice, R, Counted, Used, Whole as m-Whole, Ragged, Facts, used}
 use Rattle.proof_crash_machine.specs.Finish.{Reads, upTo, finishing, Clean}
@@ -36,7 +36,7 @@ use Rattle.proof_crash_machine.specs.Val.{Val}
 use Rattle.proof_crash_machine.specs.View.{Item, View as m-View, Store as m-Store, applyAll, In}
 use Rattle.proof_crash_machine.specs.View.Item.{chunk}
 use Rattle.proof_crash_items.specs.Items.{itemsIn}
-use Rattle.proof_crash_items.specs.Member.{Has, and-false-1, and-false-2, keep-has, keep-nil, below-has, has-below, any-has}
+use Rattle.proof_crash_items.specs.Member.{Has, and-false-1, keep-has, keep-nil, below-has, has-below, any-has}
 use Rattle.proof_crash_items.specs.Named.{present-has}
 use Rattle.proof_crash_items.specs.Ranges.{parOf}
 use Rattle.proof_crash_items.specs.Refuse.{Rising, rising-keep, rising-below}
@@ -206,7 +206,7 @@ module _ (p : Params) (r : Ranged p) (v₀ : View) (g₀ : Ghost) (a : List Val)
             let b : t < c =
             low-end (d .0) t (pieceValue (storedPiece (segmentOf p u (named noDrive) w) t (d .0))) (l .0)
             (stored-in p r gE u (set-end .on) noDrive ch w t (d .0) wb (l .0) (l .1) (d .2)) in
-            and-false-2 (any (hasChunk (segmentOf p u (named noDrive) w) t) (present p (named noDrive))) (not (counts p (named noDrive) (segmentOf p u (named noDrive) w) t)) (ap not (passes t b))
+            and-false (any (hasChunk (segmentOf p u (named noDrive) w) t) (present p (named noDrive))) (not (counts p (named noDrive) (segmentOf p u (named noDrive) w) t)) (ap not (passes t b))
           where
             passes : (t : ℕ) → t < c → counts p (named noDrive) (segmentOf p u (named noDrive) w) t ≡ true
             passes t b = both? (counts-end t b) .1

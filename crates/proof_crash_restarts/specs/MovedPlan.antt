@@ -25,6 +25,7 @@ use Rattle.spec.specs.Segments.{remaining, Segment, segmentOf, offsetOn, hasChu
 use Rattle.law_basic.specs.Geometry.{Ranged, position-drive, drive-is-data, data-drive-lt, data-not-parity, drive-position, position-lt}
 use Rattle.law_basic.specs.Ranges.{length-below, map-below-same, map-map, getD-map-below, length-keep}
 use Rattle.law_basic.specs.Xor.{length-parity}
+use Rattle.law_drives.specs.Tests.{cond-true, cond-false}
 use Rattle.proof_crash_machine.specs.Facts.Pair.{alone}
 use Rattle.proof_crash_machine.specs.Facts.{Ghost, Choice, Stripe, Datum, Used, Ragged}
 use Rattle.proof_crash_machine.specs.Reset.{same}
@@ -34,7 +35,7 @@ use Rattle.proof_crash_machine.specs.Val.{Val, 𝟘, _⊕_, ⊕-self, xorN, xor
 use Rattle.proof_crash_items.specs.Cands.{data-drives, is-data, has-data-drive}
 use Rattle.proof_crash_items.specs.Codec.{Wide}
 use Rattle.proof_crash_items.specs.Items.{valueOf, itemsFrom, itemsOf, itemsIn, items-in}
-use Rattle.proof_crash_items.specs.Member.{Has, cond-true, cond-false, keep-has, has-keep, below-has, has-below, map-has, getD-has, has-getD}
+use Rattle.proof_crash_items.specs.Member.{Has, keep-has, has-keep, below-has, has-below, map-has, getD-has, has-getD}
 use Rattle.proof_crash_items.specs.Ranges.{parity-on, parOf}
 use Rattle.proof_crash_items.specs.Refuse.{Rising, rising-keep, rising-below}
 use Rattle.proof_crash_items.specs.SegFacts.{ragged-of}

@@ -1,20 +1,16 @@
 -- Rising lists are known by their elements; an injective map into fewer numbers there is none. Assumes nothing.
-use mathlib.Core.Path.{_≡_, refl, sym, ap, ap₂, _∙_}
+use mathlib.Core.Path.{_≡_, refl, sym, ap, ap₂}
 use mathlib.Core.List.{List, [], _∷_, _++_}
-use mathlib.Core.Bool.{cond}
-use mathlib.Core.Logic.{inl, inr, ⊎-elim, _≢_}
-use Prim.Native.Nat.{ℕ, zero, suc, _-_, _≤_, _<_}
-use native.Mathlib.Decide.{decLt}
-use borrow.Author.Tests.{lt-ltb, le-ltb}
+use mathlib.Core.Logic.{inl, inr, ⊎-elim}
+use Prim.Native.Nat.{ℕ}
 use native.Mathlib.Omega.{arith}
-use lib.Dec.{ltb}
 use Rattle.spec.specs.declared.Params.{Params}
 use Rattle.spec.specs.Drives.{Zone, View, zoneAt, pointerAt, Store, storeView, storeAll}
 use Rattle.spec.specs.Lists.{flat}
 use Rattle.proof_crash_machine.specs.Memory.{Ok}
 use Rattle.proof_crash_machine.specs.Rest.{InS}
 use Rattle.proof_crash_machine.specs.View.{Store as m-Store, AllS}
-use Rattle.proof_crash_items.specs.Member.{Has, cond-true, cond-false}
+use Rattle.proof_crash_items.specs.Member.{Has}
 use Rattle.proof_crash_items.specs.Refuse.{Rising}
 use Rattle.proof_crash_items.specs.Sound.{Follows, follows-nil, follows-append}
 
@@ -33,50 +29,6 @@ rising-same (a ∷ l) (b ∷ k) r q f h = ap₂ (λ (x : ℕ) (y : List ℕ). x 
 
     bwd : (x : ℕ) → Has x k → Has x l
     bwd x i = ⊎-elim (λ (e : x ≡ a). absurd (let w : ⊥ = omega (arith, q .0 x i, e, first) in w)) (λ j. j) (h x (inr i))
-
--- ---- no injection into fewer
-
--- f with n taken out of its values
-skip : ℕ → ℕ → ℕ
-skip x y = cond (ltb y x) y (y - 1)
-
-skip-low : (x y : ℕ) → y < x → skip x y ≡ y
-unfolding skip
-skip-low x y l = cond-true (ltb y x) y (y - 1) (lt-ltb y x l)
-
-skip-high : (x y : ℕ) → x ≤ y → skip x y ≡ y - 1
-unfolding skip
-skip-high x y l = cond-false (ltb y x) y (y - 1) (le-ltb y x l)
-
-pub pigeon : (n k : ℕ) (f : ℕ → ℕ) → ((i : ℕ) → i < n → f i < k) → ((i j : ℕ) → i < n → j < n → f i ≡ f j → i ≡ j) → n ≤ k
-pigeon zero k f b inj = omega arith
-pigeon (suc n) zero f b inj = absurd (let q : ⊥ = omega (arith, b 0 (omega arith)) in q)
-pigeon (suc n) (suc k) f b inj = let h : n ≤ k = pigeon n k (λ (i : ℕ). skip (f n) (f i)) low one in omega arith
-  where
-    differ : (i : ℕ) → i < n → f i ≢ f n
-    differ i l e = let q : i ≡ n = inj i n (omega arith) (omega arith) e in let w : ⊥ = omega arith in w
-
-    low : (i : ℕ) → i < n → skip (f n) (f i) < k
-    low i l = go (decLt (f i) (f n))
-      where
-        go : Dec (f i < f n) → skip (f n) (f i) < k
-        go (yes q) = rw (skip-low (f n) (f i) q) (omega (arith, b n (let w : n < suc n = omega arith in w)))
-        go (no q) = rw (skip-high (f n) (f i) (let w : f n ≤ f i = omega arith in w)) (omega (arith, b i (let w : i < suc n = omega arith in w), differ i l))
-
-    one : (i j : ℕ) → i < n → j < n → skip (f n) (f i) ≡ skip (f n) (f j) → i ≡ j
-    one i j a c e = inj i j (omega arith) (omega arith) (go (decLt (f i) (f n)) (decLt (f j) (f n)))
-      where
-        go : Dec (f i < f n) → Dec (f j < f n) → f i ≡ f j
-        go (yes q) (yes w) = sym (skip-low (f n) (f i) q) ∙ e ∙ skip-low (f n) (f j) w
-        go (yes q) (no w) =
-            let x : f i ≡ f j - 1 = sym (skip-low (f n) (f i) q) ∙ e ∙ skip-high (f n) (f j) (let t : f n ≤ f j = omega arith in t) in
-            absurd (let t : ⊥ = omega (arith, x, differ j c, q, w) in t)
-        go (no q) (yes w) =
-            let x : f i - 1 ≡ f j = sym (skip-high (f n) (f i) (let t : f n ≤ f i = omega arith in t)) ∙ e ∙ skip-low (f n) (f j) w in
-            absurd (let t : ⊥ = omega (arith, x, differ i a, q, w) in t)
-        go (no q) (no w) =
-            let x : f i - 1 ≡ f j - 1 = sym (skip-high (f n) (f i) (let t : f n ≤ f i = omega arith in t)) ∙ e ∙ skip-high (f n) (f j) (let t : f n ≤ f j = omega arith in t) in
-            omega (arith, x, differ i a, differ j c, q, w)
 
 -- ---- lists of stores
 

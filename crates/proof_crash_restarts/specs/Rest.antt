@@ -17,7 +17,6 @@ use Rattle.proof_crash_machine.specs.Drop.{dropped-end, settled}
 use Rattle.proof_crash_machine.specs.Facts.Pair.{alone}
 use Rattle.proof_crash_machine.specs.Facts.{Ghost, R, Used, Facts, used}
 use Rattle.proof_crash_machine.specs.Ghosts.{withPr}
-use Rattle.proof_crash_machine.specs.History.{Dropping}
 use Rattle.proof_crash_machine.specs.Rest.{Dropped, rest-of}
 use Rattle.proof_crash_machine.specs.View.{Item, View as m-View, Store as m-Store, applyAll}
 use Rattle.proof_crash_items.specs.Items.{itemsOf, itemsIn, items-in}
@@ -67,13 +66,10 @@ module _ (p : Params) (r : Ranged p) (g : Ghost) (v : View) (k : OnDrives p r g 
   pub dropped-items : itemsIn p v₁ ≡ applyAll (itemsIn p v) (dropItems p (segments p v (named noDrive)))
   dropped-items = follows-all p r v (dropStores p (segments p v (named noDrive))) (dropItems p (segments p v (named noDrive))) (k .shape) follow
 
-  d? : Dropping (parOf p r) g (itemsIn p v) none (dropItems p (segments p v (named noDrive)))
-  d? = dropping p r g v k none
-
   pub after-facts : Facts (parOf p r) (withPr g alone) (applyAll (itemsIn p v) (dropItems p (segments p v (named noDrive))))
   after-facts = settled (parOf p r) g none (applyAll (itemsIn p v) (dropItems p (segments p v (named noDrive))))
-      (dropped-end (parOf p r) g none (Dropped (parOf p r) g (itemsIn p v)) (itemsIn p v) (dropItems p (segments p v (named noDrive))) (d? .are) (k .facts) (λ z n. n))
-      (rest-of (parOf p r) g (itemsIn p v) (k .facts) none (dropItems p (segments p v (named noDrive))) (d? .are) (d? .every))
+      (dropped-end (parOf p r) g none (Dropped (parOf p r) g (itemsIn p v)) (itemsIn p v) (dropItems p (segments p v (named noDrive))) (dropping p r g v k none .are) (k .facts) (λ z n. n))
+      (rest-of (parOf p r) g (itemsIn p v) (k .facts) none (dropItems p (segments p v (named noDrive))) (dropping p r g v k none .are) (dropping p r g v k none .every))
 
   pub after-settled : Settled p r (withPr g alone) v₁
   after-settled = record {
@@ -85,7 +81,7 @@ module _ (p : Params) (r : Ranged p) (g : Ghost) (v : View) (k : OnDrives p r g 
     none = none;
     no-pair = refl;
     rest = subst (λ (u : m-View). (z : ℕ) → Used (parOf p r) (g .un) u z → R (parOf p r) (g .hd) u (g .un) z) (sym dropped-items)
-        (rest-of (parOf p r) g (itemsIn p v) (k .facts) none (dropItems p (segments p v (named noDrive))) (d? .are) (d? .every));
+        (rest-of (parOf p r) g (itemsIn p v) (k .facts) none (dropItems p (segments p v (named noDrive))) (dropping p r g v k none .are) (dropping p r g v k none .every));
   }
 
   low-free : (z : ℕ) → Has z (freeZones p (segments p v (named noDrive))) → z < p .Z

@@ -24,8 +24,8 @@ use Rattle.proof_crash_calls.specs.Cells.{SameSlot, add-same, begin-same}
 use Rattle.proof_crash_calls.specs.Placed.{placed-other}
 use Rattle.spec_demands.specs.Tables.{Pending, noPending}
 use Rattle.law_drives.specs.Members.{keep-nothing, getD-in}
+use Rattle.law_drives.specs.States.{StateOk}
 use Rattle.law_drives.specs.Tests.{clash, or-cases, or-true-right}
-use Rattle.proof_tables.specs.Idle.{StateOk}
 use Rattle.proof_tables.specs.Run.{flies, Lists, Healthy}
 use Rattle.proof_tables.specs.Slots.{begin-number, begin-filled, begin-landed, begin-writes, add-filled, add-filled-other, add-number, free-is, some-flies}
 use Rattle.proof_flights.specs.Eighths.{freshly, plus, waitsOf, Eighth, long-of, eighth-same, eighth-add}

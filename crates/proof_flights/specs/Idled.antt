@@ -25,12 +25,13 @@ use Rattle.spec.specs.Read.Found.{nowhere, here, away}
 use Rattle.spec.specs.Segments.{Segment}
 use Rattle.law_lent.specs.Shorts.{write-keeps, land-keeps, close-keeps, reclaim-keeps, read-keeps, fill-keeps, restart-keeps, rebuild-keeps}
 use Rattle.spec_demands.specs.Tables.{Pending, pendingBy, stillPending, pendingAfter}
-use Rattle.law_drives.specs.Checks.{Passes, refusal-kind}
+use Rattle.law_drives.specs.Checks.{Passes}
 use Rattle.law_drives.specs.Tests.{clash, cond-false, and-false-left, or-neither}
 use Rattle.proof_tables.specs.Outcomes.{Ended, ended, cut-cut}
 use Rattle.proof_tables.specs.Outcomes.Ended.{ended-refused, ended-done, ended-cut}
 use Rattle.proof_tables.specs.Run.{Run}
 use Rattle.law_views.specs.Views.{seen}
+use Rattle.law_calls.specs.Refusals.{refusal-kind}
 use Rattle.proof_flights.specs.Flown.{Flown}
 
 -- ---- the writes that wait, after an answer that sends none and lands none

@@ -29,27 +29,29 @@ use Rattle.law_basic.specs.Ranges.{Test, test, and-left, and-right}
 use Rattle.law_basic.specs.Ranges.Test.{yes!, no! }
 use Rattle.law_basic.specs.Stores.{storeAll-append}
 use Rattle.law_views.specs.Views.{seen}
+use Rattle.law_calls.specs.Refusals.{refusal-kind}
 use Rattle.spec_demands.specs.Layouts.{ParityMade}
 use Rattle.spec_demands.specs.Tables.{Pending, pendingBy, stillPending, pendingAfter, noPending, pendingIn, openIn, landingStores, Lands}
 use Rattle.spec_demands.specs.Engines.{onValues, callWorld, viewIn}
-use Rattle.law_drives.specs.Checks.{Passes, refusal-kind}
+use Rattle.law_drives.specs.Checks.{Passes}
 use Rattle.law_drives.specs.Joins.{roomy-append, within-append}
 use Rattle.law_drives.specs.Members.{In, in-keep, map-in, in-getD}
+use Rattle.law_drives.specs.Slots.{block-long! }
+use Rattle.law_drives.specs.States.{StateOk, state-of}
 use Rattle.law_drives.specs.Tests.{clash, not-so, cond-true, cond-false}
 use Rattle.law_drives.specs.Zones.{Shaped, Within, Roomy, shaped-after}
 use Rattle.proof_tables.specs.Chunks.{chunk-roomy, chunk-tidy, chunk-open, chunk-healthy, all-behind, none-left, open-after, uncounted-yet, counts-now}
-use Rattle.proof_tables.specs.Filling.{block-long! }
 use Rattle.proof_tables.specs.Going.{buffer-long}
-use Rattle.proof_tables.specs.Idle.{StateOk, state-of}
 use Rattle.proof_tables.specs.Landings.{Waits, waits}
 use Rattle.proof_tables.specs.Outcomes.{Ended, ended}
 use Rattle.proof_tables.specs.Outcomes.Ended.{ended-refused, ended-done, ended-cut}
 use Rattle.proof_tables.specs.Run.{flies, Healthy, Well, Run}
 use Rattle.proof_tables.specs.Sealing.{seal-roomy, seal-within, seal-sealed}
+use Rattle.proof_flights.specs.Eighths.{flight-data}
 use Rattle.proof_flights.specs.Flown.{sentOf, Flights, Flown}
 use Rattle.proof_flights.specs.Idled.{flown-ended}
 use Rattle.proof_flights.specs.Written.{well-of, seen-after, parity-none, flown-of}
-use Rattle.proof_flights.specs.LandedChunk.{flies1, stripe1, chunk-flights, chunk-parities, flight-data, flight-stripe}
+use Rattle.proof_flights.specs.LandedChunk.{flies1, stripe1, chunk-flights, chunk-parities, flight-stripe}
 use Rattle.proof_flights.specs.LandedFree.{elsewhere, elsewhere-all, free-flights, seal-parities, seal-counts}
 
 -- ---- the writes that wait after an answer

@@ -35,13 +35,14 @@ use Rattle.law_drives.specs.Members.{in-all, map-cong}
 use Rattle.law_drives.specs.Range.{capacity-over}
 use Rattle.law_drives.specs.Segs.{data-low, low-data, present-in}
 use Rattle.law_drives.specs.Spots.{counts-in}
-use Rattle.law_drives.specs.Tests.{or-true-left, cond-true, cond-false, eqb-self}
+use Rattle.law_drives.specs.States.{StateOk}
+use Rattle.law_drives.specs.Tests.{or-true-left, cond-false, eqb-self}
 use Rattle.law_drives.specs.Zones.{Shaped}
 use Rattle.proof_tables.specs.Chunks.{cells-differ, pointer-some, pointer-data, chunk-zone, chunk-other, chunk-pointer, pointer-else, chunk-grows, mask-now}
 use Rattle.proof_tables.specs.Chunks.{chunk-open, open-before, open-after, all-landed, uncounted-yet, landed-chunk, all-filled}
-use Rattle.proof_tables.specs.Idle.{StateOk}
 use Rattle.proof_tables.specs.Run.{flies, Flight, Open, Healthy}
 use Rattle.proof_tables.specs.Slots.{mark-landed-other, mark-offset, mark-offset-other}
+use Rattle.proof_flights.specs.Eighths.{flight-data}
 use Rattle.proof_flights.specs.Flown.{sentOf, Flights}
 use Rattle.proof_flights.specs.LandedPieces.{piece-parts, Extends, extends-piece, extends-back, data-drives-in, parity-grows}
 use Rattle.proof_flights.specs.Pieces.{ParityAt}
@@ -66,11 +67,6 @@ put-below p q w x e l n y = let (a, c) = data-low p w x y in low-data p q x a (g
 -- ---- records in flight
 
 module _ (p : Params) (st : State) (i : ℕ) where
-  -- of data the entry, of parity the exclusive or of all
-  pub flight-data : (e : ℕ) → isData p (stripeIn st i) e ≡ true → flightRec p st i e ≡ entryIn st i (dataPosition p (stripeIn st i) e)
-  unfolding flightRec
-  flight-data e q = cond-true (isData p (stripeIn st i) e) (entryIn st i (dataPosition p (stripeIn st i) e)) (parityRec (stripeIn st i) (entriesIn st i)) q
-
   pub flight-parity : (e : ℕ) → isData p (stripeIn st i) e ≡ false → flightRec p st i e ≡ parityRec (stripeIn st i) (entriesIn st i)
   unfolding flightRec
   flight-parity e q = cond-false (isData p (stripeIn st i) e) (entryIn st i (dataPosition p (stripeIn st i) e)) (parityRec (stripeIn st i) (entriesIn st i)) q
@@ -85,7 +81,7 @@ module _ (p : Params) (st : State) (i : ℕ) where
       par! = unfold parityRec in refl
 
       go : Test (isData p (stripeIn st i) e) → flightRec p st i e .stripe ≡ stripeIn st i
-      go (yes! q) = ap (λ (x : Rec). x .stripe) (flight-data e q) ∙ entry! (dataPosition p (stripeIn st i) e)
+      go (yes! q) = ap (λ (x : Rec). x .stripe) (flight-data p st i e q) ∙ entry! (dataPosition p (stripeIn st i) e)
       go (no! q) = ap (λ (x : Rec). x .stripe) (flight-parity e q) ∙ par!
 
 module _ (p : Params) (r : Ranged p) (v : View) (st : State) (z i : ℕ) (f : Flight p v st z i) (full : filledIn st i ≡ dataCount p) (so : stripeIn st i < p .S) where

@@ -19,10 +19,10 @@ use Rattle.spec.specs.Drives.{noChunk, Zone, View, zoneAt, pointerAt, chunkAt, 
 use Rattle.spec.specs.Engine.{storeCount, lentBlock, verdict, lentOk, callOn, callDisk}
 use Rattle.spec.specs.Engine.Call.{reclaim}
 use Rattle.spec.specs.Layout.{Rec}
-use Rattle.spec.specs.Lists.{Opt, isMember, keep, isNil, firstOr}
+use Rattle.spec.specs.Lists.{Opt, keep, isNil, firstOr}
 use Rattle.spec.specs.Memory.{Memory, mkMemory, openSegment, stateFaults}
 use Rattle.spec.specs.Params.{between, inRange, capacity, placeBlock, placeZone, placeDrive, drivesOf}
-use Rattle.spec.specs.Reclaim.{placesIn, tableFaults, segmentPlaces, liveIn, flying, Victim, victim, isNone, victimSegment, victimLive}
+use Rattle.spec.specs.Reclaim.{placesIn, tableFaults, liveIn, flying, Victim, victim, isNone, victimSegment, victimLive}
 use Rattle.spec.specs.Reclaim.{idle, reclaimChecks, cleared, resetPlan, copyPlan, reclaimVerdict}
 use Rattle.spec.specs.Segments.{Segment, segmentOf, counts}
 use Rattle.spec.specs.Write.{opens, noSerial, mustWait, scarce, Sending, sending}
@@ -33,30 +33,29 @@ use Rattle.proof_crash_calls.specs.Cells.{SameSlot}
 use Rattle.spec_demands.specs.Layouts.{Remains, ParityMade}
 use Rattle.spec_demands.specs.Tables.{Pending, pendingAfter}
 use Rattle.law_drives.specs.Checks.{Passes}
-use Rattle.law_drives.specs.Fewest.{sealed-full}
-use Rattle.law_drives.specs.Members.{In, keep-in, first-in, is-member}
+use Rattle.law_drives.specs.Members.{In, keep-in, first-in}
 use Rattle.law_drives.specs.Range.{capacity-over}
 use Rattle.law_drives.specs.Records.{record-low}
 use Rattle.law_drives.specs.Resets.{reset-same, reset-roomy, reset-within, reset-was, reset-tidy}
 use Rattle.law_drives.specs.Segs.{remaining-low}
-use Rattle.law_drives.specs.Settled.{SameZones}
+use Rattle.law_drives.specs.Settled.{SameZones, sealed-full}
 use Rattle.law_drives.specs.Spots.{cand-zone, spot-block, spot-drive}
 use Rattle.law_drives.specs.Tests.{clash, or-left, or-right, cond-true, cond-false}
 use Rattle.law_drives.specs.Zones.{Shaped}
 use Rattle.proof_tables.specs.Bounds.{open-short}
 use Rattle.proof_tables.specs.Going.{address-table, buffer-long}
-use Rattle.proof_tables.specs.Idle.{StateOk, state-of}
 use Rattle.proof_tables.specs.Live.{Pointed, places-pointed}
 use Rattle.proof_tables.specs.Outcomes.{ended}
-use Rattle.proof_tables.specs.Reclaiming.{taken}
+use Rattle.proof_tables.specs.Reclaiming.{taken, live-in}
 use Rattle.proof_tables.specs.Run.{flies, Healthy, Well, Run}
-use Rattle.proof_tables.specs.Sending.{sends}
+use Rattle.proof_tables.specs.Sending.{sends, plenty}
 use Rattle.law_views.specs.Views.{seen}
+use Rattle.law_drives.specs.States.{StateOk, state-of}
 use Rattle.proof_flights.specs.Flocks.{none-more, flock-of, of-flock, flock-same}
 use Rattle.proof_flights.specs.Flown.{Flights, Flown}
 use Rattle.proof_flights.specs.Idled.{Quiet, pending-quiet, quiet-kind, flown-as, flown-ended}
 use Rattle.proof_flights.specs.Pieces.{parity-zones, remains-of-used, used-of-remains}
-use Rattle.proof_flights.specs.Sent.{some-empty, leaves-sent}
+use Rattle.proof_flights.specs.Sent.{leaves-sent}
 use Rattle.proof_flights.specs.Written.{well-of, seen-after, parity-none, flown-of}
 
 -- ---- a sealed segment is reset
@@ -104,12 +103,6 @@ module _ (p : Params) (r : Ranged p) (v : View) (sh : Shaped p v) (g : ℕ) (hg 
           inl (remains-of-used p r v n (h .tidy) y hy w, reset-same p r v sh g hg y hy ne)
 
 -- ---- the call
-
-live-in : (p : Params) (qs : List ℕ) (g q : ℕ) → In q (liveIn p qs g) → In q qs
-live-in p qs g q m = is-member q qs (keep-in (λ q. isMember q qs) (segmentPlaces p g) q (as! m) .1)
-  where
-    as! : In q (liveIn p qs g) → In q (keep (λ q. isMember q qs) (segmentPlaces p g))
-    as! m = unfold liveIn in m
 
 module _ (p : Params) (k : Disk) (m : Memory) (u : Run p k m) (ws : List Pending) (old : List Segment) (f : Flown p k m ws old) (n : ℕ) where
   abbrev v : View
@@ -205,9 +198,9 @@ module _ (p : Params) (k : Disk) (m : Memory) (u : Run p k m) (ws : List Pending
       let bu = buffer-long p k m u we in
       let b = chunkAt v d (placeZone p q) (placeBlock p q) .block in
       let s = sends p rg v sh st (we .healthy) so (m .inflight) bu (rec q .address) (rec q .stamp) 0 b (subst (λ (y : Rec). y .address < 256 ^ 8) (sym er) (low .0))
-      (subst (λ (y : Rec). y .stamp < 256 ^ 8) (sym er) (low .1)) (omega arith) lb nw ns (λ z. some-empty p v 1 (sc z)) in
+      (subst (λ (y : Rec). y .stamp < 256 ^ 8) (sym er) (low .1)) (omega arith) lb nw ns (λ z. plenty p v 1 (sc z)) in
       let le = leaves-sent p rg v sh st (we .healthy) so (m .inflight) bu ws old (f .flights (we .none-missing)) (parity-none p k m ws old f (we .none-missing)) (rec q .address) (rec q .stamp) 0 b
-      (inl refl) lb nw ns (λ z. some-empty p v 1 (sc z)) in
+      (inl refl) lb nw ns (λ z. plenty p v 1 (sc z)) in
       let e = copied q in
       let k′ = storeAll (storeDisk p) (e .stores) k in
       let m′ = mkMemory (e .state) (m .addresses) (m .compact) (e .inflight) in

@@ -19,17 +19,18 @@ use Rattle.spec.specs.Lists.{isMember, isNil, flat}
 use Rattle.spec.specs.Memory.{Memory, idleState, filledIn}
 use Rattle.spec.specs.Params.{inRange, named, present}
 use Rattle.spec.specs.Rebuild.{namesMissing, rebuildChecks, rebuildStores, rebuildVerdict}
-use Rattle.spec.specs.Restart.{freeZones, dropStores, mendStores, restartStores, restartMemory, rewrites, restartPlan, restartVerdict}
+use Rattle.spec.specs.Restart.{freeZones, dropStores, mendStores, restartStores, restartMemory, rewrites, restartPlan}
 use Rattle.spec.specs.Segments.{lowDrive, remaining, Segment, segmentOf, segments, recsOn, hasChunk, counts, greatestSerial, unsealed}
 use Rattle.law_basic.specs.Geometry.{Ranged, ranged}
 use Rattle.law_basic.specs.Ranges.{Test, test, and-left, and-right}
 use Rattle.law_basic.specs.Ranges.Test.{yes!, no! }
 use Rattle.law_basic.specs.Stores.{storeAll-append}
 use Rattle.law_views.specs.Views.{Whole, seen, view-stores}
+use Rattle.law_calls.specs.Refusals.{refusal-kind, refused-unfinished}
 use Rattle.spec_demands.specs.Layouts.{Remains, foundCounted}
 use Rattle.spec_demands.specs.Tables.{Pending, pendingBy, stillPending, pendingAfter, foundAfter}
 use Rattle.law_drives.specs.Accept.{Accepted}
-use Rattle.law_drives.specs.Checks.{Passes, refusal-kind}
+use Rattle.law_drives.specs.Checks.{Passes}
 use Rattle.law_drives.specs.Dropping.{drop-roomy, drop-within}
 use Rattle.law_drives.specs.Frame.{Agree, core, same-remaining, same-core}
 use Rattle.law_drives.specs.Joins.{roomy-append, within-append}
@@ -43,11 +44,12 @@ use Rattle.law_drives.specs.Segs.{remaining-low}
 use Rattle.law_drives.specs.Tables.{zero-at}
 use Rattle.law_drives.specs.Tests.{clash, or-right, or-true-right, cond-true, cond-false}
 use Rattle.law_drives.specs.Zones.{Shaped, all-fit}
-use Rattle.proof_tables.specs.Outcomes.{Ended, ended, refused-unfinished, cut-unfinished, cut-cut}
+use Rattle.proof_tables.specs.Outcomes.{Ended, ended, cut-unfinished, cut-cut}
 use Rattle.proof_tables.specs.Outcomes.Ended.{ended-refused, ended-done, ended-cut}
 use Rattle.proof_tables.specs.Run.{flies, Run}
 use Rattle.proof_tables.specs.Slots.{none-flies}
 use Rattle.proof_tables.specs.Starting.{memory-missing, startChecks, startPlan, Begins, begins}
+use Rattle.proof_tables.specs.Theorem.{restart-ends}
 use Rattle.proof_flights.specs.Flown.{Flights, Found, Flown}
 use Rattle.proof_flights.specs.Idled.{quiet-refused, flown-still, flown-ended}
 use Rattle.proof_flights.specs.Written.{seen-after, flown-of}
@@ -165,10 +167,6 @@ module _ (p : Params) (k : Disk) (m : Memory) (d : ℕ) (shk : Whole p k → Sha
       go : Test (eqb (named d) 0) → Flown p (storeAll (storeDisk p) (plan .stores) k) (plan .memory) [] (segments p v (named d))
       go (yes! q) = well-flown (eqb-true (named d) 0 q)
       go (no! q) = lost-flown q
-
-restart-ends : (p : Params) (k : Disk) (m : Memory) (d n : ℕ) → Ended p k m (startChecks p k m d) (startPlan p k m d) (callDisk p k m (restart d n))
-unfolding callDisk callOn verdict storeCount lentBlock restartVerdict
-restart-ends p k m d n = ended p k m (startChecks p k m d) (startPlan p k m d) n []
 
 -- after a restart that finished, on any bytes
 pub flown-restart : (p : Params) (k : Disk) (m : Memory) (d n : ℕ) → (Whole p k → Shaped p (seen p k)) → finished (callDisk p k m (restart d n) .answer) ≡ true

@@ -18,7 +18,7 @@ use Rattle.spec.specs.Lists.{below, any, keep, isNil, flat, firstOr}
 use Rattle.spec.specs.Restart.{freeZones, isWhole, isRagged, missingFooters, rewriteStores, dropStores, mendStores, rewrites}
 use Rattle.spec.specs.Segments.{headerAt, remaining, Segment, segmentOf, segments, counts, counted, greatestSerial, unsealed}
 use Rattle.law_basic.specs.Geometry.{Ranged}
-use Rattle.law_basic.specs.Ranges.{Test, test, and-both, length-below, keep-hit, keep-miss, length-keep}
+use Rattle.law_basic.specs.Ranges.{Test, test, and-both, length-below}
 use Rattle.law_basic.specs.Ranges.Test.{yes!, no! }
 use Rattle.spec_demands.specs.Layouts.{Remains, foundCounted, ParityMade}
 use Rattle.law_drives.specs.Accept.{Accepted}
@@ -33,21 +33,11 @@ use Rattle.law_drives.specs.Settled.{low-first, remains-is-used, SameZones, zon
 use Rattle.law_drives.specs.Tables.{remains, in-remaining}
 use Rattle.law_drives.specs.Tests.{clash, eqb-self}
 use Rattle.law_drives.specs.Tidy.{usedAt, Tidy}
-use Rattle.law_drives.specs.Unsealed.{Loose, loose}
+use Rattle.law_drives.specs.Unsealed.{Loose, loose, keep-full}
 use Rattle.law_drives.specs.Unsealed.Loose.{loose-none, loose-one}
 use Rattle.law_drives.specs.Zones.{Shaped}
 use Rattle.proof_flights.specs.Pieces.{ParityAt}
 use Rattle.proof_flights.specs.RestartedMoved.{rewritten-made}
-
--- a test that as many pass as there are is passed by all
-keep-full : {A : Type 0} (f : A → Bool) (l : List A) → length (keep f l) ≡ length l → (a : A) → In a l → f a ≡ true
-keep-full f [] e a m = absurd m
-keep-full f (b ∷ l) e a m = go (test (f b)) m (keep-full f l)
-  where
-    go : Test (f b) → (a ≡ b) ⊎ In a l → (length (keep f l) ≡ length l → (c : _) → In c l → f c ≡ true) → f a ≡ true
-    go (yes! q) (inl x) ih = ap f x ∙ q
-    go (yes! q) (inr x) ih = ih (let k = ap length (sym (keep-hit f b l q)) ∙ e in let w : length (keep f l) ≡ length l = omega arith in w) a x
-    go (no! q) x ih = absurd (let k = ap length (sym (keep-miss f b l q)) ∙ e in let w = length-keep f l in let bad : ⊥ = omega arith in bad)
 
 -- a counted stripe of a view is found in it
 pub found-in : (p : Params) (v : View) (gone g s : ℕ) → Remains p v gone g → counts p gone (segmentOf p v gone g) s ≡ true

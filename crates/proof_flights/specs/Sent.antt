@@ -1,6 +1,6 @@
 -- A block is sent, by a write or a copy: it fills a position, begins a stripe, or opens a segment, whose headers add no stripe that counts. Assumes nothing.
 use mathlib.Core.Path.{_≡_, refl, sym, ap, ap₂, _∙_, subst}
-use mathlib.Core.List.{List, [], _∷_}
+use mathlib.Core.List.{List, []}
 use mathlib.Core.Bool.{Bool, true, false, not, _&&_, _||_}
 use mathlib.Core.Logic.{_⊎_, inl, inr}
 use Prim.Native.Nat.{ℕ, suc, _^_, _<_}
@@ -18,19 +18,19 @@ use Rattle.spec.specs.Lists.{below, any, isNil, firstOr}
 use Rattle.spec.specs.Memory.{slotCount, stripeIn, filledIn, isFree, inFlight, freeSlot, fillingSlot, hasFilling, setOpen, beginStripe, addEntry}
 use Rattle.spec.specs.Params.{dataCount, inflightLen}
 use Rattle.spec.specs.Segments.{Segment, segmentOf, counts}
-use Rattle.spec.specs.Write.{mustOpen, opens, noSerial, otherGroup, mustWait, scarce, placed, Sending, openedBy, slotFor, begunBy, sending}
+use Rattle.spec.specs.Write.{mustOpen, opens, noSerial, otherGroup, mustWait, placed, Sending, openedBy, slotFor, begunBy, sending}
 use Rattle.law_basic.specs.Geometry.{Ranged, data-count-low}
 use Rattle.law_basic.specs.Ranges.{Test, test}
 use Rattle.law_basic.specs.Ranges.Test.{yes!, no! }
 use Rattle.spec_demands.specs.Layouts.{Remains, ParityMade}
 use Rattle.spec_demands.specs.Tables.{Pending}
-use Rattle.law_drives.specs.Headers.{header-other, header-pointer}
+use Rattle.law_drives.specs.Headers.{header-other, header-pointer, empty-all}
 use Rattle.law_drives.specs.Members.{In, keep-in, below-in, first-in, in-some}
 use Rattle.law_drives.specs.Settled.{SameZones, zones-used}
+use Rattle.law_drives.specs.States.{StateOk}
 use Rattle.law_drives.specs.Tests.{clash, or-left, or-right, or-cases, or-true-right, not-so}
 use Rattle.law_drives.specs.Zones.{Shaped}
-use Rattle.proof_tables.specs.Heading.{empty-all, head-tidy}
-use Rattle.proof_tables.specs.Idle.{StateOk}
+use Rattle.proof_tables.specs.Heading.{head-tidy}
 use Rattle.proof_tables.specs.Run.{flies, Lists, Healthy}
 use Rattle.proof_tables.specs.Sending.{filling-slot, free-slot, in-flight}
 use Rattle.proof_tables.specs.Slots.{begin-number, begin-number-other, begin-filled, begin-filled-other, begin-lists, free-is}
@@ -38,17 +38,6 @@ use Rattle.proof_flights.specs.Eighths.{freshly, plus}
 use Rattle.proof_flights.specs.Flocks.{Flock, open-of, flock-of, of-flock, flock-busy, flock-bare, bare-flock, flock-begin, flock-add, flies-add, flies-stay}
 use Rattle.proof_flights.specs.Flown.{Flights}
 use Rattle.proof_flights.specs.Pieces.{bare-counts, parity-zones, remains-of-used, used-of-remains}
-
--- more zones than some number are empty: one is
-pub some-empty : (p : Params) (v : View) (n : ℕ) → scarce p v n ≡ false → isNil (emptyZones p v) ≡ false
-some-empty p v n q = go (emptyZones p v) (few q)
-  where
-    few : scarce p v n ≡ false → n < length (emptyZones p v)
-    few q = unfold scarce in leb-false (length (emptyZones p v)) n q
-
-    go : (l : List ℕ) → n < length l → isNil l ≡ false
-    go [] h = absurd (let z : ⊥ = omega arith in z)
-    go (x ∷ l) h = unfold isNil in refl
 
 -- ---- a segment is opened: parity stays right
 

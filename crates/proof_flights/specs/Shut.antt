@@ -32,12 +32,12 @@ use Rattle.law_drives.specs.Checks.{Passes}
 use Rattle.law_drives.specs.Tests.{or-left}
 use Rattle.proof_tables.specs.Filling.{placed-long}
 use Rattle.proof_tables.specs.Going.{buffer-long}
-use Rattle.proof_tables.specs.Idle.{state-of}
 use Rattle.proof_tables.specs.Outcomes.{ended}
 use Rattle.proof_tables.specs.Run.{flies, Lists, Run}
 use Rattle.proof_tables.specs.Sending.{filling-slot}
 use Rattle.proof_tables.specs.Slots.{add-filled, add-number, add-lists}
 use Rattle.law_views.specs.Views.{seen}
+use Rattle.law_drives.specs.States.{state-of}
 use Rattle.proof_flights.specs.Eighths.{freshly}
 use Rattle.proof_flights.specs.Flocks.{Flock, open-of, none-more, flock-of, of-flock, flock-busy, flock-add, flies-stay}
 use Rattle.proof_flights.specs.Flown.{Flown}

@@ -37,16 +37,16 @@ use Rattle.law_drives.specs.Range.{capacity-word}
 use Rattle.law_drives.specs.Tests.{clash, or-left, or-right}
 use Rattle.law_drives.specs.Zones.{Within, Roomy, all-fit}
 use Rattle.proof_tables.specs.Going.{address-small, buffer-long}
-use Rattle.proof_tables.specs.Idle.{StateOk, state-of}
 use Rattle.proof_tables.specs.Outcomes.{ended}
 use Rattle.proof_tables.specs.Run.{Healthy, Well, Run}
-use Rattle.proof_tables.specs.Sending.{sends}
+use Rattle.proof_tables.specs.Sending.{sends, plenty}
 use Rattle.law_views.specs.Views.{seen, view-stores}
+use Rattle.law_drives.specs.States.{StateOk, state-of}
 use Rattle.proof_flights.specs.Eighths.{plus}
 use Rattle.proof_flights.specs.Flocks.{flock-of, of-flock, flock-same}
 use Rattle.proof_flights.specs.Flown.{Flights, Flown}
 use Rattle.proof_flights.specs.Idled.{flown-as, flown-ended}
-use Rattle.proof_flights.specs.Sent.{some-empty, leaves-sent}
+use Rattle.proof_flights.specs.Sent.{leaves-sent}
 
 -- ---- what every call that stores shares
 
@@ -123,7 +123,7 @@ module _ (p : Params) (k : Disk) (m : Memory) (u : Run p k m) (ws : List Pending
         let ns = or-right (noStamp st) (noSerial p st) c6 in
         let fl = m .inflight in
         let bu = buffer-long p k m u we in
-        let ne : isNil (emptyZones p v) ≡ false = some-empty p v (cond (opens p st) 2 1) c8 in
+        let ne : isNil (emptyZones p v) ≡ false = plenty p v (cond (opens p st) 2 1) c8 in
         let sh = u .base .shaped in
         let h = we .healthy in
         let no = we .none-missing in

@@ -36,7 +36,7 @@ use Rattle.law_basic.specs.Ranges.Test.{yes!, no! }
 use Rattle.law_basic.specs.Stores.{storeAll-append}
 use Rattle.law_drives.specs.Checks.{Passes}
 use Rattle.law_drives.specs.Frame.{Agree, same-remaining, same-sealed, same-core, core}
-use Rattle.law_drives.specs.Headers.{header-roomy, header-within}
+use Rattle.law_drives.specs.Headers.{header-roomy, header-within, empty-all}
 use Rattle.law_drives.specs.Joins.{roomy-append, within-append, roomy-none, stores-none}
 use Rattle.law_drives.specs.Lengths.{whole-of}
 use Rattle.law_drives.specs.Masks.{named-in, named-some, low-present}
@@ -49,10 +49,7 @@ use Rattle.law_drives.specs.Tests.{clash, or-left, or-right, cond-true, cond-fa
 use Rattle.law_drives.specs.Tidy.{usedAt, Tidy}
 use Rattle.law_drives.specs.Zones.{Shaped, Within, Roomy, all-fit, shaped-after}
 use Rattle.proof_tables.specs.Chunks.{chunk-roomy, all-behind, open-after}
-use Rattle.proof_tables.specs.Filling.{block-long! }
 use Rattle.proof_tables.specs.Going.{buffer-long}
-use Rattle.proof_tables.specs.Heading.{empty-all}
-use Rattle.proof_tables.specs.Idle.{StateOk, state-of}
 use Rattle.proof_tables.specs.Landings.{Waits, waits}
 use Rattle.proof_tables.specs.Losing.{named-same}
 use Rattle.proof_tables.specs.Outcomes.{Ended, ended, cut-cut}
@@ -63,6 +60,8 @@ use Rattle.proof_tables.specs.Run.{Lost, Healthy, Well, Run}
 use Rattle.proof_tables.specs.Sealing.{seal-roomy, seal-within}
 use Rattle.proof_tables.specs.Theorem.{stepped}
 use Rattle.law_views.specs.Views.{Whole, seen, view-stores}
+use Rattle.law_drives.specs.Slots.{block-long! }
+use Rattle.law_drives.specs.States.{StateOk, state-of}
 use Rattle.proof_layout.specs.Laid.{Laid, ZoneLaid, Zoned, WellLaid, laid-zoned, laid-accepted, laid-tidy, tidy-laid}
 use Rattle.proof_layout.specs.Segments.{opened-laid, reset-laid, chunk-laid, seal-laid}
 

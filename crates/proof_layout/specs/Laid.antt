@@ -1,5 +1,5 @@
 -- The layout without parity, zone by zone: what one zone must hold, and how it follows from the checks of a restart or from tidy segments. Assumes nothing.
-use mathlib.Core.Path.{_≡_, refl, sym, ap, ap₂, _∙_, subst}
+use mathlib.Core.Path.{_≡_, refl, sym, ap, _∙_, subst}
 use mathlib.Core.List.{List, [], _∷_, map}
 use mathlib.Core.Bool.{Bool, true, false, not, _&&_}
 use Prim.Native.Nat.{ℕ, zero, suc, _+_, _≤_, _<_}
@@ -22,13 +22,13 @@ use Rattle.law_basic.specs.Mask.{isIn-empty}
 use Rattle.law_basic.specs.Ranges.{Test, test, and-left, and-right, and-both, length-upFrom, getD-upFrom, getD-map, sameList-true}
 use Rattle.law_basic.specs.Ranges.Test.{yes!, no! }
 use Rattle.spec_demands.specs.Layouts.{Here, Remains, foundSealed, ParityMade, Layout}
-use Rattle.law_drives.specs.Accept.{Accepted, pointer-ok, faults-apart, zone-stripes, in-groups, copied-low, serials-differ}
+use Rattle.law_drives.specs.Accept.{Accepted, pointer-ok, faults-apart, zone-stripes, in-groups, copied-low, serials-differ, same-blocks}
 use Rattle.law_drives.specs.Footers.{sparesIn}
 use Rattle.law_drives.specs.Members.{In, in-map, in-any, none-in, in-getD, is-member, member-is}
 use Rattle.law_drives.specs.Records.{blocks-at}
 use Rattle.law_drives.specs.Segs.{in-present, length-records, record-at, zone-by, seg-is, copied-is, full-is}
 use Rattle.law_drives.specs.Settled.{low-first, used-remains, remains-is-used, serial-of, SameZones, zones-sealed, zones-header}
-use Rattle.law_drives.specs.Tests.{clash, true-false, or-left, or-right, eqb-self}
+use Rattle.law_drives.specs.Tests.{clash, or-left, or-right, eqb-self}
 use Rattle.law_drives.specs.Tidy.{usedAt, Tidy}
 
 -- 01, What a zone holds: all of the layout but the parity
@@ -168,13 +168,6 @@ twice-once (r ∷ rs) n zero zero h k e = refl
 twice-once (r ∷ rs) n zero (suc i) h k e = absurd (head-apart r rs (or-left (any (λ (q : Rec). eqb (q .stripe) (r .stripe)) rs) (twice rs) n) i (omega arith) (sym e))
 twice-once (r ∷ rs) n (suc o) zero h k e = absurd (head-apart r rs (or-left (any (λ (q : Rec). eqb (q .stripe) (r .stripe)) rs) (twice rs) n) o (omega arith) e)
 twice-once (r ∷ rs) n (suc o) (suc i) h k e = ap suc (twice-once rs (or-right (any (λ (q : Rec). eqb (q .stripe) (r .stripe)) rs) (twice rs) n) o i (omega arith) (omega arith) e)
-
-same-blocks : (s t : List (List ℕ)) → sameBlocks s t ≡ true → s ≡ t
-unfolding sameBlocks
-same-blocks [] [] q = refl
-same-blocks [] (b ∷ t) q = true-false (sym q)
-same-blocks (a ∷ s) [] q = true-false (sym q)
-same-blocks (a ∷ s) (b ∷ t) q = ap₂ _∷_ (sameList-true a b (and-left (sameList a b) (sameBlocks s t) q)) (same-blocks s t (and-right (sameList a b) (sameBlocks s t) q))
 
 -- an unsealed zone's footers are made from its spares
 pub checked-footers : (p : Params) (q : Zone) → footerFaultIn p q ≡ false → (i : ℕ) → i < footersStored p q → getD (q .blocks) (1 + p .S + i) noChunk .block ≡ footerBlock p (sparesIn p q) i

@@ -20,7 +20,7 @@ use Rattle.law_basic.specs.Ranges.{Test, test}
 use Rattle.law_basic.specs.Ranges.Test.{yes!, no! }
 use Rattle.spec_demands.specs.Latest.{Recorded, Latest, SaidIsLatest}
 use Rattle.spec_demands.specs.Latest.Latest.{never, latest}
-use Rattle.law_drives.specs.Best.{Tied, best-in}
+use Rattle.law_drives.specs.Best.{Tied, best-in, some-is}
 use Rattle.law_drives.specs.Members.{In, is-member, member-is}
 use Rattle.law_drives.specs.Segs.{CandAt, cand-at, at-cand}
 use Rattle.law_drives.specs.Spots.{cand-zone, Spot, spot-of}
@@ -51,9 +51,6 @@ not-through a b c n m = not-so (beats a c) (λ q. go (beats-yes a c q) (test (be
 
 not-itself : (a : Cand) → beats a a ≡ false
 not-itself a = not-so (beats a a) (λ q. beats-self a (beats-yes a a q))
-
-some-is : {b c : Cand} → some b ≡ some c → b ≡ c
-some-is e = cc
 
 -- no record of a list beats its best
 unbeaten : (b : Cand) (cs : List Cand) (c : Cand) → best (some b) cs ≡ some c → (beats b c ≡ false) × ((e : Cand) → In e cs → beats e c ≡ false)

@@ -33,7 +33,6 @@ use Rattle.law_basic.specs.Stores.{storeAll-append}
 use Rattle.spec_demands.specs.Engines.{callWorld, onValues, viewIn}
 use Rattle.spec_demands.specs.Tables.{halfStored, uncountedNumber, foundAfter, Restarts}
 use Rattle.law_drives.specs.Accept.{Accepted}
-use Rattle.law_drives.specs.Checks.{refusal-kind}
 use Rattle.law_drives.specs.Dropping.{free-are, drop-same, drop-roomy, drop-within, drop-used, kept-known}
 use Rattle.law_drives.specs.Joins.{roomy-append, within-append, stores-none}
 use Rattle.law_drives.specs.Laid.{header-serial, header-copied}
@@ -53,13 +52,14 @@ use Rattle.law_drives.specs.Tidy.{usedAt}
 use Rattle.law_drives.specs.Unsealed.{Loose, loose}
 use Rattle.law_drives.specs.Unsealed.Loose.{loose-none, loose-one}
 use Rattle.law_drives.specs.Zones.{Shaped}
-use Rattle.proof_tables.specs.Outcomes.{Ended, refused-unfinished, cut-unfinished, cut-cut}
+use Rattle.proof_tables.specs.Outcomes.{Ended, cut-unfinished, cut-cut}
 use Rattle.proof_tables.specs.Outcomes.Ended.{ended-refused, ended-done, ended-cut}
 use Rattle.proof_tables.specs.Restarting.{names-none}
 use Rattle.proof_tables.specs.Run.{Run}
 use Rattle.proof_tables.specs.Starting.{memory-missing, startChecks, startPlan, Begins, begins}
 use Rattle.proof_tables.specs.Theorem.{restart-ends, restart-finished}
 use Rattle.law_views.specs.Views.{Whole, seen}
+use Rattle.law_calls.specs.Refusals.{refusal-kind, refused-unfinished}
 use Rattle.proof_layout.specs.Calls.{Keeps, same-keeps, stored-view, run-tidy}
 use Rattle.proof_layout.specs.Laid.{Laid, ZoneLaid, SegLaid, WellLaid, open-footers, checked-footers, accepted-zoned, laid-accepted, laid-tidy, seg-same}
 use Rattle.proof_layout.specs.Segments.{all-but}

@@ -27,10 +27,10 @@ use Rattle.law_drives.specs.Laid.{header-serial, header-copied}
 use Rattle.law_drives.specs.Puts.{putAll}
 use Rattle.law_drives.specs.Resets.{reset-same, reset-was}
 use Rattle.law_drives.specs.Settled.{SameZones, zones-used}
+use Rattle.law_drives.specs.States.{StateOk}
 use Rattle.law_drives.specs.Tidy.{usedAt}
 use Rattle.law_drives.specs.Zones.{Shaped}
 use Rattle.proof_tables.specs.Chunks.{not-landed, pointer-some, pointer-data, offset-group, stripe-of, chunk-zone, chunk-other, chunk-grows, open-before, open-after}
-use Rattle.proof_tables.specs.Idle.{StateOk}
 use Rattle.proof_tables.specs.Run.{flies, Healthy}
 use Rattle.proof_tables.specs.Sealing.{seal-zone, seal-other, seal-grows, seal-sealed}
 use Rattle.proof_layout.specs.Laid.{ZoneLaid, SegLaid, WellLaid, seg-same}

@@ -4,7 +4,6 @@ use mathlib.Core.List.{List, [], _∷_, _++_}
 use mathlib.Core.Bool.{Bool, true, false}
 use mathlib.Core.Logic.{inl, inr}
 use Prim.Native.Nat.{ℕ, zero, suc, _+_, _-_, _≤_, _<_}
-use native.Mathlib.Nat.{zero-add}
 use native.Mathlib.Decide.{decLt}
 use borrow.Author.Tests.{lt-ltb, ltb-true}
 use native.Mathlib.Omega.{arith}
@@ -12,7 +11,7 @@ use lib.Dec.{ltb}
 use lib.ListN.{length, getD, take, length-append, List·getD-append}
 use lib.Seq.{getD-append-add}
 use Rattle.spec.specs.Lists.{upFrom, below, isMember, consIf, keep, tally}
-use Rattle.law_basic.specs.Ranges.{Test, test, upFrom-add, keep-append, keep-hit, keep-none, keep-below-snoc, below-none, length-below}
+use Rattle.law_basic.specs.Ranges.{Test, test, keep-append, keep-hit, keep-none, keep-below-snoc, below-none, length-below, below-split}
 use Rattle.law_basic.specs.Ranges.Test.{yes!, no! }
 use Rattle.law_drives.specs.Counting.{Different, different-few}
 use Rattle.law_drives.specs.Laid.{in-take}
@@ -20,11 +19,6 @@ use Rattle.law_drives.specs.Members.{In, keep-all, below-in, is-member, member-
 use Rattle.law_drives.specs.Tests.{clash, same-test}
 
 -- ---- the place of a number that is kept
-
--- a range at number m
-below-split : (m k : ℕ) → below (m + k) ≡ below m ++ upFrom m k
-unfolding below
-below-split m k = upFrom-add 0 m k ∙ ap (λ (x : ℕ). upFrom 0 m ++ upFrom x k) (zero-add m)
 
 module _ (f : ℕ → Bool) where
   kept-split : (m k : ℕ) → keep f (below (m + k)) ≡ keep f (below m) ++ keep f (upFrom m k)

@@ -17,7 +17,7 @@ use Rattle.spec.specs.Faults.{sameChunk, headerFault}
 use Rattle.spec.specs.Layout.{headerWidths, headerBlock, headerSerial, headerCopied, Rec, mkRec, recordBytes, recordOf, footerBlock, footerRecord}
 use Rattle.spec.specs.Lists.{below, any, indexOf, sameList, tally, isIn}
 use Rattle.spec.specs.Params.{spareLen, perFooter, footers, capacity, named, present}
-use Rattle.spec.specs.Parity.{Piece, parityRec, parityPiece}
+use Rattle.spec.specs.Parity.{Piece, parityRec}
 use Rattle.spec.specs.Segments.{lowDrive, headerAt, remaining, Segment, recordsIn, segmentOf, recsOn, offsetOn, hasChunk, counts, counted, storedPiece, pieceOf, storedRec, recOf}
 use Rattle.law_basic.specs.Geometry.{Ranged, per-footer-low, footers-cover}
 use Rattle.law_basic.specs.Mask.{isIn-empty}
@@ -30,7 +30,7 @@ use Rattle.law_drives.specs.Members.{In, map-in, in-map, in-keep, all-in, in-al
 use Rattle.law_drives.specs.Range.{capacity-is, capacity-over}
 use Rattle.law_drives.specs.Rebuilding.{counted-in, pieceChunk}
 use Rattle.law_drives.specs.Records.{blocks-at, record-low}
-use Rattle.law_drives.specs.Segs.{present-in, in-present, zone-by, recs-here, seg-is, serial-is, copied-is, full-is, chunk-at, length-records}
+use Rattle.law_drives.specs.Segs.{present-in, in-present, zone-by, recs-here, seg-is, serial-is, copied-is, full-is, chunk-at, length-records, piece-rec}
 use Rattle.law_drives.specs.Settled.{present-all, low-first}
 use Rattle.law_drives.specs.Spots.{counts-in}
 use Rattle.law_drives.specs.Tables.{remains, remaining-in}
@@ -63,17 +63,6 @@ footer-back p r q ss j b l h e f a t s =
 -- numbers of 8 bytes, all together
 xor-low : (l : List ℕ) → ((n : ℕ) → In n l → n < 256 ^ 8) → xorAll l < 256 ^ 8
 xor-low l h = xorAll-lt 64 l (λ i k. h (getD l i 0) (in-getD l i 0 k))
-
--- the record of a piece is the record alone
-pub piece-rec : (p : Params) (gone : ℕ) (x : Segment) (s d : ℕ) → pieceOf p gone x s d .rec ≡ recOf p gone x s d
-piece-rec p gone x s d = go (isIn gone d) refl
-  where
-    alike : map (λ (q : Piece). q .rec) (map (storedPiece x s) (present p gone)) ≡ map (storedRec x s) (present p gone)
-    alike = map-map (λ (q : Piece). q .rec) (storedPiece x s) (present p gone) ∙ (unfold storedPiece storedRec in refl)
-
-    go : (b : Bool) → isIn gone d ≡ b → pieceOf p gone x s d .rec ≡ recOf p gone x s d
-    go true e = unfold pieceOf recOf parityPiece in rw e (ap (parityRec s) alike)
-    go false e = unfold pieceOf recOf storedPiece storedRec in rw e
 
 module _ (p : Params) (v : View) (d : ℕ) (lo : Loss p v d) (g : ℕ) (m : In g (remaining p v (named d))) where
   abbrev r : Ranged p

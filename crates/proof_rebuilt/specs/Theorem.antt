@@ -31,8 +31,9 @@ use Rattle.law_basic.specs.Ranges.{and-left, and-right}
 use Rattle.spec_demands.specs.Engines.{callWorld, onValues, viewIn}
 use Rattle.spec_demands.specs.Tables.{Rebuilds}
 use Rattle.law_views.specs.Views.{seen, view-stores}
+use Rattle.law_calls.specs.Refusals.{refusal-kind}
 use Rattle.law_drives.specs.Accept.{Accepted, checks-of}
-use Rattle.law_drives.specs.Checks.{Clear, clear, refusal-kind}
+use Rattle.law_drives.specs.Checks.{Clear, clear}
 use Rattle.law_drives.specs.Lengths.{whole-of}
 use Rattle.law_drives.specs.Masks.{named-some}
 use Rattle.law_drives.specs.Range.{capacity-word}

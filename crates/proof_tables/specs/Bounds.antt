@@ -13,8 +13,8 @@ use Rattle.spec.specs.Params.{capacity}
 use Rattle.law_basic.specs.Geometry.{Ranged}
 use Rattle.law_drives.specs.Range.{capacity-over}
 use Rattle.law_drives.specs.Settled.{SameZones}
+use Rattle.law_drives.specs.States.{StateOk}
 use Rattle.law_drives.specs.Tidy.{spareAt}
-use Rattle.proof_tables.specs.Idle.{StateOk}
 use Rattle.proof_tables.specs.Run.{flies, awaits, Flight, Open}
 
 -- ---- the open segment, where its zones are the same

@@ -16,10 +16,10 @@ use Rattle.spec.specs.Memory.{slots, stripeIn, filledIn, landedIn, entryIn, off
 use Rattle.spec.specs.Params.{capacity}
 use Rattle.law_basic.specs.Geometry.{Ranged}
 use Rattle.law_drives.specs.Range.{data-count}
+use Rattle.law_drives.specs.States.{StateOk}
 use Rattle.law_drives.specs.Tests.{or-true-right, eqb-self}
 use Rattle.law_drives.specs.Tidy.{spareAt, Tidy}
 use Rattle.proof_tables.specs.Filling.{begin-ok}
-use Rattle.proof_tables.specs.Idle.{StateOk}
 use Rattle.proof_tables.specs.Opened.{busy-same, add-open, begin-open}
 use Rattle.proof_tables.specs.Run.{flies, awaits, LandedAt, Flight, Open, Lists, Healthy}
 use Rattle.proof_tables.specs.Slots.{begin-filled, begin-filled-other, begin-lists, add-filled, add-filled-other, add-lists, free-is, some-flies}

@@ -37,7 +37,6 @@ use Rattle.law_basic.specs.Ranges.{Test, test, and-left, and-right, and-both}
 use Rattle.law_basic.specs.Ranges.Test.{yes!, no! }
 use Rattle.law_views.specs.Pointers.{index-drive, index-zone}
 use Rattle.law_views.specs.Views.{blocks-long}
-use Rattle.law_drives.specs.Fewest.{sealed-full}
 use Rattle.law_drives.specs.Growing.{Grows, grows-used, grows-header, grows-tidy, grows-remaining}
 use Rattle.law_drives.specs.Laid.{record-stripe, record-back}
 use Rattle.law_drives.specs.Masks.{only-low, full-mask, not-full}
@@ -45,14 +44,15 @@ use Rattle.law_drives.specs.Members.{In, in-left, in-right, in-append, in-map, 
 use Rattle.law_drives.specs.Puts.{data-sound}
 use Rattle.law_drives.specs.Range.{data-count, capacity-over}
 use Rattle.law_drives.specs.Segs.{present-in, remaining-low, length-records, record-at, data-low, low-data, recs-here, seg-is, chunk-at, has-chunk, offset-is, no-chunk, CandAt, cand-at, at-cand}
-use Rattle.law_drives.specs.Settled.{remains-used, used-remains, remains-is-used, serial-of, its-serial, cands-apart, zones-sealed, zones-pointer, cand-goes, row-goes}
+use Rattle.law_drives.specs.Settled.{remains-used, used-remains, remains-is-used, serial-of, its-serial, cands-apart, zones-sealed, zones-pointer, cand-goes, row-goes, sealed-full}
+use Rattle.law_drives.specs.Slots.{cell-low}
 use Rattle.law_drives.specs.Spots.{cand-zone, counts-in, spot-block, spot-zone, spot-drive, spot-low}
+use Rattle.law_drives.specs.States.{StateOk, in-slots}
 use Rattle.law_drives.specs.Tables.{addresses-cong, row-at, row-past, grid-ext, remains, rowAt, compact-is, compact-row-long, length-compact, compact-at}
 use Rattle.law_drives.specs.Tests.{clash, and-false-left, and-false-right, or-true-left, not-so, cond-true, cond-false, eqb-self}
 use Rattle.law_drives.specs.Tidy.{spareAt, usedAt, Tidy}
 use Rattle.law_drives.specs.Zones.{Shaped, hitsAt, zoneStore, hits, zone-stored, Room, put-pointer, Roomy}
 use Rattle.proof_tables.specs.Carried.{SameSlot, flight-same}
-use Rattle.proof_tables.specs.Idle.{StateOk, in-slots}
 use Rattle.proof_tables.specs.Live.{Holds, table-holds}
 use Rattle.proof_tables.specs.Live.Holds.{holds-none, holds-some}
 use Rattle.proof_tables.specs.Opened.{busy-same}
@@ -60,8 +60,7 @@ use Rattle.proof_tables.specs.Pointing.{pointed-is}
 use Rattle.proof_tables.specs.Ranks.{same-best}
 use Rattle.proof_tables.specs.Reclaiming.{cand-record}
 use Rattle.proof_tables.specs.Run.{flies, awaits, LandedAt, Flight, Open, Lists, Healthy}
-use Rattle.proof_tables.specs.Slots.{cell-low, cell-same, mark-landed, mark-landed-other, mark-offset, mark-offset-other, mark-lists, free-filled}
-use Rattle.proof_tables.specs.Slots.{free-filled-other, free-lists, free-is, none-flies}
+use Rattle.proof_tables.specs.Slots.{cell-same, mark-landed, mark-landed-other, mark-offset, mark-offset-other, mark-lists, free-filled, free-filled-other, free-lists, free-is, none-flies}
 use Rattle.proof_tables.specs.Tallies.{tally-cong, tally-none, tally-some, none-tally, tally-more}
 
 -- two eighths apart

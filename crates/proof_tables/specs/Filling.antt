@@ -1,6 +1,6 @@
 -- Positions filled and stripes begun: the state stays in range and what holds is kept; the in-flight buffer keeps its length. Assumes nothing.
 use mathlib.Core.Path.{_≡_, refl, sym, ap, _∙_, subst}
-use mathlib.Core.List.{List, map}
+use mathlib.Core.List.{List}
 use mathlib.Core.Bool.{Bool, true, false, cond, not}
 use mathlib.Core.Logic.{_⊎_}
 use Prim.Native.Nat.{ℕ, zero, suc, _*_, _^_, _≤_, _<_}
@@ -14,22 +14,19 @@ use lib.Count.{ones}
 use lib.Pow.{pow-pos}
 use Rattle.spec.specs.declared.Params.{Params}
 use Rattle.spec.specs.declared.State.{State}
-use Rattle.spec.specs.Bytes.{parity}
 use Rattle.spec.specs.Drives.{View, pointerAt}
-use Rattle.spec.specs.Layout.{parityDrive, dataDrive, dataDrives}
-use Rattle.spec.specs.Lists.{below, only}
-use Rattle.spec.specs.Memory.{stripeIn, filledIn, isFull, beginStripe, addEntry, slotByte, slotBlock, setSlotBlock, setSlotParity}
+use Rattle.spec.specs.Layout.{dataDrive}
+use Rattle.spec.specs.Lists.{only}
+use Rattle.spec.specs.Memory.{stripeIn, filledIn, isFull, beginStripe, addEntry, setSlotBlock, setSlotParity}
 use Rattle.spec.specs.Params.{dataCount, capacity, inflightLen}
 use Rattle.spec.specs.Write.{placed}
-use Rattle.law_basic.specs.Geometry.{Ranged, slot-within, parity-drive-lt, data-drive-lt}
-use Rattle.law_basic.specs.Splice.{length-part, length-splice}
+use Rattle.law_basic.specs.Geometry.{Ranged, data-drive-lt}
 use Rattle.law_drives.specs.Masks.{only-low}
-use Rattle.law_drives.specs.Members.{map-in, below-in}
 use Rattle.law_drives.specs.Range.{data-count}
-use Rattle.law_drives.specs.Rebuilding.{parity-length}
+use Rattle.law_drives.specs.Slots.{slot-long, parity-long}
+use Rattle.law_drives.specs.States.{SlotOk, StateOk}
 use Rattle.law_drives.specs.Tests.{clash}
 use Rattle.law_drives.specs.Tidy.{Tidy}
-use Rattle.proof_tables.specs.Idle.{SlotOk, StateOk}
 use Rattle.proof_tables.specs.Opened.{busy-same, add-open}
 use Rattle.proof_tables.specs.Run.{flies, Lists, Healthy}
 use Rattle.proof_tables.specs.Slots.{begin-number, begin-number-other, begin-filled, begin-filled-other, begin-landed, begin-landed-other, begin-writes}
@@ -37,24 +34,6 @@ use Rattle.proof_tables.specs.Slots.{begin-writes-other, begin-next, add
 use Rattle.proof_tables.specs.Slots.{add-lists, free-is, some-flies}
 
 -- ---- the in-flight buffer
-
-module _ (p : Params) (r : Ranged p) (fl : List ℕ) (l : length fl ≡ inflightLen p) (i : ℕ) (hi : i < 8) where
-  pub slot-long : (d : ℕ) (b : List ℕ) → d < p .N → length b ≡ p .B → length (setSlotBlock p fl i d b) ≡ inflightLen p
-  unfolding setSlotBlock
-  slot-long d b hd e = length-splice fl (slotByte p i d) b (let w = slot-within p i d hi hd in omega arith) ∙ l
-
-  pub block-long! : (d : ℕ) → d < p .N → length (slotBlock p fl i d) ≡ p .B
-  unfolding slotBlock
-  block-long! d hd = length-part (slotByte p i d) (p .B) fl (let w = slot-within p i d hi hd in omega arith)
-
-  pub parity-long : (s : ℕ) → length (setSlotParity p fl i s) ≡ inflightLen p
-  unfolding setSlotParity dataDrives
-  parity-long s = slot-long (parityDrive p s) (parity (p .B) (map (slotBlock p fl i) (map (dataDrive p s) (below (dataCount p))))) (parity-drive-lt p s (omega (arith, r .drives-low)))
-      (parity-length (p .B) (map (slotBlock p fl i) (map (dataDrive p s) (below (dataCount p))))
-      (λ b m.
-      let (d, n, e) = map-in (slotBlock p fl i) (map (dataDrive p s) (below (dataCount p))) b m in
-      let (x, o, f) = map-in (dataDrive p s) (below (dataCount p)) d n in
-      ap length e ∙ block-long! d (subst (λ (y : ℕ). y < p .N) (sym f) (data-drive-lt p s x (below-in (dataCount p) x o)))))
 
 pub placed-long : (p : Params) → Ranged p → (st : State) (fl : List ℕ) (i a t w : ℕ) (b : List ℕ) → length fl ≡ inflightLen p → i < 8 → filledIn st i < dataCount p → length b ≡ p .B
     → length (placed p st fl i a t w b .inflight) ≡ inflightLen p

@@ -28,21 +28,21 @@ use Rattle.law_basic.specs.Be.{room}
 use Rattle.law_basic.specs.Geometry.{Ranged, ranged, addresses-all}
 use Rattle.law_basic.specs.Mask.{isIn-empty}
 use Rattle.law_views.specs.Views.{Whole, seen, view-stores, whole-stores}
+use Rattle.law_calls.specs.Refusals.{state-fine}
 use Rattle.law_drives.specs.Checks.{Passes, clear}
-use Rattle.law_drives.specs.Lengths.{lengths-of, whole-of}
+use Rattle.law_drives.specs.Lengths.{lengths-of, whole-of, of-lengths}
 use Rattle.law_drives.specs.Members.{In, nil-append}
 use Rattle.law_drives.specs.Range.{capacity-word}
+use Rattle.law_drives.specs.States.{StateOk, state-of, of-state}
 use Rattle.law_drives.specs.Tables.{length-addresses, length-compact}
 use Rattle.law_drives.specs.Tests.{clash, or-left, or-right, cond-same}
 use Rattle.law_drives.specs.Zones.{Shaped, hits, Room, Within, Roomy, all-fit, shaped-after}
 use Rattle.proof_tables.specs.Carried.{stamp-healthy, stamp-ok}
 use Rattle.proof_tables.specs.Filling.{placed-long, add-ok, fill-healthy}
-use Rattle.proof_tables.specs.Idle.{StateOk, state-of, of-state, of-lengths}
 use Rattle.proof_tables.specs.Live.{table-clear}
 use Rattle.proof_tables.specs.Losing.{refused-kept, cut-kept}
 use Rattle.proof_tables.specs.Outcomes.{Ended, ended}
 use Rattle.proof_tables.specs.Outcomes.Ended.{ended-refused, ended-done, ended-cut}
-use Rattle.proof_tables.specs.Reading.{state-clear}
 use Rattle.proof_tables.specs.Run.{flies, Healthy, Well, Run, Kept}
 use Rattle.proof_tables.specs.Sending.{filling-slot, SentOk, sends}
 use Rattle.proof_tables.specs.Slots.{add-filled, some-flies}
@@ -170,7 +170,7 @@ module _ (p : Params) (k : Disk) (m : Memory) (u : Run p k m) (we : Well p k m) 
             Ended p k m checks (writePlan p v m a b) (outcome p (storeDisk p) n k m b (decided (firstRefusal checks) (writePlan p v m a b)))
             → Kept p (outcome p (storeDisk p) n k m b (decided (firstRefusal checks) (writePlan p v m a b)))
         go (ended-refused x e f g h) = refused-kept p k m _ x u
-            (clear checks (refl, λ c1. (refl, λ c2. (refl, λ c3. (refl, λ c4. (refl, λ c6. (refl, λ c7. (refl, λ c8. (state-clear p st (u .base .state-ok), tt)))))))) x e) f g h
+            (clear checks (refl, λ c1. (refl, λ c2. (refl, λ c3. (refl, λ c4. (refl, λ c6. (refl, λ c7. (refl, λ c8. (state-fine p st (u .base .state-ok), tt)))))))) x e) f g h
         go (ended-done c f g h) = record {
           never-ninth = ap (isRefusedAs 9) f ∙ mild-sent;
           runs-on = λ x. subst (λ (y : Memory). Run p (outcome p (storeDisk p) n k m b (decided (firstRefusal checks) (writePlan p v m a b)) .drives) y) (sym h) (write-done c _ g);
@@ -186,7 +186,7 @@ module _ (p : Params) (k : Disk) (m : Memory) (u : Run p k m) (we : Well p k m) 
         ∷ zones (stateFaults p st ++ cond (scarce p v 1) (tableFaults p (m .addresses)) []) ∷ []
 
     close-faults : stateFaults p st ++ cond (scarce p v 1) (tableFaults p (m .addresses)) [] ≡ []
-    close-faults = nil-append (stateFaults p st) (cond (scarce p v 1) (tableFaults p (m .addresses)) []) (state-clear p st (u .base .state-ok))
+    close-faults = nil-append (stateFaults p st) (cond (scarce p v 1) (tableFaults p (m .addresses)) []) (state-fine p st (u .base .state-ok))
         (ap (λ (x : List ℕ). cond (scarce p v 1) x []) (table-clear p rg v (m .addresses) address-table) ∙ cond-same (scarce p v 1) [])
 
     pub record PadOk (su : State) (fl : List ℕ) : Type 0 where

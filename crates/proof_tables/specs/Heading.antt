@@ -5,41 +5,37 @@ use mathlib.Core.Bool.{Bool, true, false, cond, not}
 use mathlib.Core.Logic.{_⊎_, inl, inr, ⊎-elim}
 use Prim.Native.Nat.{ℕ, suc, _+_, _^_, _≤_, _<_}
 use native.Mathlib.Decide.{ℕ-discrete}
-use borrow.Author.Tests.{eq-eqb, eqb-true}
+use borrow.Author.Tests.{eq-eqb}
 use native.Mathlib.Omega.{arith}
 use lib.Dec.{eqb, lit<}
 use Rattle.spec.specs.declared.Params.{Params}
 use Rattle.spec.specs.declared.State.{State}
-use Rattle.spec.specs.Drives.{Zone, View, zoneAt, pointerAt, storeView, storeAll, zoneOn, emptyOnAll, sealedIn, dataStored, recordIn, headerStores}
+use Rattle.spec.specs.Drives.{Zone, View, zoneAt, pointerAt, storeView, storeAll, sealedIn, dataStored, recordIn, headerStores}
 use Rattle.spec.specs.Layout.{headerSerial, headerCopied, Rec}
 use Rattle.spec.specs.Lists.{upFrom, below, tally, isIn}
 use Rattle.spec.specs.Lists.Opt.{none}
 use Rattle.spec.specs.Memory.{slots, filledIn, landedIn, isFree, setOpen}
-use Rattle.spec.specs.Params.{capacity, drivesOf}
+use Rattle.spec.specs.Params.{capacity}
 use Rattle.spec.specs.Rank.{Cand, best, candsOf}
 use Rattle.spec.specs.Segments.{headerAt, recordsIn, segmentOf, segments, recsOn, candidates, addressTable, compactRow, compactTable}
 use Rattle.law_basic.specs.Geometry.{Ranged}
 use Rattle.law_basic.specs.Mask.{isIn-empty}
 use Rattle.law_drives.specs.Headers.{header-other, header-pointer, header-block}
 use Rattle.law_drives.specs.Laid.{header-serial, header-copied}
-use Rattle.law_drives.specs.Members.{In, all-in, in-below}
+use Rattle.law_drives.specs.Members.{In}
 use Rattle.law_drives.specs.Range.{capacity-over}
 use Rattle.law_drives.specs.Segs.{recs-here, CandAt, cand-at, at-cand}
 use Rattle.law_drives.specs.Settled.{remains-used, remains-is-used, its-drive-low, chunk-of-it, cands-apart, SameZones, zones-header, zones-pointer, zones-used, cand-goes, row-goes}
+use Rattle.law_drives.specs.States.{slots-in}
 use Rattle.law_drives.specs.Tables.{addresses-cong, grid-cong, remains, rowAt, compact-is}
 use Rattle.law_drives.specs.Tests.{clash, and-false-left, cond-false, cond-same}
 use Rattle.law_drives.specs.Tidy.{usedAt, Tidy}
 use Rattle.law_drives.specs.Zones.{Shaped}
-use Rattle.proof_tables.specs.Idle.{slots-in}
 use Rattle.proof_tables.specs.Ranks.{same-best}
 use Rattle.proof_tables.specs.Run.{flies, awaits, Open, Lists, Healthy}
 use Rattle.proof_tables.specs.Tallies.{tally-none}
 
 -- ---- the segment that a write opens
-
-pub empty-all : (p : Params) (v : View) (g : ℕ) → emptyOnAll p v g ≡ true → (d : ℕ) → d < p .N → pointerAt v d g ≡ 0
-unfolding emptyOnAll drivesOf zoneOn
-empty-all p v g q d h = eqb-true (pointerAt v d g) 0 (all-in (λ d. eqb (pointerAt v d g) 0) (below (p .N)) q d (in-below (p .N) d h))
 
 module _ (p : Params) (r : Ranged p) (v : View) (sh : Shaped p v) (s g : ℕ) (t : Tidy p v s) (hg : g < p .Z) (em : (d : ℕ) → d < p .N → pointerAt v d g ≡ 0) (fit : suc s < 256 ^ 8) where
   abbrev after : View

@@ -33,6 +33,7 @@ use Rattle.law_basic.specs.Ranges.{Test, test, and-left, and-right, and-both, l
 use Rattle.law_basic.specs.Ranges.Test.{yes!, no! }
 use Rattle.law_basic.specs.Stores.{storeAll-append}
 use Rattle.law_views.specs.Views.{seen}
+use Rattle.law_calls.specs.Refusals.{state-fine}
 use Rattle.law_drives.specs.Checks.{clear}
 use Rattle.law_drives.specs.Growing.{Grows, grows-used, grows-tidy, grows-candidates, grows-compact}
 use Rattle.law_drives.specs.Joins.{roomy-append, within-append}
@@ -40,21 +41,20 @@ use Rattle.law_drives.specs.Lengths.{whole-of}
 use Rattle.law_drives.specs.Members.{In, in-none, flat-nothing, below-in, index-passes, index-none, nil-append}
 use Rattle.law_drives.specs.Range.{capacity-is}
 use Rattle.law_drives.specs.Settled.{zones-pointer}
+use Rattle.law_drives.specs.Slots.{block-long! }
 use Rattle.law_drives.specs.Spots.{spot-faults}
+use Rattle.law_drives.specs.States.{StateOk, state-of}
 use Rattle.law_drives.specs.Tests.{clash, and-false-right, cond-true, cond-false, cond-same}
 use Rattle.law_drives.specs.Tidy.{usedAt, Tidy}
 use Rattle.law_drives.specs.Zones.{Shaped, Within, Roomy, shaped-after}
 use Rattle.proof_tables.specs.Chunks.{pointer-some, pointer-data, offset-group, chunk-roomy, chunk-tidy, addresses-stay, addresses-land, compact-lands}
 use Rattle.proof_tables.specs.Chunks.{sealed1, chunk-healthy, chunk-state, chunk-missing, freed-state, freed-healthy, all-behind, none-left}
-use Rattle.proof_tables.specs.Filling.{block-long! }
 use Rattle.proof_tables.specs.Going.{well-run, address-table, compact-table, buffer-long}
-use Rattle.proof_tables.specs.Idle.{StateOk, state-of}
 use Rattle.proof_tables.specs.Live.{Holds, table-holds}
 use Rattle.proof_tables.specs.Live.Holds.{holds-none, holds-some}
 use Rattle.proof_tables.specs.Losing.{refused-kept, cut-kept}
 use Rattle.proof_tables.specs.Outcomes.{Ended, ended}
 use Rattle.proof_tables.specs.Outcomes.Ended.{ended-refused, ended-done, ended-cut}
-use Rattle.proof_tables.specs.Reading.{state-clear}
 use Rattle.proof_tables.specs.Run.{flies, Lists, Healthy, Well, Run, Kept}
 use Rattle.proof_tables.specs.Sealing.{seal-pointer, seal-roomy, seal-within, seal-grows, seal-records}
 use Rattle.proof_tables.specs.Slots.{free-lists}
@@ -239,7 +239,7 @@ module _ (p : Params) (k : Disk) (m : Memory) (u : Run p k m) (we : Well p k m) 
             unfold entryFaults in cond-false (ltb (e .address) (p .L)) (cond (eqb (placeAt (m .addresses) (e .address)) neverPlace) [] (placeFaults p v 0 (placeAt (m .addresses) (e .address)))) [] x
 
     faults-none : stateFaults p st ++ landFaults p v m d s ≡ []
-    faults-none = nil-append (stateFaults p st) (landFaults p v m d s) (state-clear p st (u .base .state-ok)) as!
+    faults-none = nil-append (stateFaults p st) (landFaults p v m d s) (state-fine p st (u .base .state-ok)) as!
       where
         zs : List ℕ
         zs = flat (entryFaults p v (m .addresses)) (entriesIn st i)

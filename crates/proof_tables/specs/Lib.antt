@@ -2,7 +2,6 @@ pub mod Ranks
 pub mod Base
 pub mod Reading
 pub mod Outcomes
-pub mod Idle
 pub mod Run
 pub mod Losing
 pub mod Starting

@@ -31,7 +31,7 @@ use Rattle.law_views.specs.Views.{seen, view-stores, whole-stores}
 use Rattle.law_drives.specs.Accept.{Accepted, checks-of, in-groups}
 use Rattle.law_drives.specs.Checks.{Passes, Clear, clear}
 use Rattle.law_drives.specs.Frame.{Agree, same-candidates, same-compact, same-accepted}
-use Rattle.law_drives.specs.Lengths.{lengths-of, whole-of}
+use Rattle.law_drives.specs.Lengths.{lengths-of, whole-of, of-lengths}
 use Rattle.law_drives.specs.Masks.{named-in, named-some, low-present}
 use Rattle.law_drives.specs.Members.{In}
 use Rattle.law_drives.specs.Range.{capacity-word}
@@ -40,7 +40,6 @@ use Rattle.law_drives.specs.Spots.{InGroups}
 use Rattle.law_drives.specs.Tests.{clash, or-right}
 use Rattle.law_drives.specs.Zones.{Shaped, all-fit, shaped-after}
 use Rattle.proof_tables.specs.Base.{Base}
-use Rattle.proof_tables.specs.Idle.{of-lengths}
 use Rattle.proof_tables.specs.Outcomes.{Ended, ended, cut-cut, cut-mild}
 use Rattle.proof_tables.specs.Outcomes.Ended.{ended-refused, ended-done, ended-cut}
 use Rattle.proof_tables.specs.Reading.{Idle}

@@ -21,9 +21,9 @@ use Rattle.law_basic.specs.Mask.{isIn-empty}
 use Rattle.law_basic.specs.Ranges.{Test, test, and-both}
 use Rattle.law_basic.specs.Ranges.Test.{yes!, no! }
 use Rattle.law_drives.specs.Members.{none-in, any-in}
+use Rattle.law_drives.specs.States.{in-slots, slots-in}
 use Rattle.law_drives.specs.Tests.{clash, and-false-left, or-true-right, eqb-self}
 use Rattle.law_drives.specs.Tidy.{spareAt}
-use Rattle.proof_tables.specs.Idle.{in-slots, slots-in}
 use Rattle.proof_tables.specs.Run.{awaits, LandedAt, Flight, Open, Lists}
 use Rattle.proof_tables.specs.Slots.{cell-same, begin-number, begin-number-other, begin-filled, begin-filled-other, begin-landed, begin-landed-other}
 use Rattle.proof_tables.specs.Slots.{begin-entry-other, begin-offset, add-filled, add-filled-other, add-number, add-landed, add-offset, add-entry}

@@ -3,8 +3,6 @@ use mathlib.Core.Path.{_≡_, refl, sym, ap, subst}
 use mathlib.Core.List.{List}
 use mathlib.Core.Bool.{Bool, true, false}
 use Prim.Native.Nat.{ℕ}
-use borrow.Author.Tests.{ne-eqb, leb-true}
-use native.Mathlib.Omega.{arith}
 use lib.Dec.{leb}
 use lib.ListN.{length}
 use Rattle.spec.specs.declared.Answer.{Answer}
@@ -44,10 +42,6 @@ ended p k m cs q n b = go (decide cs q)
         (ap (λ (r : After Disk). r .drives) (refused-same p (storeDisk p) n k m b a))
         (ap (λ (r : After Disk). r .memory) (refused-same p (storeDisk p) n k m b a)))
     go (goes c w) = subst (λ (x : Verdict). Ended p k m cs q (outcome p (storeDisk p) n k m b x)) (sym w) (limits (leb (length (q .stores)) n) refl c)
-
-pub refused-unfinished : (a : Answer) → isRefused a ≡ true → finished a ≡ false
-unfolding isRefused finished
-refused-unfinished a q = let h = leb-true (kind a) 1 q in ne-eqb (kind a) 12 (λ e. let z : ⊥ = omega arith in z)
 
 pub cut-unfinished : finished Cut ≡ false
 unfolding finished kind

@@ -1,9 +1,8 @@
 -- The address table when a stripe completes: the table's record and the stripe's compete. Assumes nothing.
 use mathlib.Core.Path.{_≡_, refl, sym, ap, _∙_}
 use mathlib.Core.List.{List, [], _∷_, _++_}
-use mathlib.Core.Bool.{cond}
 use mathlib.Core.Logic.{_⊎_, inl, inr, ⊎-elim}
-use Prim.Native.Nat.{ℕ, _+_, _*_, _≤_, _<_}
+use Prim.Native.Nat.{ℕ, _*_, _<_}
 use native.Mathlib.Nat.{mul-comm}
 use native.Mathlib.Decide.{decLt, ℕ-discrete}
 use borrow.Author.Tests.{ltb-true, ltb-false, eqb-true}
@@ -23,9 +22,10 @@ use Rattle.spec.specs.Segments.{addressTable}
 use Rattle.law_basic.specs.Be.{length-toBe}
 use Rattle.law_basic.specs.Ranges.{Test, test}
 use Rattle.law_basic.specs.Ranges.Test.{yes!, no! }
-use Rattle.law_basic.specs.Splice.{length-splice, part-splice, part-splice-below, part-splice-above}
+use Rattle.law_basic.specs.Splice.{part-splice, part-splice-below, part-splice-above}
 use Rattle.law_drives.specs.Best.{best-append}
 use Rattle.law_drives.specs.Members.{In, none-in, any-in, keep-nothing}
+use Rattle.law_drives.specs.Pointed.{set-fits, next, next-long, pointed-long}
 use Rattle.law_drives.specs.Tables.{part-flat, length-addresses, addresses-ext}
 use Rattle.law_drives.specs.Tests.{cond-true, cond-false}
 use Rattle.proof_tables.specs.Ranks.{cands-append}
@@ -35,20 +35,8 @@ module _ (p : Params) (v : View) (tb : List ℕ) (cs : List Cand) where
   abbrev gets : ℕ → List ℕ
   gets a = toBe 4 (placeOr (best (held p v tb a) (candsOf a cs)))
 
-  set-fits : (t : List ℕ) (a q : ℕ) → length t ≡ addressesLen p → a < p .L → 4 * a + length (toBe 4 q) ≤ length t
-  set-fits t a q l h = let e = length-toBe 4 q in let f = len in omega arith
-    where
-      len : addressesLen p ≡ 4 * p .L
-      len = unfold addressesLen in refl
-
-  set-long : (t : List ℕ) (a q : ℕ) → length t ≡ addressesLen p → a < p .L → length (setPlace t a q) ≡ addressesLen p
-  set-long t a q l h = as! (length-splice t (4 * a) (toBe 4 q) (set-fits t a q l h) ∙ l)
-    where
-      as! : length (splice t (4 * a) (toBe 4 q)) ≡ addressesLen p → length (setPlace t a q) ≡ addressesLen p
-      as! e = unfold setPlace in e
-
   set-here : (t : List ℕ) (a q : ℕ) → length t ≡ addressesLen p → a < p .L → part (4 * a) 4 (setPlace t a q) ≡ toBe 4 q
-  set-here t a q l h = as! (ap (λ (n : ℕ). part (4 * a) n (splice t (4 * a) (toBe 4 q))) (sym (length-toBe 4 q)) ∙ part-splice t (4 * a) (toBe 4 q) (set-fits t a q l h))
+  set-here t a q l h = as! (ap (λ (n : ℕ). part (4 * a) n (splice t (4 * a) (toBe 4 q))) (sym (length-toBe 4 q)) ∙ part-splice t (4 * a) (toBe 4 q) (set-fits p t a q l h))
     where
       as! : part (4 * a) 4 (splice t (4 * a) (toBe 4 q)) ≡ toBe 4 q → part (4 * a) 4 (setPlace t a q) ≡ toBe 4 q
       as! e = unfold setPlace in e
@@ -63,31 +51,17 @@ module _ (p : Params) (v : View) (tb : List ℕ) (cs : List Cand) where
       len = unfold addressesLen in refl
 
       go : Dec (b < a) → part (4 * b) 4 (splice t (4 * a) (toBe 4 q)) ≡ part (4 * b) 4 t
-      go (yes x) = part-splice-below t (4 * a) (toBe 4 q) (set-fits t a q l h) (4 * b) 4 (omega arith)
-      go (no x) = part-splice-above t (4 * a) (toBe 4 q) (set-fits t a q l h) (4 * b) 4 (let e = length-toBe 4 q in omega arith) (let f = len in omega arith)
-
-  -- one address after the other
-  abbrev next : Cand → List ℕ → List ℕ
-  next c t = cond (ltb (c .address) (p .L)) (setPlace t (c .address) (placeOr (best (held p v tb (c .address)) (candsOf (c .address) cs)))) t
-
-  next-long : (c : Cand) (t : List ℕ) → length t ≡ addressesLen p → length (next c t) ≡ addressesLen p
-  next-long c t l = go (test (ltb (c .address) (p .L)))
-    where
-      go : Test (ltb (c .address) (p .L)) → length (next c t) ≡ addressesLen p
-      go (yes! q) =
-          ap length (cond-true (ltb (c .address) (p .L))
-          (setPlace t (c .address) (placeOr (best (held p v tb (c .address)) (candsOf (c .address) cs)))) t q)
-          ∙ set-long t (c .address) (placeOr (best (held p v tb (c .address)) (candsOf (c .address) cs))) l (ltb-true (c .address) (p .L) q)
-      go (no! q) = ap length (cond-false (ltb (c .address) (p .L)) (setPlace t (c .address) (placeOr (best (held p v tb (c .address)) (candsOf (c .address) cs)))) t q) ∙ l
+      go (yes x) = part-splice-below t (4 * a) (toBe 4 q) (set-fits p t a q l h) (4 * b) 4 (omega arith)
+      go (no x) = part-splice-above t (4 * a) (toBe 4 q) (set-fits p t a q l h) (4 * b) 4 (let e = length-toBe 4 q in omega arith) (let f = len in omega arith)
 
   -- what is right stays right
-  next-right : (c : Cand) (t : List ℕ) (a : ℕ) → length t ≡ addressesLen p → a < p .L → (part (4 * a) 4 t ≡ gets a) ⊎ (c .address ≡ a) → part (4 * a) 4 (next c t) ≡ gets a
+  next-right : (c : Cand) (t : List ℕ) (a : ℕ) → length t ≡ addressesLen p → a < p .L → (part (4 * a) 4 t ≡ gets a) ⊎ (c .address ≡ a) → part (4 * a) 4 (next p v tb cs c t) ≡ gets a
   next-right c t a l h w = go (test (ltb (c .address) (p .L))) (ℕ-discrete a (c .address))
     where
       x : ℕ
       x = placeOr (best (held p v tb (c .address)) (candsOf (c .address) cs))
 
-      go : Test (ltb (c .address) (p .L)) → Dec (a ≡ c .address) → part (4 * a) 4 (next c t) ≡ gets a
+      go : Test (ltb (c .address) (p .L)) → Dec (a ≡ c .address) → part (4 * a) 4 (next p v tb cs c t) ≡ gets a
       go (yes! q) (yes e) =
           ap (part (4 * a) 4) (cond-true (ltb (c .address) (p .L)) (setPlace t (c .address) x) t q)
           ∙ ap (λ (n : ℕ). part (4 * n) 4 (setPlace t (c .address) x)) e ∙ set-here t (c .address) x l (ltb-true (c .address) (p .L) q) ∙ ap gets (sym e)
@@ -98,11 +72,6 @@ module _ (p : Params) (v : View) (tb : List ℕ) (cs : List Cand) where
           ap (part (4 * a) 4) (cond-false (ltb (c .address) (p .L)) (setPlace t (c .address) x) t q)
           ∙ ⊎-elim (λ y. y) (λ y. absurd (let k = ltb-false (c .address) (p .L) q in let bad : ⊥ = omega arith in bad)) w
 
-  pointed-long : (ds : List Cand) (t : List ℕ) → length t ≡ addressesLen p → length (pointed p v tb cs ds t) ≡ addressesLen p
-  unfolding pointed
-  pointed-long [] t l = l
-  pointed-long (c ∷ ds) t l = pointed-long ds (next c t) (next-long c t l)
-
   pointed-right :
       (ds : List Cand) (t : List ℕ) (a : ℕ)
       → length t ≡ addressesLen p
@@ -112,17 +81,17 @@ module _ (p : Params) (v : View) (tb : List ℕ) (cs : List Cand) where
   unfolding pointed
   pointed-right [] t a l h (inl e) = e
   pointed-right [] t a l h (inr (c, m, e)) = absurd m
-  pointed-right (c ∷ ds) t a l h (inl e) = pointed-right ds (next c t) a (next-long c t l) h (inl (next-right c t a l h (inl e)))
-  pointed-right (c ∷ ds) t a l h (inr (d, m, e)) = pointed-right ds (next c t) a (next-long c t l) h (go m)
+  pointed-right (c ∷ ds) t a l h (inl e) = pointed-right ds (next p v tb cs c t) a (next-long p v tb cs c t l) h (inl (next-right c t a l h (inl e)))
+  pointed-right (c ∷ ds) t a l h (inr (d, m, e)) = pointed-right ds (next p v tb cs c t) a (next-long p v tb cs c t l) h (go m)
     where
-      go : (d ≡ c) ⊎ In d ds → (part (4 * a) 4 (next c t) ≡ gets a) ⊎ ((y : Cand) × In y ds × (y .address ≡ a))
+      go : (d ≡ c) ⊎ In d ds → (part (4 * a) 4 (next p v tb cs c t) ≡ gets a) ⊎ ((y : Cand) × In y ds × (y .address ≡ a))
       go (inl x) = inl (next-right c t a l h (inr (ap (λ (y : Cand). y .address) (sym x) ∙ e)))
       go (inr x) = inr (d, x, e)
 
   -- the whole
   pub pointed-is : (xs : List Cand) → tb ≡ addressTable p xs → ((a : ℕ) → a < p .L → held p v tb a ≡ best none (candsOf a xs)) → pointed p v tb cs cs tb ≡ addressTable p (xs ++ cs)
   pointed-is xs e hh =
-      addresses-ext p (pointed p v tb cs cs tb) (xs ++ cs) (pointed-long cs tb lt)
+      addresses-ext p (pointed p v tb cs cs tb) (xs ++ cs) (pointed-long p v tb cs cs tb lt)
       (λ a h. pointed-right cs tb a lt h (go a h (test (any (λ (c : Cand). eqb (c .address) a) cs)))
       ∙ ap (λ (o : Opt Cand). toBe 4 (placeOr (best o (candsOf a cs)))) (hh a h)
       ∙ ap (λ (o : Opt Cand). toBe 4 (placeOr o)) (sym (best-append none (candsOf a xs) (candsOf a cs)) ∙ ap (best none) (sym (cands-append a xs cs))))

@@ -1,7 +1,7 @@
 -- The read calls on the lent bytes: they change nothing, are never refused 9, and give what the drives say. Assumes nothing.
 use mathlib.Core.Path.{_≡_, refl, sym, ap, _∙_, subst}
 use mathlib.Core.List.{List, [], _∷_, _++_}
-use mathlib.Core.Bool.{true, false, cond, not, _&&_}
+use mathlib.Core.Bool.{false, cond, not, _&&_}
 use Prim.Native.Nat.{ℕ, _<_}
 use borrow.Author.Tests.{lt-leb, eq-eqb, leb-false}
 use lib.Dec.{leb, eqb, leb·zero}
@@ -9,7 +9,6 @@ use lib.ListN.{length, replicate, length-replicate}
 use Rattle.spec.specs.declared.Answer.{Answer}
 use Rattle.spec.specs.declared.Answer.the-variants.{Filled}
 use Rattle.spec.specs.declared.Params.{Params}
-use Rattle.spec.specs.declared.State.{State}
 use Rattle.spec.specs.Answers.{kind, isRefused, isRefusedAs}
 use Rattle.spec.specs.Calls.{Check, firstRefusal, Plan, mkPlan, Verdict, decided, After, mkAfter, limited, outcome}
 use Rattle.spec.specs.Calls.Check.{rule, zones}
@@ -20,9 +19,9 @@ use Rattle.spec.specs.Engine.{storeCount, lentBlock, verdict, lentOk, callOn, c
 use Rattle.spec.specs.Engine.Call.{read, fill}
 use Rattle.spec.specs.History.{mkWorld, seenFilled, seenAt}
 use Rattle.spec.specs.History.Seen.{unwritten, got}
-use Rattle.spec.specs.Lists.{Opt, consIf}
+use Rattle.spec.specs.Lists.{Opt}
 use Rattle.spec.specs.Lists.Opt.{none}
-use Rattle.spec.specs.Memory.{Memory, stateOk, stateFaults}
+use Rattle.spec.specs.Memory.{Memory, stateFaults}
 use Rattle.spec.specs.Params.{inRange}
 use Rattle.spec.specs.Rank.{Cand, best, candsOf}
 use Rattle.spec.specs.Read.{Found, lookup, foundFaults, decodeFaults, readPiece, readAnswer, readChecks, readVerdict, fillVerdict}
@@ -32,6 +31,7 @@ use Rattle.law_basic.specs.Geometry.{Ranged, ranged}
 use Rattle.law_basic.specs.Ranges.{and-both}
 use Rattle.law_basic.specs.Stores.{refused-same}
 use Rattle.law_views.specs.Views.{seen}
+use Rattle.law_calls.specs.Refusals.{state-fine}
 use Rattle.law_drives.specs.Checks.{Clear, clear, Decided, decide, passed}
 use Rattle.law_drives.specs.Checks.Decided.{stops, goes}
 use Rattle.law_drives.specs.Members.{nil-append}
@@ -43,10 +43,6 @@ pub left-idle : {D : Type 0} (p : Params) (f : Store → D → D) (n : ℕ) (d :
     → outcome p f n d m b (due (mkPlan [] a m′ b′)) ≡ mkAfter a d m′ b′
 unfolding outcome limited storeAll
 left-idle p f n d m m′ b b′ a = rw (leb·zero n)
-
-pub state-clear : (p : Params) (st : State) → stateOk p st ≡ true → stateFaults p st ≡ []
-unfolding stateFaults consIf
-state-clear p st q = rw q
 
 -- demand 2: tables and reads, with the state as a value
 pub record Says (p : Params) (k : Disk) (m : Memory) : Type 0 where
@@ -74,7 +70,7 @@ module _ (p : Params) (k : Disk) (m : Memory) (b : Base p k m) where
   found a h = subst (λ (x : List ℕ). Finds p v gone (winner a) (lookup p gone x a)) (sym (b .addresses-say)) (finds p rg v gone a h)
 
   found-ok : (a : ℕ) → a < p .L → stateFaults p (m .state) ++ foundFaults p v gone (place a) ≡ []
-  found-ok a h = nil-append (stateFaults p (m .state)) (foundFaults p v gone (place a)) (state-clear p (m .state) (b .state-ok)) (found-clear p rg v gone (winner a) (place a) (found a h))
+  found-ok a h = nil-append (stateFaults p (m .state)) (foundFaults p v gone (place a)) (state-fine p (m .state) (b .state-ok)) (found-clear p rg v gone (winner a) (place a) (found a h))
 
   decode-ok : (a : ℕ) → a < p .L → decodeFaults p v gone (m .compact) (place a) ≡ []
   decode-ok a h = ap (λ (x : List ℕ). decodeFaults p v gone x (place a)) (b .compact-says) ∙ decodes-clear p rg v gone (winner a) (place a) (b .decodes) (found a h)

@@ -6,7 +6,7 @@ use mathlib.Core.Logic.{_⊎_, inl, inr, ⊎-elim}
 use Prim.Native.Nat.{ℕ, _+_, _-_, _^_, _<_}
 use borrow.Author.Tests.{leb-false}
 use native.Mathlib.Omega.{arith}
-use lib.Dec.{ltb, eqb}
+use lib.Dec.{eqb}
 use lib.ListN.{length}
 use Rattle.spec.specs.declared.Params.{Params}
 use Rattle.spec.specs.declared.State.{State}
@@ -30,42 +30,33 @@ use Rattle.spec.specs.Segments.{Segment, segmentOf, segments, storedRec, recOf,
 use Rattle.spec.specs.Write.{opens, noSerial, mustWait, scarce, sending}
 use Rattle.law_basic.specs.Geometry.{between-of, Ranged, ranged}
 use Rattle.law_basic.specs.Mask.{isIn-empty}
-use Rattle.law_basic.specs.Ranges.{Test, test}
+use Rattle.law_basic.specs.Ranges.{Test, test, nil-is}
 use Rattle.law_basic.specs.Ranges.Test.{yes!, no! }
 use Rattle.law_views.specs.Views.{seen}
+use Rattle.law_calls.specs.Refusals.{state-fine}
+use Rattle.law_drives.specs.Best.{fewer-is}
 use Rattle.law_drives.specs.Checks.{Passes, clear}
-use Rattle.law_drives.specs.Fewest.{sealed-full}
 use Rattle.law_drives.specs.Lengths.{whole-of}
-use Rattle.law_drives.specs.Members.{In, in-map, map-in, in-flat, in-keep, keep-in, keep-nothing, in-below, below-in, first-in, nil-is, is-member, member-is, nil-append}
+use Rattle.law_drives.specs.Members.{In, in-map, map-in, in-flat, in-keep, keep-in, keep-nothing, in-below, below-in, first-in, is-member, member-is, nil-append}
 use Rattle.law_drives.specs.Range.{capacity-over}
 use Rattle.law_drives.specs.Records.{record-low}
 use Rattle.law_drives.specs.Resets.{reset-roomy, reset-within}
 use Rattle.law_drives.specs.Segs.{remaining-low, CandAt}
-use Rattle.law_drives.specs.Settled.{its-drive, its-offset, chunk-of-it}
+use Rattle.law_drives.specs.Settled.{its-drive, its-offset, chunk-of-it, sealed-full}
 use Rattle.law_drives.specs.Spots.{cand-zone, spot-of, spot-block, spot-zone, spot-drive}
+use Rattle.law_drives.specs.States.{StateOk, state-of}
 use Rattle.law_drives.specs.Tests.{true-false, or-left, or-right, cond-true, cond-false}
 use Rattle.law_drives.specs.Tidy.{Tidy}
 use Rattle.proof_tables.specs.Going.{well-run, address-table, compact-table, buffer-long, sent-run}
-use Rattle.proof_tables.specs.Idle.{StateOk, state-of}
 use Rattle.proof_tables.specs.Live.{Pointed, places-pointed, holds-place, table-clear}
 use Rattle.proof_tables.specs.Losing.{refused-kept, cut-kept}
 use Rattle.proof_tables.specs.Outcomes.{Ended, ended}
 use Rattle.proof_tables.specs.Outcomes.Ended.{ended-refused, ended-done, ended-cut}
-use Rattle.proof_tables.specs.Reading.{state-clear}
 use Rattle.proof_tables.specs.Resetting.{reset-addresses, reset-rows, reset-healthy, cleared-is}
 use Rattle.proof_tables.specs.Run.{Well, Run, Kept}
 use Rattle.proof_tables.specs.Sending.{sends}
 
 -- ---- the segment that it takes
-
-fewer-is : (a : Opt Victim) (b w : Victim) → fewer a b ≡ some w → (a ≡ some w) ⊎ (w ≡ b)
-unfolding fewer
-fewer-is none b w q = inr (let e : b ≡ w = cc in sym e)
-fewer-is (some a) b w q = go (test (ltb (length (b .live)) (length (a .live))))
-  where
-    go : Test (ltb (length (b .live)) (length (a .live))) → (some a ≡ some w) ⊎ (w ≡ b)
-    go (yes! e) = let x : some b ≡ some w = ap some (sym (cond-true (ltb (length (b .live)) (length (a .live))) b a e)) ∙ q in inr (let y : b ≡ w = cc in sym y)
-    go (no! e) = inl (ap some (sym (cond-false (ltb (length (b .live)) (length (a .live))) b a e)) ∙ q)
 
 fewest-is : (a : Opt Victim) (bs : List Victim) (w : Victim) → fewest a bs ≡ some w → (a ≡ some w) ⊎ In w bs
 unfolding fewest
@@ -112,7 +103,7 @@ taken p v tb q = go (victim p v tb) refl q
 
 -- ---- live blocks
 
-live-in : (p : Params) (qs : List ℕ) (g q : ℕ) → In q (liveIn p qs g) → In q qs
+pub live-in : (p : Params) (qs : List ℕ) (g q : ℕ) → In q (liveIn p qs g) → In q qs
 live-in p qs g q m = is-member q qs (keep-in (λ q. isMember q qs) (segmentPlaces p g) q (as! m) .1)
   where
     as! : In q (liveIn p qs g) → In q (keep (λ q. isMember q qs) (segmentPlaces p g))
@@ -205,7 +196,7 @@ module _ (p : Params) (k : Disk) (m : Memory) (u : Run p k m) (we : Well p k m) 
 
   reclaim-faults : isNone w ≡ false → stateFaults p st ++ tableFaults p (m .addresses) ++ map (λ q. victimSegment w) (keep (λ q. not (between 1 (p .S) (placeBlock p q))) (victimLive w)) ≡ []
   reclaim-faults nn =
-      let e1 = state-clear p st (u .base .state-ok) in
+      let e1 = state-fine p st (u .base .state-ok) in
       let e2 = table-clear p rg v (m .addresses) at! in
       let e3 : keep (λ q. not (between 1 (p .S) (placeBlock p q))) (victimLive w) ≡ [] =
       keep-nothing (λ q. not (between 1 (p .S) (placeBlock p q))) (victimLive w) (λ q i. ap not (between-live q (live-pointed q nn i))) in

@@ -28,12 +28,12 @@ use Rattle.law_drives.specs.Members.{In, in-below, below-in}
 use Rattle.law_drives.specs.Resets.{reset-same, unused-after, reset-was, reset-tidy}
 use Rattle.law_drives.specs.Segs.{CandAt, cand-at, at-cand}
 use Rattle.law_drives.specs.Settled.{remains-used, remains-is-used, cands-apart, zones-pointer, zones-used, cand-goes, row-goes}
+use Rattle.law_drives.specs.States.{StateOk}
 use Rattle.law_drives.specs.Tables.{addresses-cong, zero-at, row-past, grid-ext, remains, rowAt, compact-is, compact-row-long, length-compact, compact-at}
 use Rattle.law_drives.specs.Tests.{cond-true, cond-false}
 use Rattle.law_drives.specs.Tidy.{Tidy}
 use Rattle.law_drives.specs.Zones.{Shaped}
 use Rattle.proof_tables.specs.Bounds.{open-view, open-short}
-use Rattle.proof_tables.specs.Idle.{StateOk}
 use Rattle.proof_tables.specs.Ranks.{fewer-best}
 use Rattle.proof_tables.specs.Run.{flies, Healthy}
 

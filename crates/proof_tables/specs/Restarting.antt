@@ -25,10 +25,10 @@ use Rattle.law_drives.specs.Dropping.{drop-roomy, drop-within}
 use Rattle.law_drives.specs.Joins.{roomy-append, within-append}
 use Rattle.law_drives.specs.Lengths.{lengths-of, whole-of}
 use Rattle.law_drives.specs.Mended.{mended, serials-small}
+use Rattle.law_drives.specs.States.{state-of}
 use Rattle.law_drives.specs.Tests.{or-cases}
 use Rattle.law_drives.specs.Zones.{Shaped, shaped-after}
 use Rattle.proof_tables.specs.Going.{well-run}
-use Rattle.proof_tables.specs.Idle.{state-of}
 use Rattle.proof_tables.specs.Resting.{rest-healthy}
 use Rattle.proof_tables.specs.Run.{Healthy, Run}
 use Rattle.proof_tables.specs.Starting.{memory-missing, memory-addresses, memory-compact, memory-inflight, startPlan, Begins, lost-start}

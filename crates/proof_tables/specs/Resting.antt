@@ -25,21 +25,20 @@ use Rattle.law_basic.specs.Geometry.{Ranged}
 use Rattle.law_basic.specs.Ranges.{Test, test, and-both}
 use Rattle.law_basic.specs.Ranges.Test.{yes!, no! }
 use Rattle.law_drives.specs.Counting.{in-greatest, greatest-low}
-use Rattle.law_drives.specs.Fewest.{sealed-full}
 use Rattle.law_drives.specs.Laid.{serial-low}
 use Rattle.law_drives.specs.Members.{In, in-map, map-in, in-all, keep-cong, keep-nothing, keep-keep, keep-map, below-in}
 use Rattle.law_drives.specs.Puts.{keep-one-below}
 use Rattle.law_drives.specs.Range.{capacity-over}
 use Rattle.law_drives.specs.Records.{record-low}
 use Rattle.law_drives.specs.Segs.{present-in, remaining-low, seg-is, full-is, cand-at}
-use Rattle.law_drives.specs.Settled.{remains-used, used-remains, remains-is-used, serial-of, its-drive-low}
+use Rattle.law_drives.specs.Settled.{remains-used, used-remains, remains-is-used, serial-of, its-drive-low, sealed-full}
+use Rattle.law_drives.specs.States.{idle-ok}
 use Rattle.law_drives.specs.Steady.{Steady, SealedAll, Rest}
 use Rattle.law_drives.specs.Steady.Rest.{rest-sealed, rest-open}
 use Rattle.law_drives.specs.Tables.{zero-at, remains, remaining-is}
 use Rattle.law_drives.specs.Tests.{clash, and-false-left, and-false-right, not-so, cond-true, eqb-self}
 use Rattle.law_drives.specs.Tidy.{spareAt, usedAt, Tidy}
 use Rattle.law_drives.specs.Zones.{Bytes, Shaped}
-use Rattle.proof_tables.specs.Idle.{idle-ok}
 use Rattle.proof_tables.specs.Reclaiming.{cand-record}
 use Rattle.proof_tables.specs.Run.{flies, awaits, Open, Lists, Healthy}
 use Rattle.proof_tables.specs.Slots.{none-flies}

@@ -16,14 +16,13 @@ use Rattle.spec.specs.Lists.{below, all, flat}
 use Rattle.spec.specs.Params.{footers, capacity, drivesOf, present}
 use Rattle.spec.specs.Segments.{headerAt, recordsIn}
 use Rattle.law_basic.specs.Geometry.{Ranged}
-use Rattle.law_drives.specs.Fewest.{sealed-full}
 use Rattle.law_drives.specs.Footers.{hits-each, within-each, footerChunks, footer-puts, footers-count, footer-rooms, footer-records}
 use Rattle.law_drives.specs.Growing.{Grows}
 use Rattle.law_drives.specs.Members.{In, in-all, map-cong, flat-cong, below-in}
 use Rattle.law_drives.specs.Puts.{putAt, putAll, puts-pointer, puts-old}
 use Rattle.law_drives.specs.Range.{capacity-is, capacity-over}
 use Rattle.law_drives.specs.Segs.{present-in}
-use Rattle.law_drives.specs.Settled.{SameZones}
+use Rattle.law_drives.specs.Settled.{SameZones, sealed-full}
 use Rattle.law_drives.specs.Tests.{not-so, cond-true, cond-false, eqb-self}
 use Rattle.law_drives.specs.Zones.{Shaped, zoneStore, hits, zone-after, Room, Within, Roomy}
 

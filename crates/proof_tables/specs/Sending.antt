@@ -1,6 +1,6 @@
 -- A block is sent, by a write or a copy: it fills a position, begins a stripe, or opens a segment. Assumes nothing.
 use mathlib.Core.Path.{_≡_, refl, sym, ap, ap₂, _∙_, subst}
-use mathlib.Core.List.{List, []}
+use mathlib.Core.List.{List, [], _∷_}
 use mathlib.Core.Bool.{Bool, true, false, not, _&&_, _||_}
 use mathlib.Core.Logic.{_⊎_, ⊎-elim}
 use Prim.Native.Nat.{ℕ, zero, suc, _^_, _≤_, _<_}
@@ -18,32 +18,27 @@ use Rattle.spec.specs.Lists.Opt.{none}
 use Rattle.spec.specs.Memory.{slotCount, slots, stripeIn, filledIn, landedIn, isFree, isFull, isFilling, inFlight, freeSlot, fillingSlot, hasFilling, setOpen, beginStripe, addEntry}
 use Rattle.spec.specs.Params.{dataCount, inflightLen}
 use Rattle.spec.specs.Segments.{segments, candidates, addressTable, compactTable}
-use Rattle.spec.specs.Write.{mustOpen, opens, noSerial, otherGroup, mustWait, placed, Sending, openedBy, slotFor, begunBy, sending}
+use Rattle.spec.specs.Write.{mustOpen, opens, noSerial, otherGroup, mustWait, placed, Sending, openedBy, slotFor, begunBy, sending, scarce}
 use Rattle.law_basic.specs.Be.{room}
 use Rattle.law_basic.specs.Geometry.{Ranged}
-use Rattle.law_basic.specs.Ranges.{Test, test, and-left, and-right, length-below, getD-below}
+use Rattle.law_basic.specs.Ranges.{Test, test, and-left, and-right, length-below}
 use Rattle.law_basic.specs.Ranges.Test.{yes!, no! }
-use Rattle.law_drives.specs.Headers.{header-roomy, header-within}
-use Rattle.law_drives.specs.Members.{In, in-keep, keep-in, none-in, in-any, below-in, index-below, index-passes, first-in, in-some}
+use Rattle.law_drives.specs.Headers.{header-roomy, header-within, empty-all}
+use Rattle.law_drives.specs.Members.{In, in-keep, keep-in, none-in, in-any, below-in, first-in, in-some}
 use Rattle.law_drives.specs.Range.{data-count}
+use Rattle.law_drives.specs.Slots.{slot-found}
+use Rattle.law_drives.specs.States.{StateOk, in-slots, slots-in}
 use Rattle.law_drives.specs.Tests.{clash, or-left, or-right, or-cases, not-so}
 use Rattle.law_drives.specs.Zones.{Shaped, hits, Room, Within, Roomy}
 use Rattle.proof_tables.specs.Carried.{begin-healthy}
 use Rattle.proof_tables.specs.Filling.{placed-long, add-ok, begin-ok, fill-healthy}
-use Rattle.proof_tables.specs.Heading.{empty-all, head-addresses, head-compact, head-healthy}
-use Rattle.proof_tables.specs.Idle.{StateOk, in-slots, slots-in}
+use Rattle.proof_tables.specs.Heading.{head-addresses, head-compact, head-healthy}
 use Rattle.proof_tables.specs.Reading.{found}
 use Rattle.proof_tables.specs.Run.{flies, Healthy}
 use Rattle.proof_tables.specs.Slots.{begin-filled, begin-lists}
 use Rattle.proof_tables.specs.Tallies.{tally-none, some-out}
 
 -- ---- eighths found by a search
-
-slot-found : (f : ℕ → Bool) → any f slots ≡ true → (indexOf f slots < 8) × (f (indexOf f slots) ≡ true)
-unfolding slots slotCount
-slot-found f q =
-    let l : indexOf f (below 8) < 8 = subst (λ (x : ℕ). indexOf f (below 8) < x) (length-below 8) (index-below f (below 8) q) in
-    (l, ap f (sym (getD-below 8 (indexOf f (below 8)) 0 l)) ∙ index-passes f (below 8) 0 q)
 
 pub filling-slot : (p : Params) (st : State) → hasFilling p st ≡ true → (fillingSlot p st < 8) × (flies st (fillingSlot p st) ≡ true) × (filledIn st (fillingSlot p st) < dataCount p)
 unfolding hasFilling fillingSlot
@@ -332,3 +327,12 @@ module _ (p : Params) (r : Ranged p) (v : View) (sh : Shaped p v) (st : State) (
       go (yes! q) m = fills q
       go (no! q) (yes! m) = begins-segment q nw m ns (ne (opens-is q m))
       go (no! q) (no! m) = begins-stripe q nw m
+
+-- 01, Refusals, 8: more than n zones are empty
+pub plenty : (p : Params) (v : View) (n : ℕ) → scarce p v n ≡ false → isNil (emptyZones p v) ≡ false
+unfolding scarce
+plenty p v n q = some (emptyZones p v) (leb-false (length (emptyZones p v)) n q)
+  where
+    some : (l : List ℕ) → n < length l → isNil l ≡ false
+    some [] h = absurd (let x : ⊥ = omega arith in x)
+    some (a ∷ l) h = unfold isNil in refl

@@ -12,11 +12,8 @@ use Rattle.spec.specs.declared.State.{State}
 use Rattle.spec.specs.Layout.{mkRec}
 use Rattle.spec.specs.Lists.{only}
 use Rattle.spec.specs.Memory.{cell, stripeIn, filledIn, landedIn, entryIn, offsetIn, isFree, beginStripe, addEntry, landedMask, markLanded, freeStripe}
+use Rattle.law_drives.specs.Slots.{cell-low}
 use Rattle.proof_tables.specs.Run.{flies, Lists}
-
-pub cell-low : (i k : ℕ) → i < 8 → k < 8 → cell i k < 64
-unfolding cell
-cell-low i k h l = omega arith
 
 pub cell-same : (i j k l : ℕ) → k < 8 → l < 8 → cell i k ≡ cell j l → (i ≡ j) × (k ≡ l)
 unfolding cell

@@ -23,13 +23,13 @@ use Rattle.law_basic.specs.Geometry.{ranged}
 use Rattle.law_views.specs.Views.{Whole, seen}
 use Rattle.law_drives.specs.Accept.{Accepted, accepted-of, in-groups}
 use Rattle.law_drives.specs.Checks.{Passes}
-use Rattle.law_drives.specs.Lengths.{lengths-of, whole-of}
+use Rattle.law_drives.specs.Lengths.{lengths-of, whole-of, of-lengths}
 use Rattle.law_drives.specs.Masks.{named-low, named-ones, named-some}
+use Rattle.law_drives.specs.States.{idle-ok}
 use Rattle.law_drives.specs.Tables.{length-addresses, length-compact}
 use Rattle.law_drives.specs.Tests.{or-left, or-right, cond-false}
 use Rattle.law_drives.specs.Zones.{Shaped}
 use Rattle.proof_tables.specs.Base.{Decodes, Base}
-use Rattle.proof_tables.specs.Idle.{idle-ok, of-lengths}
 use Rattle.proof_tables.specs.Run.{Run}
 
 -- what a restart's memory says, by its definition

@@ -25,14 +25,15 @@ use Rattle.spec.specs.Segments.{segments}
 use Rattle.law_basic.specs.Geometry.{ranged}
 use Rattle.law_basic.specs.Ranges.{and-left, and-right}
 use Rattle.law_views.specs.Views.{Whole, seen}
-use Rattle.law_drives.specs.Checks.{clear, refusal-kind}
+use Rattle.law_calls.specs.Refusals.{refusal-kind, refused-unfinished}
+use Rattle.law_drives.specs.Checks.{clear}
 use Rattle.law_drives.specs.Masks.{named-some}
 use Rattle.law_drives.specs.Tests.{clash, or-right}
 use Rattle.law_drives.specs.Zones.{Shaped}
 use Rattle.proof_tables.specs.Going.{well-write, well-close}
 use Rattle.proof_tables.specs.Landings.{well-land}
 use Rattle.proof_tables.specs.Losing.{idle-kept, refused-kept, lost-write, lost-land, lost-close, lost-reclaim, lost-rebuild}
-use Rattle.proof_tables.specs.Outcomes.{Ended, ended, refused-unfinished, cut-unfinished, cut-cut}
+use Rattle.proof_tables.specs.Outcomes.{Ended, ended, cut-unfinished, cut-cut}
 use Rattle.proof_tables.specs.Outcomes.Ended.{ended-refused, ended-done, ended-cut}
 use Rattle.proof_tables.specs.Reading.{read-idle, fill-idle}
 use Rattle.proof_tables.specs.Reclaiming.{well-reclaim}

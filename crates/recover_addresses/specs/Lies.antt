@@ -2,9 +2,8 @@
 use mathlib.Core.Path.{_≡_, refl, sym, ap, ap₂, _∙_, subst}
 use mathlib.Core.List.{List, [], _∷_, _++_, map, append-nil}
 use mathlib.Core.Bool.{Bool, true, false, cond, not, _||_}
-use Prim.Native.Nat.{ℕ, zero, suc, _+_, _-_, _≤_, _<_}
-use native.Mathlib.Nat.{add-zero, zero-add}
-use borrow.Author.Tests.{not-false}
+use Prim.Native.Nat.{ℕ, _+_, _-_, _≤_, _<_}
+use native.Mathlib.Nat.{zero-add}
 use native.Mathlib.Omega.{arith}
 use lib.ListN.{length, getD}
 use lib.Bits.{bitXor}
@@ -13,7 +12,7 @@ use Rattle.spec.specs.Bytes.{xorAll}
 use Rattle.spec.specs.Drives.{View, zoneAt, viewOf, mkDisk, zoneOn, sealedIn, dataStored, recordIn}
 use Rattle.spec.specs.Faults.{outside, twice, storedBad}
 use Rattle.spec.specs.Layout.{dataDrive, inGroupOf, headerSerial, Rec, mkRec}
-use Rattle.spec.specs.Lists.{below, any, consIf, keep, isNil, firstOr, isIn}
+use Rattle.spec.specs.Lists.{below, any, consIf, keep, firstOr, isIn}
 use Rattle.spec.specs.Memory.{shownAt}
 use Rattle.spec.specs.Params.{inRange, compactLen, placeBlock, placeZone, placeDrive, drivesOf, present}
 use Rattle.spec.specs.Parity.{parityRec}
@@ -24,13 +23,14 @@ use Rattle.law_basic.specs.Ranges.{Test, test, below-none, map-append, map-map,
 use Rattle.law_basic.specs.Ranges.Test.{yes!, no! }
 use Rattle.law_basic.specs.Xor.{xorAll-none, xorAll-snoc}
 use Rattle.law_views.specs.Views.{Whole}
+use Rattle.law_drives.specs.Accept.{outside-in}
 use Rattle.recover_groups.specs.Groups.{recsBad, recsFault}
 use Rattle.recover_segments.specs.Remains.{serialOf}
-use Rattle.law_drives.specs.Members.{In, in-map, none-in}
+use Rattle.law_drives.specs.Members.{In, in-map, none-in, first-any}
 use Rattle.law_drives.specs.Segs.{in-present, remaining-low, length-records, record-at, data-low, recs-here, serial-is, chunk-at, CandAt}
-use Rattle.law_drives.specs.Spots.{cand-zone, Spot, counts-in, spot-of, spot-block, spot-drive, InGroups, shown-first}
+use Rattle.law_drives.specs.Spots.{cand-zone, counts-in, spot-of, spot-block, spot-drive, InGroups, shown-first}
 use Rattle.law_drives.specs.Tables.{length-compact}
-use Rattle.law_drives.specs.Tests.{true-false, or-left, or-right, cond-true, cond-false}
+use Rattle.law_drives.specs.Tests.{or-left, cond-true, cond-false}
 
 -- what the walk over the records rests on: buffers of their lengths, records in order, and the compact table that the drives say
 pub record Ground (p : Params) (im ps : List ℕ) (gone : ℕ) (cs : List ℕ) : Type 0 where
@@ -60,15 +60,6 @@ counted-low p v gone g s k = remaining-low p v gone g (k .remains)
 
 -- ---- every chunk of what remains sits at an offset of its group
 
-outside-in : (p : Params) (i : ℕ) (rs : List Rec) → outside p i rs ≡ false → (o : ℕ) → o < length rs → inGroupOf p (i + o) (getD rs o (mkRec 0 0 0) .stripe) ≡ true
-unfolding outside
-outside-in p i [] q o h = absurd (let z : ⊥ = omega arith in z)
-outside-in p i (x ∷ rs) q zero h =
-    ap (λ (n : ℕ). inGroupOf p n (x .stripe)) (add-zero i) ∙ not-false (inGroupOf p i (x .stripe)) (or-left (not (inGroupOf p i (x .stripe))) (outside p (suc i) rs) q)
-outside-in p i (x ∷ rs) q (suc o) h =
-    ap (λ (n : ℕ). inGroupOf p n (getD rs o (mkRec 0 0 0) .stripe)) (let e : i + suc o ≡ suc i + o = omega arith in e)
-    ∙ outside-in p (suc i) rs (or-right (not (inGroupOf p i (x .stripe))) (outside p (suc i) rs) q) o (omega arith)
-
 -- a remaining segment has no such fault
 pub seg-clean : (p : Params) (v : View) (gone g : ℕ) → any (recsFault p gone) (segments p v gone) ≡ false → In g (remaining p v gone) → recsFault p gone (segmentOf p v gone g) ≡ false
 unfolding segments
@@ -90,11 +81,6 @@ in-groups p v gone q g d o m hd pr h =
     ap₂ (λ (n : ℕ) (y : Rec). inGroupOf p n (y .stripe)) (sym (zero-add o)) (sym a) ∙ outside-in p 0 (recsOn x d) u o (subst (λ (n : ℕ). o < n) (sym l) h)
 
 -- ---- the stamp of a chunk that the table shows
-
-first-any : (n m : ℕ) (l : List ℕ) → isNil l ≡ false → firstOr n l ≡ firstOr m l
-unfolding isNil firstOr
-first-any n m [] q = true-false q
-first-any n m (a ∷ l) q = refl
 
 module _ (p : Params) (r : Ranged p) (v : View) (gone g s : ℕ) (clean : any (recsFault p gone) (segments p v gone) ≡ false) (k : Counted p v gone g s) (d : ℕ) (hd : d < p .N)
     (pr : isIn gone d ≡ false) where
@@ -169,20 +155,17 @@ module _ (p : Params) (r : Ranged p) (v : View) (gone d g o s : ℕ) (k : Lies p
 -- ---- a candidate by its place
 
 module _ (p : Params) (r : Ranged p) (v : View) (gone : ℕ) (h : Cand) (k : CandAt p v gone h) where
-  spot : Spot p v gone h
-  spot = spot-of p r v gone h k
-
   is-drive : placeDrive p (h .place) ≡ h .drive
-  is-drive = spot-drive p r v gone h spot
+  is-drive = spot-drive p r v gone h (spot-of p r v gone h k)
 
   is-zone : placeZone p (h .place) ≡ k .of
-  is-zone = cand-zone p r v gone h k spot
+  is-zone = cand-zone p r v gone h k (spot-of p r v gone h k)
 
   is-offset : placeBlock p (h .place) - 1 ≡ h .offset
-  is-offset = ap (λ (x : ℕ). x - 1) (spot-block p r v gone h spot) ∙ (let z : 1 + h .offset - 1 ≡ h .offset = omega arith in z)
+  is-offset = ap (λ (x : ℕ). x - 1) (spot-block p r v gone h (spot-of p r v gone h k)) ∙ (let z : 1 + h .offset - 1 ≡ h .offset = omega arith in z)
 
   pub block-low : 1 ≤ placeBlock p (h .place)
-  block-low = omega (arith, spot-block p r v gone h spot)
+  block-low = omega (arith, spot-block p r v gone h (spot-of p r v gone h k))
 
   its-drive : h .drive ≡ dataDrive p (k .stripe) (k .position)
   unfolding candOf
@@ -191,7 +174,7 @@ module _ (p : Params) (r : Ranged p) (v : View) (gone : ℕ) (h : Cand) (k : Can
   its-lie : Lies p v gone (h .drive) (k .of) (h .offset) (k .stripe)
   unfolding candOf
   its-lie = record {
-    drive-low = spot .drive-low;
+    drive-low = spot-of p r v gone h k .drive-low;
     counted = record { remains = k .remains; stripe-low = k .stripe-low; it-counts = k .it-counts };
     offset-is = ap (λ (x : Cand). x .offset) (k .it-is) ∙ ap (offsetOf gone (segmentOf p v gone (k .of)) (k .stripe)) (sym its-drive);
   }

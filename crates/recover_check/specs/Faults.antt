@@ -24,6 +24,7 @@ use Rattle.spec.specs.Params.{inRange, present}
 use Rattle.spec.specs.Restart.{uncountedIn}
 use Rattle.spec.specs.Segments.{Segment, segmentOf, segments, hasChunk, counts, counted, uncounted, unsealed}
 use Rattle.spec.specs.Write.{opens}
+use Rattle.law_drives.specs.Rebuilding.{counted-low}
 use Rattle.recover_check.specs.declared.Exam.{Exam}
 
 -- the sum of a number of each segment
@@ -159,10 +160,6 @@ kept-most : (f : ℕ → Bool) (n : ℕ) → length (keep f (below n)) ≤ n
 kept-most f n = omega (arith, length-keep f (below n), length-below n)
 
 module _ (p : Params) (gone : ℕ) (g : Segment) where
-  pub counted-most : length (counted p gone g) ≤ p .S
-  unfolding counted
-  counted-most = kept-most (counts p gone g) (p .S)
-
   pub uncounted-most : length (uncounted p gone g) ≤ p .S
   unfolding uncounted
   uncounted-most = kept-most (λ s. any (hasChunk g s) (present p gone) && not (counts p gone g s)) (p .S)
@@ -186,7 +183,7 @@ module _ (p : Params) (v : View) (gone : ℕ) (flags : List Bool) where
     pub seen-fits : (e .loose ≤ n * p .S) × (e .counted ≤ n * p .S) × (e .top ≤ n * p .S) × (e .part ≤ n * p .S)
     seen-fits = (
       omega (arith, s .loose-is, sum-le (λ g. getD flags g false) (λ g. length (uncounted p gone (segmentOf p v gone g))) (p .S) n (λ g. uncounted-most p gone (segmentOf p v gone g))),
-      omega (arith, s .counted-is, sum-le (openBy p v gone flags) (λ g. length (counted p gone (segmentOf p v gone g))) (p .S) n (λ g. counted-most p gone (segmentOf p v gone g))),
+      omega (arith, s .counted-is, sum-le (openBy p v gone flags) (λ g. length (counted p gone (segmentOf p v gone g))) (p .S) n (λ g. counted-low p gone (segmentOf p v gone g))),
       omega (arith, s .top-is, sum-le (openBy p v gone flags) (λ g. topOf p gone (segmentOf p v gone g)) (p .S) n (λ g. top-most p gone (segmentOf p v gone g))),
       omega (arith, s .part-is, sum-le (openBy p v gone flags) (λ g. length (uncounted p gone (segmentOf p v gone g))) (p .S) n (λ g. uncounted-most p gone (segmentOf p v gone g))),
     )
@@ -297,10 +294,6 @@ faulty-kept p v gone g e = ap (λ (b : Bool). b && segmentFault p gone (segments
 pub faulty-gone : (p : Params) (v : View) (gone g : ℕ) → remains p v gone g ≡ false → faulty p v gone g ≡ false
 unfolding faulty
 faulty-gone p v gone g e = ap (λ (b : Bool). b && segmentFault p gone (segments p v gone) (segmentOf p v gone g)) e
-
-pub seg-full : (p : Params) (v : View) (gone g : ℕ) → segmentOf p v gone g .full ≡ sealedIn p v gone g
-unfolding segmentOf
-seg-full p v gone g = refl
 
 -- ---- the loop's two ways on
 

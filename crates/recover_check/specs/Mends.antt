@@ -1,6 +1,6 @@
 -- What the examination says of step 4 of a restart: one unsealed segment at most, whole or ragged or neither (01, Restart, 4). Assumes nothing.
 use mathlib.Core.Path.{_≡_, refl, sym, ap, ap₂, _∙_, subst}
-use mathlib.Core.List.{List, [], _∷_, map}
+use mathlib.Core.List.{List, [], _∷_}
 use mathlib.Core.Bool.{Bool, true, false, not, _&&_, _||_}
 use Prim.Native.Nat.{ℕ, suc, _≤_, _<_}
 use native.Mathlib.Nat.{add-zero}
@@ -9,7 +9,7 @@ use borrow.Author.Tests.{le-leb, ne-eqb}
 use native.Mathlib.Omega.{arith}
 use lib.Dec.{leb, eqb}
 use lib.ListN.{length}
-use Rattle.law_basic.specs.Ranges.{not-both}
+use Rattle.law_basic.specs.Ranges.{not-both, pass-none}
 use Rattle.law_scans.specs.Scans.{isNil-length}
 use Rattle.recover_headers.specs.Lowest.{low-none, low-named, low-le}
 use Rattle.recover_survey.specs.Tops.{topOf, same-top}
@@ -24,6 +24,7 @@ use Rattle.spec.specs.Lists.Opt.{some}
 use Rattle.spec.specs.Lists.{below, any, consIf, keep, isNil, total, sameList}
 use Rattle.spec.specs.Restart.{isWhole, isRagged, uncountedIn, rewrites}
 use Rattle.spec.specs.Segments.{Segment, segments, counts, counted, uncounted, unsealed}
+use Rattle.law_drives.specs.Accept.{map-nil}
 use Rattle.recover_check.specs.declared.Exam.{Exam}
 use Rattle.recover_check.specs.Faults.{summed, Examined, raggedBy, faulty, faults-list}
 
@@ -54,15 +55,6 @@ none-pass {A} f (a ∷ l) e = go (f a) (none-pass f l) e
     go true r q = let z : _≡_ {A = ℕ} (suc (length (keep f l))) 0 = ap length q in absurd (let w : ⊥ = omega (arith, z) in w)
     go false r q = r q
 
-pass-none : {A : Type 0} (f : A → Bool) (l : List A) → any f l ≡ false → keep f l ≡ []
-unfolding keep consIf any
-pass-none f [] e = refl
-pass-none {A} f (a ∷ l) e = go (f a) (pass-none f l) e
-  where
-    go : (b : Bool) → (any f l ≡ false → keep f l ≡ []) → (b || any f l) ≡ false → consIf b a (keep f l) ≡ []
-    go true r q = absurd (not-both true refl q)
-    go false r q = r q
-
 none-less : {A : Type 0} (f g : A → Bool) (l : List A) → ((a : A) → f a ≡ true → g a ≡ true) → any g l ≡ false → any f l ≡ false
 unfolding any
 none-less f g [] h e = refl
@@ -72,10 +64,6 @@ none-less {A} f g (a ∷ l) h e = go (f a) (g a) (h a) (none-less f g l h) e
     go true y q r k = absurd (not-both true refl (sym (ap (λ (b : Bool). b || any g l) (q refl)) ∙ k))
     go false true q r k = absurd (not-both true refl k)
     go false false q r k = r k
-
-map-nil : {A B : Type 0} (f : A → B) (l : List A) → map f l ≡ [] → l ≡ []
-map-nil f [] e = refl
-map-nil {A} {B} f (a ∷ l) e = let z : _≡_ {A = ℕ} (suc (length (map f l))) 0 = ap length e in absurd (let w : ⊥ = omega (arith, z) in w)
 
 clash : (p : Params) (gone : ℕ) (gs : List Segment) → leb 2 (length (unsealed gs)) ≡ true → (g : Segment) → not (g .full) ≡ true → segmentFault p gone gs g ≡ true
 unfolding segmentFault clashes

@@ -3,10 +3,9 @@ use mathlib.Core.Path.{_≡_, refl, sym, ap, ap₂, _∙_}
 use mathlib.Core.List.{List, [], _++_, map}
 use mathlib.Core.Bool.{Bool, true, false, cond}
 use Prim.Native.Nat.{ℕ, _+_, _-_, _*_, _/_, _%_, _≤_, _<_}
-use native.Mathlib.Nat.{add-zero, zero-add, one-mul, mul-assoc, add-mul, sub-zero, div-add-mod', zero-mod, mod-eq-of-lt, add-mul-mod-self-right, mul-add-mod-self-right}
+use native.Mathlib.Nat.{add-zero, zero-add, mul-assoc, add-mul, sub-zero, div-add-mod', zero-mod, mod-eq-of-lt, mul-add-mod-self-right}
 use native.Mathlib.Omega.{arith}
 use lib.ListN.{length, set, replicate, length-replicate, length-map}
-use lib.Arith.{digits-lt}
 use Rattle.spec.specs.declared.Params.{Params}
 use Rattle.spec.specs.Bytes.{splice}
 use Rattle.spec.specs.Drives.{Zone, View, zoneAt, sealedIn, dataStored, recordIn}
@@ -15,7 +14,7 @@ use Rattle.spec.specs.Lists.{below, flat, padTo, isIn}
 use Rattle.spec.specs.Memory.{compactAt}
 use Rattle.spec.specs.Params.{compactLen}
 use Rattle.spec.specs.Segments.{recordsIn, segmentOf, segments, recsOn, compactRow, compactTable}
-use Rattle.law_basic.specs.Geometry.{item}
+use Rattle.law_basic.specs.Geometry.{item, row-fits}
 use Rattle.law_basic.specs.Ranges.{below-none, length-below, map-below-snoc, map-map, flat-below-snoc}
 use Rattle.law_basic.specs.Splice.{splice-nil, splice-all, wrote-one, splice-next}
 use Rattle.recover_segments.specs.Remains.{remains as Remain, isLeft}
@@ -78,10 +77,6 @@ pub row-start : (p : Params) (d z : ℕ) → compactAt p d z 0 ≡ compactAt p d
 unfolding compactAt
 row-start p d z = let e : (d * p .Z + z) * p .S ≡ d * p .Z * p .S + z * p .S = add-mul (d * p .Z) z (p .S) in
     let f : (d * p .Z + 0) * p .S ≡ d * p .Z * p .S = ap (λ (x : ℕ). x * p .S) (add-zero (d * p .Z)) in omega arith
-
-pub row-fits : (p : Params) (d z : ℕ) → d < p .N → z < p .Z → compactAt p d z 0 + p .S ≤ compactLen p
-unfolding compactAt compactLen
-row-fits p d z hd hz = let e : (d * p .Z + z) * p .S + p .S ≤ p .N * p .Z * p .S = item (d * p .Z + z) (p .N * p .Z) (p .S) (digits-lt hd hz) in omega arith
 
 pub rows-none : (f : ℕ → List ℕ) (l : List ℕ) (at : ℕ) → l ≡ splice l at (flat f (below 0))
 unfolding flat
@@ -172,9 +167,6 @@ row-both l l′ l″ at n m s h k e f =
 
 pub zero-base : (g : ℕ) → 0 % g ≡ 0
 zero-base g = zero-mod g
-
-pub next-base : (g b : ℕ) → b % g ≡ 0 → (b + g) % g ≡ 0
-next-base g b e = ap (λ (x : ℕ). (b + x) % g) (sym (one-mul g)) ∙ add-mul-mod-self-right b 1 g ∙ e
 
 pub near : (p : Params) (b k s : ℕ) → 0 < p .G → b % p .G ≡ 0 → k < p .G → b + k ≡ s → k ≡ compactEntry p s
 unfolding compactEntry

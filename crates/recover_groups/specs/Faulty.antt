@@ -5,7 +5,7 @@ use mathlib.Core.Bool.{Bool, true, false, not, _&&_, _||_}
 use Prim.Native.Nat.{ℕ, zero, suc, _+_, _-_, _*_, _/_, min, _≤_, _<_}
 use native.Mathlib.Nat.{add-zero, suc-mul}
 use native.Mathlib.Decide.{decLe}
-use borrow.Author.Tests.{not-false, le-leb, lt-leb, lt-ltb, le-ltb, eq-eqb, ne-eqb, ltb-true, eqb-true}
+use borrow.Author.Tests.{le-leb, lt-leb, lt-ltb, le-ltb, eq-eqb, ne-eqb, ltb-true, eqb-true}
 use native.Mathlib.Omega.{arith}
 use lib.Dec.{ltb, eqb}
 use lib.ListN.{length, getD, take, drop, length-take, length-drop, take-append-drop, drop-of-length-le}
@@ -18,6 +18,7 @@ use Rattle.spec.specs.Lists.{any}
 use Rattle.spec.specs.Params.{present, absent}
 use Rattle.spec.specs.Segments.{Segment, recsOn, counted}
 use Rattle.law_basic.specs.Ranges.{and-left, and-right, not-both, any-append, any-same}
+use Rattle.law_drives.specs.Accept.{outside-in}
 use Rattle.law_drives.specs.Members.{none-in, in-none, any-in, in-any, getD-in}
 use Rattle.law_drives.specs.Tests.{or-left, or-right, or-neither, same-test}
 use Rattle.recover_groups.specs.Bases.{group-len-whole, group-len-last, group-of, group-back, bases-step, bases-end}
@@ -170,23 +171,12 @@ bad-next p d o rs r t =
 
 -- ---- records at their offsets
 
--- 01, Refusals, 9: with none outside, each is in the group of its offset
-pub at-group : (p : Params) (o : ℕ) (rs : List Rec) → outside p o rs ≡ false → (i : ℕ) → i < length rs
-    → inGroupOf p (o + i) (getD rs i (mkRec 0 0 0) .stripe) ≡ true
-unfolding outside
-at-group p o [] h i l = absurd (let q : ⊥ = omega (arith, l) in q)
-at-group p o (r ∷ rs) h zero l =
-    ap (λ (n : ℕ). inGroupOf p n (r .stripe)) (add-zero o) ∙ not-false (inGroupOf p o (r .stripe)) (or-left (not (inGroupOf p o (r .stripe))) (outside p (suc o) rs) h)
-at-group p o (r ∷ rs) h (suc i) l =
-    ap (λ (n : ℕ). inGroupOf p n (getD rs i (mkRec 0 0 0) .stripe)) (let e : o + suc i ≡ suc o + i = omega arith in e)
-    ∙ at-group p (suc o) rs (or-right (not (inGroupOf p o (r .stripe))) (outside p (suc o) rs) h) i (omega (arith, l))
-
 -- and so its stripe has the group's number
 pub stripe-group : (p : Params) (o : ℕ) (rs : List Rec) → outside p o rs ≡ false → (i : ℕ) → i < length rs
     → (getD rs i (mkRec 0 0 0) .stripe < p .S) × (getD rs i (mkRec 0 0 0) .stripe / p .G ≡ (o + i) / p .G)
 stripe-group p o rs h i l =
     let s = getD rs i (mkRec 0 0 0) .stripe in
-    let t : (ltb s (p .S) && eqb (s / p .G) ((o + i) / p .G)) ≡ true = unfold inGroupOf group in at-group p o rs h i l in
+    let t : (ltb s (p .S) && eqb (s / p .G) ((o + i) / p .G)) ≡ true = unfold inGroupOf group in outside-in p o rs h i l in
     (ltb-true s (p .S) (and-left (ltb s (p .S)) (eqb (s / p .G) ((o + i) / p .G)) t), eqb-true (s / p .G) ((o + i) / p .G) (and-right (ltb s (p .S)) (eqb (s / p .G) ((o + i) / p .G)) t))
 
 -- records of different groups have different stripes

@@ -12,12 +12,12 @@ use Rattle.spec.specs.declared.Params.{Params}
 use Rattle.spec.specs.Bytes.{part}
 use Rattle.spec.specs.Drives.{Chunk, noChunk, Zone, noZone, View, zoneAt, pointerAt, chunkAt, chunkOf, viewOf, mkDisk, pointerOf, zoneOn, blocksOf, sparesOf, footersOf, zeroSpare}
 use Rattle.spec.specs.Faults.{pointerFaults, sameChunk, headerFault, serialFault, footersStored, sameBlocks, footerFaultIn}
-use Rattle.spec.specs.Layout.{headerBlock, headerCopied, footerBlock}
+use Rattle.spec.specs.Layout.{headerBlock, footerBlock}
 use Rattle.spec.specs.Lists.{upFrom, below, all, any, keep, sameList, isIn}
 use Rattle.spec.specs.Params.{inRange, footers, capacity, unitLen, imageLen, pointersLen, placeOf, placeByte, drivesOf, present}
-use Rattle.spec.specs.Segments.{lowDrive, headerAt, remaining, Segment, segmentOf, segments}
+use Rattle.spec.specs.Segments.{remaining, Segment, segmentOf, segments}
 use Rattle.law_basic.specs.Geometry.{ranged, capacity-low, zone-on-lt}
-use Rattle.law_basic.specs.Ranges.{getD-map-below, keep-below-same, any-keep-same}
+use Rattle.law_basic.specs.Ranges.{getD-map-below, keep-below-same, any-keep-same, any-map, any-upFrom-same}
 use Rattle.law_scans.specs.Scans.{any-keep}
 use Rattle.law_views.specs.Views.{Whole, pointer-view, chunk-view}
 use Rattle.recover_segments.specs.Kept.{remaining-keep}
@@ -129,17 +129,6 @@ above-any p ptrs gone z = refl
 
 -- ---- serials
 
-any-map : {A B : Type 0} (f : B → Bool) (h : A → B) (l : List A) → any f (map h l) ≡ any (λ (a : A). f (h a)) l
-unfolding any
-any-map f h [] = refl
-any-map f h (a ∷ l) = ap (λ (b : Bool). f (h a) || b) (any-map f h l)
-
-any-upFrom-same : (f g : ℕ → Bool) (i n : ℕ) → ((k : ℕ) → i ≤ k → k < i + n → f k ≡ g k) → any f (upFrom i n) ≡ any g (upFrom i n)
-unfolding any upFrom
-any-upFrom-same f g i zero h = refl
-any-upFrom-same f g i (suc n) h =
-    ap₂ (λ (x y : Bool). x || y) (h i (omega arith) (omega arith)) (any-upFrom-same f g (suc i) n (λ k p q. h k (omega arith) (omega arith)))
-
 pub any-below-same : (f g : ℕ → Bool) (n : ℕ) → ((k : ℕ) → k < n → f k ≡ g k) → any f (below n) ≡ any g (below n)
 unfolding below
 any-below-same f g n h = any-upFrom-same f g 0 n (λ k p q. h k (omega arith))
@@ -161,10 +150,6 @@ serial-list p v gone g flags serials hg hk hs =
 pub seg-serial : (p : Params) (v : View) (gone g : ℕ) → segmentOf p v gone g .serial ≡ serialOf p v gone g
 unfolding segmentOf serialOf
 seg-serial p v gone g = refl
-
-pub seg-copied : (p : Params) (v : View) (gone g : ℕ) → segmentOf p v gone g .copied ≡ headerCopied (headerAt v (lowDrive p gone) g)
-unfolding segmentOf
-seg-copied p v gone g = refl
 
 -- the three ends of a test of header, then serial, then the other serials
 pub front-header : (f s : Bool) → f ≡ true → true ≡ (f || s)

@@ -79,8 +79,3 @@ module _ (f : ℕ → Bool) (n : ℕ) (l : List ℕ) (is : l ≡ keep f (below n
       go : (m : List ℕ) → Within (firstOr n m) n m → firstOr n m ≤ n
       go [] w = omega arith
       go (k ∷ m) w = let h : k < n = w .1 in omega (arith, h)
-
--- none is bad: the check passes
-pub zones-none : (l : List ℕ) (cs : List Check) → l ≡ [] → firstRefusal (zones l ∷ cs) ≡ firstRefusal cs
-unfolding firstRefusal ninth
-zones-none l cs e = ap (λ (x : List ℕ). ninth x (firstRefusal cs)) e

@@ -1,11 +1,11 @@
 -- The counted stripes that are still to be moved, numbered on (01, Restart, 4). Assumes nothing.
-use Prim.Native.Nat.{ℕ, suc, _+_, _-_, _*_, _/_, _%_, _≤_, _<_}
+use Prim.Native.Nat.{ℕ, suc, _+_, _-_, _*_, _%_, _≤_, _<_}
 use Rattle.spec.specs.Drives.{View, Store, Disk, sealedIn}
 use Rattle.spec.specs.Lists.{upFrom, consIf, keep}
 use Rattle.spec.specs.Restart.{movedStripe, movedStripes}
 use Rattle.spec.specs.Segments.{Segment, counts, counted}
 use Rattle.spec.specs.declared.Params.{Params}
-use Rattle.recover_groups.specs.Bases.{base-is, stripes-step}
+use Rattle.recover_groups.specs.Bases.{stripes-step}
 use Rattle.recover_groups.specs.Groups.{groupLen, segmentIn, Reads}
 use Rattle.recover_groups.specs.declared.Group.{Group}
 use Rattle.law_basic.specs.Geometry.{Ranged}
@@ -22,7 +22,7 @@ use lib.ListN.{length, length-append}
 use mathlib.Core.Bool.{Bool, true, false}
 use mathlib.Core.List.{List, [], _∷_, _++_}
 use mathlib.Core.Path.{_≡_, refl, sym, ap, ap₂, _∙_, subst}
-use native.Mathlib.Nat.{add-zero, suc-mul, zero-mul, sub-zero}
+use native.Mathlib.Nat.{add-zero, zero-mul, sub-zero}
 use native.Mathlib.Omega.{arith}
 
 -- stripe s, if it counts
@@ -199,12 +199,6 @@ groupAt s b = record { gone = 0; seg = s; full = false; base = b }
 -- nothing is moved yet
 abbrev pub unmoved : ℕ → Moved
 unmoved n = record { next = 0; left = n; cut = false }
-
--- the first stripes of groups, one after the other
-pub bases-turn : (p : Params) (base : ℕ) → 0 < p .G → base % p .G ≡ 0 → (base + p .G) % p .G ≡ 0
-bases-turn p base h e =
-    let q = base-is p base e in
-    ap (λ (x : ℕ). x % p .G) (let z : base + p .G ≡ suc (base / p .G) * p .G + 0 = omega (arith, suc-mul (base / p .G) (p .G)) in z) ∙ digits-mod (suc (base / p .G)) h
 
 pub bases-first : (p : Params) → 0 < p .G → 0 % p .G ≡ 0
 bases-first p h = ap (λ (x : ℕ). x % p .G) (let z : 0 ≡ 0 * p .G + 0 = omega (arith, zero-mul (p .G)) in z) ∙ digits-mod 0 h

@@ -20,11 +20,11 @@ use Rattle.law_restart.specs.Frames.{seen-after}
 use Rattle.law_restart.specs.Settled.{healthy-stores, settled}
 use Rattle.law_drives.specs.Accept.{Accepted, pointer-ok, faults-apart}
 use Rattle.law_drives.specs.Dropping.{free-are, drop-same, drop-empty}
-use Rattle.law_drives.specs.Members.{In, keep-in, in-any, below-in, first-in}
+use Rattle.law_drives.specs.Members.{In, keep-in, in-any, below-in, first-in, first-any}
 use Rattle.law_drives.specs.Segs.{seg-is, serial-is}
 use Rattle.law_drives.specs.Settled.{SameZones, zones-sealed, zones-pointer, zones-segment}
 use Rattle.law_drives.specs.Tables.{remains, in-remaining}
-use Rattle.law_drives.specs.Tests.{clash, true-false}
+use Rattle.law_drives.specs.Tests.{clash}
 use Rattle.law_drives.specs.Unsealed.{Loose, loose, whole-pointer}
 use Rattle.law_drives.specs.Unsealed.Loose.{loose-none, loose-one}
 use Rattle.law_drives.specs.Zones.{Shaped}
@@ -49,11 +49,6 @@ pub record Sane (p : Params) (v : View) : Type 0 where
 -- what is said of the unsealed segment: all its stripes count; it is rewritten
 abbrev pub Marks : Params → List Segment → Bool → Bool → Type 0
 Marks p gs whole ragged = (g : Segment) → unsealed gs ≡ g ∷ [] → (whole ≡ isWhole p g) × (ragged ≡ isRagged p g)
-
-first-same : (l : List ℕ) (a b : ℕ) → isNil l ≡ false → firstOr a l ≡ firstOr b l
-unfolding firstOr isNil
-first-same [] a b q = true-false q
-first-same (x ∷ l) a b q = refl
 
 module _ (p : Params) (r : Ranged p) (n : ℕ) (k₀ : Disk) (w : Whole p k₀) (sn : Sane p (seen p k₀)) (fl : List Bool) (kp : Keeps p (seen p k₀) 0 fl) where
   abbrev v : View
@@ -231,7 +226,7 @@ module _ (p : Params) (r : Ranged p) (n : ℕ) (k₀ : Disk) (w : Whole p k₀) 
 
             module _ (serial : ℕ) (es : serial ≡ suc (greatestSerial (segments p (seen p k₀) 0))) where
               ragged! : mendStores p gs x ≡ rewriteStores p x to serial
-              ragged! = as! ∙ (λ j. rewriteStores p x (sym (et ∙ first-same (freeZones p gs) (p .Z) 0 some!) j) (sym es j))
+              ragged! = as! ∙ (λ j. rewriteStores p x (sym (et ∙ first-any (p .Z) 0 (freeZones p gs) some!) j) (sym es j))
                 where
                   as! : mendStores p gs x ≡ rewriteStores p x (firstOr 0 (freeZones p gs)) (suc (greatestSerial gs))
                   as! = unfold mendStores in rw (nw, rg)

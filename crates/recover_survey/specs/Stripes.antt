@@ -2,8 +2,7 @@
 use mathlib.Core.Path.{_≡_, refl, sym, ap, ap₂, _∙_}
 use mathlib.Core.List.{List, [], _∷_, _++_, map, append-nil}
 use mathlib.Core.Bool.{Bool, true, false, cond, not, _&&_, _||_}
-use Prim.Native.Nat.{ℕ, suc, _+_, _%_, min, _≤_, _<_}
-use native.Mathlib.Nat.{add-mod-right}
+use Prim.Native.Nat.{ℕ, suc, _+_, min, _≤_, _<_}
 use borrow.Author.Tests.{eq-eqb, ne-eqb}
 use native.Mathlib.Omega.{arith}
 use lib.ListN.{length}
@@ -296,7 +295,3 @@ pub groups-ended : (p : Params) (gone : ℕ) (g : Segment) (base : ℕ) (b : Boo
 groups-ended p gone g base true h k q e = refl
 groups-ended p gone g base false h k q e =
     absurd (not-both (recsFault p gone g) e (sym (q refl) ∙ ap (any (groupFault p gone g)) (bases-end p base h k) ∙ any-none (groupFault p gone g)))
-
--- the next group's first stripe
-pub base-next : (base n : ℕ) → base % n ≡ 0 → (base + n) % n ≡ 0
-base-next base n e = add-mod-right base n ∙ e

@@ -1,5 +1,5 @@
 -- The open segment and its next stripe: the lowest unsealed one (01, Restart; Write). Assumes nothing.
-use mathlib.Core.Path.{_≡_, refl, sym, ap, ap₂, _∙_, subst}
+use mathlib.Core.Path.{_≡_, refl, sym, ap, _∙_, subst}
 use mathlib.Core.List.{List, [], _∷_, map}
 use mathlib.Core.Bool.{true, false, cond, not, _&&_}
 use mathlib.Core.Logic.{inl}
@@ -22,14 +22,11 @@ use Rattle.law_drives.specs.Members.{In, keep-in, keep-map}
 use Rattle.law_drives.specs.Segs.{seg-is}
 use Rattle.law_drives.specs.Tables.{remains, remaining-in}
 use Rattle.law_drives.specs.Tests.{and-false-left, and-false-right, cond-true, cond-false, cond-same}
+use Rattle.recover_segments.specs.Kept.{segs-of}
 
 unsealed-is : (p : Params) (v : View) (gone : ℕ) → unsealed (segments p v gone) ≡ map (segmentOf p v gone) (keep (λ g. not (segmentOf p v gone g .full)) (remaining p v gone))
 unfolding unsealed segments
 unsealed-is p v gone = keep-map (λ (g : Segment). not (g .full)) (segmentOf p v gone) (remaining p v gone)
-
-segs-are : (p : Params) (v : View) (gone : ℕ) (l : List ℕ) → map (λ (g : Segment). g .seg) (map (segmentOf p v gone) l) ≡ l
-segs-are p v gone [] = refl
-segs-are p v gone (g ∷ l) = ap₂ _∷_ (seg-is p v gone g) (segs-are p v gone l)
 
 -- the lowest of them
 pub data Opened (p : Params) (v : View) (gone u : ℕ) : Type 0 where
@@ -46,7 +43,7 @@ opened-is p v gone u e = go (keep (λ g. not (segmentOf p v gone g .full)) (rema
         none-open (e ∙ ap (λ (y : List Segment). firstOr (p .Z) (map (λ (g : Segment). g .seg) y)) x) x
     go (g ∷ l) q =
         let x : unsealed (segments p v gone) ≡ map (segmentOf p v gone) (g ∷ l) = unsealed-is p v gone ∙ ap (map (segmentOf p v gone)) q in
-        let y : u ≡ g = e ∙ ap (λ (y : List Segment). firstOr (p .Z) (map (λ (g : Segment). g .seg) y)) x ∙ ap (firstOr (p .Z)) (segs-are p v gone (g ∷ l)) in
+        let y : u ≡ g = e ∙ ap (λ (y : List Segment). firstOr (p .Z) (map (λ (g : Segment). g .seg) y)) x ∙ ap (firstOr (p .Z)) (segs-of p v gone (g ∷ l)) in
         let m : In g (remaining p v gone) = keep-in (λ g. not (segmentOf p v gone g .full)) (remaining p v gone) g (subst (λ (y : List ℕ). In g y) (sym q) (inl refl)) .0 in
         let (a, b) = remaining-in p v gone g m in
         one-open (map (segmentOf p v gone) l) (subst (λ (n : ℕ). n < p .Z) (sym y) a) (ap (remains p v gone) y ∙ b) (x ∙ ap (λ (n : ℕ). segmentOf p v gone n ∷ map (segmentOf p v gone) l) (sym y))

@@ -2,8 +2,8 @@
 use mathlib.Core.Path.{_≡_, sym, ap, _∙_, subst}
 use mathlib.Core.List.{List, [], _∷_, _++_}
 use mathlib.Core.Bool.{Bool, true, cond, _&&_}
-use Prim.Native.Nat.{ℕ, _+_, _%_, max, _≤_, _<_}
-use native.Mathlib.Nat.{add-mod-right, zero-add}
+use Prim.Native.Nat.{ℕ, _+_, max, _≤_, _<_}
+use native.Mathlib.Nat.{zero-add}
 use native.Mathlib.Decide.{ℕ-discrete}
 use borrow.Author.Tests.{eq-eqb, ne-eqb}
 use native.Mathlib.Omega.{arith}
@@ -13,12 +13,12 @@ use Rattle.spec.specs.declared.Params.{Params}
 use Rattle.spec.specs.Bytes.{splice}
 use Rattle.spec.specs.Drives.{View, viewOf, zoneOn}
 use Rattle.spec.specs.Layout.{dataDrive, Rec}
-use Rattle.spec.specs.Lists.{below, isIn}
+use Rattle.spec.specs.Lists.{isIn}
 use Rattle.spec.specs.Params.{dataCount, placeOf}
 use Rattle.spec.specs.Rank.{Cand}
-use Rattle.spec.specs.Segments.{remaining, Segment, segmentOf, offsetOn, counts, counted, recOf, offsetOf, candOf, greatestStamp}
+use Rattle.spec.specs.Segments.{remaining, Segment, segmentOf, offsetOn, counts, recOf, offsetOf, candOf, greatestStamp}
 use Rattle.law_basic.specs.Geometry.{Ranged}
-use Rattle.law_basic.specs.Ranges.{Test, test, and-both, length-below, length-keep}
+use Rattle.law_basic.specs.Ranges.{Test, test, and-both}
 use Rattle.law_basic.specs.Ranges.Test.{yes!, no! }
 use Rattle.law_basic.specs.Splice.{splice-nil, splice-all, wrote-one}
 use Rattle.recover_groups.specs.declared.Group.{Group}
@@ -31,7 +31,7 @@ use Rattle.recover_addresses.specs.Told.{Tells}
 use Rattle.law_drives.specs.Members.{In}
 use Rattle.law_drives.specs.Segs.{remaining-low, serial-is, CandAt}
 use Rattle.law_drives.specs.Spots.{counts-in}
-use Rattle.law_drives.specs.Tables.{remains, in-remaining}
+use Rattle.law_drives.specs.Tables.{remains}
 use Rattle.law_drives.specs.Tests.{and-false-right, cond-true, cond-false}
 use Rattle.recover_tables.specs.Walk.{firstCands, most-append, most-one, tells-join, first-more}
 
@@ -119,12 +119,6 @@ pub kept-is : (p : Params) (v : View) (gone g : ℕ) (b : Bool) → b ≡ Remain
 unfolding Remain isLeft remains
 kept-is p v gone g b e = e
 
-pub kept-in : (p : Params) (v : View) (gone g : ℕ) → g < p .Z → remains p v gone g ≡ true → In g (remaining p v gone)
-kept-in p v gone g h e = in-remaining p v gone g h e
-
-pub bases-turn : (p : Params) (base : ℕ) → 0 < p .G → base % p .G ≡ 0 → (base + p .G) % p .G ≡ 0
-bases-turn p base h e = add-mod-right base (p .G) ∙ e
-
 -- the open segment's stripes, once its turn has come
 pub next-turn : (a u g c n m : ℕ) (b : Bool) → m ≡ cond (b && eqb g u) c n → n ≤ a → c ≤ a → m ≤ a
 next-turn a u g c n m b e hn hc = go (test (b && eqb g u))
@@ -139,10 +133,6 @@ next-now u g n m f b e h k l = go (ℕ-discrete g u)
     go : Dec (g ≡ u) → m ≡ f u
     go (yes q) = e ∙ cond-true (b && eqb g u) (f g) n (and-both b (eqb g u) (k q) (eq-eqb g u q)) ∙ ap f q
     go (no q) = e ∙ cond-false (b && eqb g u) (f g) n (and-false-right b (eqb g u) (ne-eqb g u q)) ∙ h (omega arith)
-
-pub counted-low : (p : Params) (gone : ℕ) (g : Segment) → length (counted p gone g) ≤ p .S
-unfolding counted
-counted-low p gone g = omega (arith, length-keep (counts p gone g) (below (p .S)), length-below (p .S))
 
 -- ---- every address never written
 

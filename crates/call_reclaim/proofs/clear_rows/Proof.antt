@@ -6,8 +6,8 @@ use Rattle.spec.specs.Lists.{upFrom}
 use Rattle.spec.specs.Memory.{compactAt}
 use Rattle.spec.specs.Params.{drivesOf}
 use Rattle.spec.specs.Reclaim.{cleared}
-use Rattle.law_basic.specs.Geometry.{ranged, zone-on-lt}
-use Rattle.call_reclaim.specs.Clearing.{row-within, rows-start, rows-turn, rows-end}
+use Rattle.law_basic.specs.Geometry.{ranged, zone-on-lt, row-fits}
+use Rattle.call_reclaim.specs.Clearing.{rows-start, rows-turn, rows-end}
 use lib.ListN.{length, replicate}
 use mathlib.Core.Path.{_≡_, refl, ap, _∙_}
 use native.Mathlib.Omega.{arith}
@@ -42,7 +42,7 @@ clear-part-requires c κs =
     let if1 = c .before .before .before .if1 in
     let pre = c .before .before .before .before .before .before .before .pre in
     let z = zone-on-lt (a .p) (a .segment) (l .d) (pre .1 .1) in
-    omega (arith, c .before .compact-at .ensures .0, row-within (a .p) (l .d) (zone-on .result) (if1 .taken) (omega (arith, zone-on .ensures, z)), l .inv .1, pre .1 .0)
+    omega (arith, c .before .compact-at .ensures .0, row-fits (a .p) (l .d) (zone-on .result) (if1 .taken) (omega (arith, zone-on .ensures, z)), l .inv .1, pre .1 .0)
 
 add-d : tie.Need-add-d Inv-loop μ-loop
 add-d c = omega arith

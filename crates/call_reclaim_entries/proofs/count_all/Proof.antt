@@ -1,9 +1,9 @@
 -- `count_all`: used holds the entries of the first a addresses by segment; a turn adds that of address a (`entered-more`), at most a for each. Assumes nothing.
 use Prim.Native.Nat.{ℕ, _+_, _-_, _*_, _/_, _≤_, _<_}
 use Rattle.spec.specs.Params.{capacity, addressesLen}
-use Rattle.call_reclaim_entries.specs.Entries.{Entered, entered-more, zone-low, zone-told}
+use Rattle.call_reclaim_entries.specs.Entries.{Entered, entered-more, zone-told}
 use Rattle.call_reclaim_entries.specs.Inverse.{inverse}
-use Rattle.law_basic.specs.Geometry.{ranged, zones-all, addresses-all}
+use Rattle.law_basic.specs.Geometry.{ranged, zones-all, addresses-all, zone-low}
 use lib.Dec.{ltb}
 use lib.ListN.{length, getD, set}
 use mathlib.Core.Bool.{cond}

@@ -9,8 +9,9 @@ use Rattle.spec.specs.Drives.{zeroSpare}
 use Rattle.spec.specs.Engine.Call.{close}
 use Rattle.spec.specs.Layout.{headerBlock}
 use Rattle.spec.specs.Lists.{sameList}
+use Rattle.law_basic.specs.Fields.{header-block-long}
 use Rattle.law_basic.specs.Geometry.{ranged}
-use Rattle.disk_records.specs.Header.{header-block-long, same-unit}
+use Rattle.disk_records.specs.Header.{same-unit}
 use Rattle.disk_records.proofs.matches_header.Statement.{statement}
 use Rattle.disk_records.proofs.matches_header.Tie as tie
 

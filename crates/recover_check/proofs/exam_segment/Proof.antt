@@ -11,8 +11,9 @@ use Rattle.spec.specs.Segments.{segmentOf}
 use Rattle.law_basic.specs.Geometry.{ranged}
 use Rattle.law_basic.specs.Ranges.{not-both}
 use Rattle.recover_check.specs.declared.Exam.{Exam}
-use Rattle.recover_check.specs.Faults.{faulty, Seen, faulty-kept, faulty-gone, seen-gone, seen-fits, seen-added, sum-fits, counted-most, uncounted-most, top-most}
+use Rattle.recover_check.specs.Faults.{faulty, Seen, faulty-kept, faulty-gone, seen-gone, seen-fits, seen-added, sum-fits, uncounted-most, top-most}
 use borrow.Author.Needs.{needs}
+use Rattle.law_drives.specs.Rebuilding.{counted-low}
 use Rattle.recover_check.proofs.exam_segment.Statement.{statement}
 use Rattle.recover_check.proofs.exam_segment.Tie as tie
 
@@ -130,7 +131,7 @@ exam-good-requires c κs =
       ),
       (
         omega (arith, u .ensures .loose-is d, uncounted-most p (a .gone) x, r),
-        omega (arith, u .ensures .counted-is d, counted-most p (a .gone) x, r),
+        omega (arith, u .ensures .counted-is d, counted-low p (a .gone) x, r),
         omega (arith, u .ensures .top-is d, top-most p (a .gone) x, r),
       ),
     )

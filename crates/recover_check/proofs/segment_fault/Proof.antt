@@ -4,8 +4,9 @@ use native.Mathlib.Omega.{arith}
 use Rattle.spec.specs.Drives.{viewOf}
 use Rattle.spec.specs.Segments.{segmentOf, segments}
 use Rattle.law_basic.specs.Geometry.{ranged}
-use Rattle.recover_check.specs.Faults.{front-bad, front-full, front-many, front-footer, seg-full}
+use Rattle.recover_check.specs.Faults.{front-bad, front-full, front-many, front-footer}
 use borrow.Author.Needs.{needs}
+use Rattle.law_drives.specs.Segs.{full-is}
 use Rattle.recover_check.proofs.segment_fault.Statement.{statement}
 use Rattle.recover_check.proofs.segment_fault.Tie as tie
 
@@ -46,7 +47,7 @@ returns-2 c =
     let g = segmentOf p v (a .gone) (a .g) in
     front-full p (a .gone) gs g
     (sym (c .before .before .front-fault .ensures (a .pointers .now) (h .1 .0 .pointers-long) (h .1 .1 .0) (h .1 .1 .1 .0)) ∙ c .before .if1 .left)
-    (seg-full p v (a .gone) (a .g) ∙ sym (h .1 .1 .1 .1 .1) ∙ c .if2 .taken)
+    (full-is p v (a .gone) (a .g) ∙ sym (h .1 .1 .1 .1 .1) ∙ c .if2 .taken)
 
 returns-3 : tie.Need-returns-3
 returns-3 c =
@@ -59,7 +60,7 @@ returns-3 c =
     let gs = segments p v (a .gone) in
     let g = segmentOf p v (a .gone) (a .g) in
     front-many p (a .gone) gs g (sym (front-fault .ensures (a .pointers .now) (h .1 .0 .pointers-long) (h .1 .1 .0) (h .1 .1 .1 .0)) ∙ if1 .left)
-    (seg-full p v (a .gone) (a .g) ∙ sym (h .1 .1 .1 .1 .1) ∙ c .before .if2 .left) (sym (h .1 .1 .1 .1 .2) ∙ c .if3 .taken)
+    (full-is p v (a .gone) (a .g) ∙ sym (h .1 .1 .1 .1 .1) ∙ c .before .if2 .left) (sym (h .1 .1 .1 .1 .2) ∙ c .if3 .taken)
 
 footer-fault-requires : tie.Need-footer-fault-requires
 footer-fault-requires c κs = search needs
@@ -78,7 +79,7 @@ returns-4 c =
     c .footer-fault .ensures
     ∙ front-footer p (a .gone) gs g
     (sym (front-fault .ensures (a .pointers .now) (h .1 .0 .pointers-long) (h .1 .1 .0) (h .1 .1 .1 .0)) ∙ if1 .left)
-    (seg-full p v (a .gone) (a .g) ∙ sym (h .1 .1 .1 .1 .1) ∙ if2 .left) (sym (h .1 .1 .1 .1 .2) ∙ c .before .if3 .left)
+    (full-is p v (a .gone) (a .g) ∙ sym (h .1 .1 .1 .1 .1) ∙ if2 .left) (sym (h .1 .1 .1 .1 .2) ∙ c .before .if3 .left)
 
 pub segment-fault-spec : {M : Type 1} → statement M
 segment-fault-spec =

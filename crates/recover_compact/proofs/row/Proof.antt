@@ -10,9 +10,9 @@ use lib.ListN.{replicate, length-map}
 use Rattle.spec.specs.Bytes.{splice}
 use Rattle.spec.specs.Drives.{View, viewOf, zoneAt, sealedIn, dataStored}
 use Rattle.spec.specs.Lists.{below}
-use Rattle.law_basic.specs.Geometry.{ranged}
+use Rattle.law_basic.specs.Geometry.{ranged, row-fits}
 use Rattle.law_basic.specs.Ranges.{length-below}
-use Rattle.recover_compact.specs.Compacts.{entryOf, row-dropped, row-missing, row-stored, row-fits, row-both}
+use Rattle.recover_compact.specs.Compacts.{entryOf, row-dropped, row-missing, row-stored, row-both}
 use Rattle.recover_compact.proofs.row.Statement.{statement}
 use Rattle.recover_compact.proofs.row.Tie as tie
 

@@ -10,8 +10,9 @@ use Rattle.spec.specs.Faults.{headerFault, serialFault}
 use Rattle.spec.specs.Layout.{headerCopied}
 use Rattle.spec.specs.Segments.{headerAt, segmentOf, segments}
 use Rattle.recover_segments.specs.Remains.{otherSerial}
-use Rattle.recover_headers.specs.Fronts.{serial-list, seg-serial, seg-copied, front-header, front-serial, front-other}
+use Rattle.recover_headers.specs.Fronts.{serial-list, seg-serial, front-header, front-serial, front-other}
 use borrow.Author.Needs.{needs}
+use Rattle.law_drives.specs.Segs.{copied-is}
 use Rattle.recover_headers.proofs.front_fault.Statement.{statement}
 use Rattle.recover_headers.proofs.front_fault.Tie as tie
 
@@ -46,7 +47,7 @@ returns c =
     let x = segmentOf p v gone g in
     let hg = pre .1 .3 in
     let es : getD (a .serials .now) g 0 ≡ x .serial = hs .1 g hg ∙ sym (seg-serial p v gone g) in
-    let ec : k .result .0 ≡ x .copied = k .ensures ps long ∙ ap (λ (d : ℕ). headerCopied (headerAt v d g)) (low .ensures .0) ∙ sym (seg-copied p v gone g) in
+    let ec : k .result .0 ≡ x .copied = k .ensures ps long ∙ ap (λ (d : ℕ). headerCopied (headerAt v d g)) (low .ensures .0) ∙ sym (copied-is p v gone g) in
     front-header (headerFault p gone x) (serialFault (segments p v gone) x) (sym (f .ensures ps long es ec) ∙ c .if1 .taken)
 
 returns-2 : tie.Need-returns-2
@@ -66,7 +67,7 @@ returns-2 c =
     let x = segmentOf p v gone g in
     let hg = pre .1 .3 in
     let es : getD (a .serials .now) g 0 ≡ x .serial = hs .1 g hg ∙ sym (seg-serial p v gone g) in
-    let ec : k .result .0 ≡ x .copied = k .ensures ps long ∙ ap (λ (d : ℕ). headerCopied (headerAt v d g)) (low .ensures .0) ∙ sym (seg-copied p v gone g) in
+    let ec : k .result .0 ≡ x .copied = k .ensures ps long ∙ ap (λ (d : ℕ). headerCopied (headerAt v d g)) (low .ensures .0) ∙ sym (copied-is p v gone g) in
     front-serial (headerFault p gone x) (serialFault (segments p v gone) x) (leb (getD (a .serials .now) g 0) (x .copied))
     (otherSerial (p .Z) (a .kept .now) (a .serials .now) g (getD (a .serials .now) g 0))
     (sym (f .ensures ps long es ec) ∙ if1 .left) (serial-list p v gone g (a .kept .now) (a .serials .now) hg hk hs)
@@ -92,7 +93,7 @@ returns-3 c =
     let x = segmentOf p v gone g in
     let hg = pre .1 .3 in
     let es : getD (a .serials .now) g 0 ≡ x .serial = hs .1 g hg ∙ sym (seg-serial p v gone g) in
-    let ec : k .result .0 ≡ x .copied = k .ensures ps long ∙ ap (λ (d : ℕ). headerCopied (headerAt v d g)) (low .ensures .0) ∙ sym (seg-copied p v gone g) in
+    let ec : k .result .0 ≡ x .copied = k .ensures ps long ∙ ap (λ (d : ℕ). headerCopied (headerAt v d g)) (low .ensures .0) ∙ sym (copied-is p v gone g) in
     front-other (headerFault p gone x) (serialFault (segments p v gone) x) (leb (getD (a .serials .now) g 0) (x .copied))
     (otherSerial (p .Z) (a .kept .now) (a .serials .now) g (getD (a .serials .now) g 0)) (c .is-serial-of-other .result)
     (sym (f .ensures ps long es ec) ∙ if1 .left) (serial-list p v gone g (a .kept .now) (a .serials .now) hg hk hs)

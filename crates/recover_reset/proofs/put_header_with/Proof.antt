@@ -12,8 +12,9 @@ use Rattle.spec.specs.Engine.Call.{close}
 use Rattle.spec.specs.History.{before}
 use Rattle.spec.specs.Layout.{headerBlock}
 use Rattle.spec.specs.Params.{unitLen}
+use Rattle.law_basic.specs.Fields.{header-block-long}
 use Rattle.law_basic.specs.Geometry.{ranged}
-use Rattle.disk_records.specs.Header.{header-block-long, zero-spare-long}
+use Rattle.disk_records.specs.Header.{zero-spare-long}
 use Rattle.disk_zones.specs.Made.{Storing}
 use Rattle.recover_reset.proofs.put_header_with.Statement.{statement}
 use Rattle.recover_reset.proofs.put_header_with.Tie as tie

@@ -4,9 +4,9 @@ use Rattle.spec.specs.Drives.{viewOf, mkDisk}
 use Rattle.spec.specs.Segments.{Segment, segmentOf, counted}
 use Rattle.recover_groups.specs.Bases.{group-len-le}
 use Rattle.recover_groups.specs.Groups.{groupLen, recsFault}
-use Rattle.law_basic.specs.Geometry.{ranged}
+use Rattle.law_basic.specs.Geometry.{ranged, base-next}
 use Rattle.recover_rewrite.specs.Due.{countedFrom, from-few, from-none, from-group, from-all, Upto, upto-start, upto-as, upto-done, upto-first, upto-cut}
-use Rattle.recover_rewrite.specs.Due.{upto-turn, upto-in, upto-sealed, upto-step, upto-fits, groupAt, unmoved, bases-turn, bases-first}
+use Rattle.recover_rewrite.specs.Due.{upto-turn, upto-in, upto-sealed, upto-step, upto-fits, groupAt, unmoved, bases-first}
 use Rattle.law_views.specs.Views.{seen}
 use lib.ListN.{length}
 use mathlib.Core.Bool.{false}
@@ -193,7 +193,7 @@ loop-again c =
     let entry = c .before .before .before .before .before .before .before .before .before .before .before .before .before .before .before .before in
     let args = entry .args in
     let pre = entry .pre in (
-      bases-turn (args .p) (loop .base) ((ranged (args .p) (pre .0)) .group-low) (loop .inv .0),
+      base-next (loop .base) (args .p .G) (loop .inv .0),
       move-group .kept .1 .1 .1 .1 .0 ∙ loop .inv .1,
       move-group .kept .1 .0 ∙ loop .inv .2,
       move-group .kept .1 .1 .0 ∙ loop .inv .3,

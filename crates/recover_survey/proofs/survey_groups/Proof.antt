@@ -7,9 +7,9 @@ use lib.ListN.{length}
 use Rattle.spec.specs.Drives.{viewOf}
 use Rattle.spec.specs.Lists.{any}
 use Rattle.spec.specs.Segments.{segmentOf}
-use Rattle.law_basic.specs.Geometry.{ranged}
+use Rattle.law_basic.specs.Geometry.{ranged, base-next}
 use Rattle.recover_groups.specs.Groups.{groupLen, groupFault, recsFault, basesFrom}
-use Rattle.recover_survey.specs.Stripes.{Tallied, tallied-none, surveyed, group-next, groups-left, groups-start, groups-ended, base-next}
+use Rattle.recover_survey.specs.Stripes.{Tallied, tallied-none, surveyed, group-next, groups-left, groups-start, groups-ended}
 use native.Mathlib.Nat.{zero-mod, zero-min}
 use Rattle.recover_survey.proofs.survey_groups.Statement.{statement}
 use Rattle.recover_survey.proofs.survey_groups.Tie as tie

@@ -10,11 +10,10 @@ use Rattle.spec.specs.Lists.{upFrom, below}
 use Rattle.spec.specs.Segments.{segmentOf}
 use Rattle.recover_groups.specs.Bases.{stripes-step, group-len-le}
 use Rattle.recover_groups.specs.Groups.{groupLen}
-use Rattle.law_basic.specs.Geometry.{Ranged, ranged}
+use Rattle.law_basic.specs.Geometry.{Ranged, ranged, base-next}
 use Rattle.law_basic.specs.Ranges.{length-upFrom, upFrom-end, below-start}
 use Rattle.recover_addresses.specs.Told.{Known}
 use Rattle.law_drives.specs.Segs.{remaining-low}
-use Rattle.recover_tables.specs.Ready.{bases-turn}
 use Rattle.recover_tables.specs.Walk.{Walked, walkCands, walked-none, walked-join, walked-low, tells-known}
 use Rattle.recover_tables.proofs.load_groups.Statement.{statement}
 use Rattle.recover_tables.proofs.load_groups.Tie as tie
@@ -91,7 +90,7 @@ loop-again c =
     let n = walked-low (a .p) v (a .gone) (a .seg) gs (l .addresses) tb (l .t .stamp .0) (load-group .result .stamp .0) (l .t .counted) (load-group .result .counted) w in (
       load-group .kept .1 .1 .1 .0 ∙ l .inv .0,
       load-group .kept .1 .1 .1 .1 .1 .1 .1 .0 ∙ l .inv .1,
-      bases-turn (a .p) (l .base) (r .group-low) (l .inv .2),
+      base-next (l .base) (a .p .G) (l .inv .2),
       omega (arith, if1 .taken, r .stripes-high, r .group-high),
       omega (arith, n, length-upFrom (l .base) (groupLen (a .p) (l .base)), group-len-le (a .p) (l .base), l .inv .4),
       tells-known (a .p) v (a .gone) (l .addresses) tb (walkCands (a .p) (a .gone) (segmentOf (a .p) v (a .gone) (a .seg)) gs) (w .tells) (l .inv .5),

@@ -7,8 +7,8 @@ use lib.ListN.{length}
 use Rattle.spec.specs.Drives.{View, viewOf}
 use Rattle.spec.specs.Segments.{segmentOf, counted}
 use Rattle.law_basic.specs.Ranges.{and-both}
+use Rattle.law_drives.specs.Tables.{in-remaining}
 use Rattle.law_drives.specs.Tests.{and-false-left, and-false-right, cond-true, cond-false}
-use Rattle.recover_tables.specs.Ready.{kept-in}
 use Rattle.recover_tables.specs.Walk.{toured-hit, toured-miss, walked-all}
 use Rattle.recover_tables.proofs.load_segment.Statement.{statement}
 use Rattle.recover_tables.proofs.load_segment.Tie as tie
@@ -28,7 +28,7 @@ load-groups-requires c κs =
     let a = c .before .before .before .before .before .before .before .before .args in
     let q = c .before .before .before .before .before .before .before .before .pre in
     let v : View = viewOf (a .p) (a .image .now) (a .pointers .now) in
-    (q .0, (q .1 .0, (kept-in (a .p) v (a .gone) (a .g) (q .1 .1 .0 .0) (sym (q .1 .1 .0 .1) ∙ not-false (a .kept) (c .before .before .if1 .left)), q .1 .1 .1)))
+    (q .0, (q .1 .0, (in-remaining (a .p) v (a .gone) (a .g) (q .1 .1 .0 .0) (sym (q .1 .1 .0 .1) ∙ not-false (a .kept) (c .before .before .if1 .left)), q .1 .1 .1)))
 
 same-length : tie.Need-same-length
 same-length c =

@@ -8,8 +8,9 @@ use Rattle.spec.specs.Drives.{View, viewOf}
 use Rattle.spec.specs.Lists.{below}
 use Rattle.spec.specs.Segments.{segmentOf, counted}
 use Rattle.law_basic.specs.Geometry.{ranged}
+use Rattle.law_drives.specs.Rebuilding.{counted-low}
 use Rattle.law_drives.specs.Tables.{remains}
-use Rattle.recover_tables.specs.Ready.{kept-is, next-turn, next-now, counted-low}
+use Rattle.recover_tables.specs.Ready.{kept-is, next-turn, next-now}
 use Rattle.recover_tables.specs.Walk.{Toured, tourCands, toured-none, toured-turn, tells-known}
 use Rattle.recover_tables.proofs.load_segments.Statement.{statement}
 use Rattle.recover_tables.proofs.load_segments.Tie as tie

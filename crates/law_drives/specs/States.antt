@@ -1,26 +1,23 @@
--- A state in range and buffers of their lengths, as facts; a state with nothing in flight. Assumes nothing.
-use mathlib.Core.Path.{_≡_, refl, sym, subst}
+-- A state in range, as facts; a state with nothing in flight. Each test is taken apart and put together.
+use mathlib.Core.Path.{_≡_, sym, subst, refl}
 use mathlib.Core.Bool.{true, _&&_}
 use Prim.Native.Nat.{ℕ, _^_, _≤_, _<_}
 use native.Mathlib.Decide.{decLt}
-use borrow.Author.Tests.{le-leb, lt-ltb, eq-eqb, leb-true, ltb-true, eqb-true}
+use borrow.Author.Tests.{leb-true, ltb-true, le-leb, lt-ltb, eqb-true, eq-eqb}
 use native.Mathlib.Omega.{arith}
 use lib.Dec.{leb, ltb, eqb}
-use lib.ListN.{length, getD, List·getD-eq-default}
+use lib.ListN.{getD, length, List·getD-eq-default}
 use lib.Count.{ones}
 use lib.Pow.{pow-pos}
 use Rattle.spec.specs.declared.Params.{Params}
 use Rattle.spec.specs.declared.State.{State}
-use Rattle.spec.specs.Drives.{Disk}
-use Rattle.spec.specs.Engine.{lentOk}
 use Rattle.spec.specs.Lists.{all}
-use Rattle.spec.specs.Memory.{Memory, slotCount, slots, idleState, stripeIn, filledIn, landedIn, slotOk, stateOk}
-use Rattle.spec.specs.Params.{dataCount, imageLen, pointersLen, addressesLen, compactLen, inflightLen}
+use Rattle.spec.specs.Memory.{stripeIn, filledIn, landedIn, slotOk, slotCount, slots, stateOk, idleState}
+use Rattle.spec.specs.Params.{dataCount}
 use Rattle.law_basic.specs.Geometry.{Ranged}
 use Rattle.law_basic.specs.Ranges.{and-left, and-right, and-both}
-use Rattle.law_drives.specs.Lengths.{Lengths}
-use Rattle.law_drives.specs.Members.{In, all-in, in-all, in-below, below-in, in-getD, getD-in}
+use Rattle.law_drives.specs.Members.{In, in-below, below-in, all-in, in-getD, in-all, getD-in}
 use Rattle.law_drives.specs.Tables.{zero-at}
 
 pub record SlotOk (p : Params) (st : State) (i : ℕ) : Type 0 where
   pub stripe-ok : stripeIn st i < p .S
@@ -140,19 +137,3 @@ idle-ok p r gone t s o x hg h1 ho hx = of-state p (idleState 1 gone t s o x) (re
   };
   offsets-low = λ j. subst (λ (y : ℕ). y < p .S) (sym (zero-at 64 j)) (r .stripes-low);
 })
-
-pub of-lengths : (p : Params) (k : Disk) (m : Memory) → Lengths p k m → lentOk p k m ≡ true
-unfolding lentOk
-of-lengths p k m l =
-    let t1 = eqb (length (k .image)) (imageLen p) in
-    let t2 = eqb (length (k .pointers)) (pointersLen p) in
-    let t3 = eqb (length (m .addresses)) (addressesLen p) in
-    let t4 = eqb (length (m .compact)) (compactLen p) in
-    let t5 = eqb (length (m .inflight)) (inflightLen p) in
-    and-both (t1 && t2 && t3 && t4) t5
-    (and-both (t1 && t2 && t3) t4
-    (and-both (t1 && t2) t3
-    (and-both t1 t2 (eq-eqb (length (k .image)) (imageLen p) (l .image-ok)) (eq-eqb (length (k .pointers)) (pointersLen p) (l .pointers-ok)))
-    (eq-eqb (length (m .addresses)) (addressesLen p) (l .addresses-ok)))
-    (eq-eqb (length (m .compact)) (compactLen p) (l .compact-ok)))
-    (eq-eqb (length (m .inflight)) (inflightLen p) (l .inflight-ok))
