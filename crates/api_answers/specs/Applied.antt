@@ -1,7 +1,7 @@
 -- The state's bytes after a change: refused, cut, made; and what the host hears of it (01, The array; Store count). Assumes nothing.
 use Prim.Native.Nat.{ℕ, _≤_, _<_}
-use Rattle.api_answers.specs.Told.{toldOf, heard, lending, hears}
-use Rattle.api_answers.specs.declared.Told.{Told}
+use Rattle.spec.specs.Host.{toldOf, heard, lending, hears}
+use Rattle.spec.specs.declared.Told.{Told}
 use Rattle.mem_codec.specs.Changes.{zero-bytes}
 use Rattle.spec.specs.Answers.{kind, isRefused, isCut}
 use Rattle.spec.specs.Calls.{mkAfter}

@@ -1,9 +1,9 @@
 -- A call of the host, from the call on the decoded state, for any call (01, The array; Store count). Assumes nothing.
 use Prim.Native.Nat.{ℕ}
-use Rattle.api_answers.specs.Told.{toldOf, heard, lending, hears}
-use Rattle.api_answers.specs.declared.Told.{Told}
-use Rattle.mem_calls.specs.Left.{after}
-use Rattle.mem_calls.specs.declared.Done.{Done}
+use Rattle.spec.specs.Host.{toldOf, heard, lending, hears}
+use Rattle.spec.specs.declared.Told.{Told}
+use Rattle.spec.specs.Host.{after}
+use Rattle.spec.specs.declared.Done.{Done}
 use Rattle.spec.specs.Answers.{isRefused}
 use Rattle.spec.specs.Calls.{mkAfter}
 use Rattle.spec.specs.Engine.{Call, callOn, callDisk, Lent, lentDisk, lentMemory, lentAll, callBytes}

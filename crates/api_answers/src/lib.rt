@@ -2,7 +2,7 @@
 ghost use mathlib.Core.Path.{_≡_};
 ghost use mathlib.Core.Bool.{cond, _&&_};
 ghost use lib.ListN.{length};
-ghost use Rattle.api_answers.specs.Told.{toldOf};
+ghost use Rattle.spec.specs.Host.{toldOf};
 ghost use Rattle.law_lent.specs.Shorts.{shortAnswer};
 ghost use Rattle.spec.specs.Answers.{isRefused};
 ghost use Rattle.spec.specs.Memory.{stateLen, stateBytes, stateOf};
@@ -10,19 +10,11 @@ ghost use Rattle.spec.specs.Params.{inRange};
 ghost use Rattle.spec.specs.Rebuild.{namesMissing};
 ghost use Rattle.spec.specs.Restart.{namesDrive};
 ghost use Rattle.mem_rows.specs.Rows.{stateAfter};
-use mem_calls::Done;
 use mem_rows::Change;
 use spec::Answer;
+use spec::Done;
 use spec::Params;
-
-// An answer as numbers: its kind, and up to three values.
-#[repr(C)]
-pub struct Told {
-    pub kind: u64,
-    pub first: u64,
-    pub second: u64,
-    pub third: u64,
-}
+use spec::Told;
 
 fn number(kind: u64, n: u64) -> Told
     ensures { λ r. ⌜ r ≡ record { kind = kind; first = n; second = 0; third = 0 } ⌝ }

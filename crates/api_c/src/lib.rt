@@ -4,14 +4,14 @@ ghost use mathlib.Core.Path.{_≡_};
 ghost use mathlib.Core.Bool.{cond};
 ghost use mathlib.Core.List.{[]};
 ghost use Prim.Native.Nat.{ℕ};
-ghost use Rattle.api_answers.specs.Told.{heard, hears, lending};
+ghost use Rattle.spec.specs.Host.{heard, hears, lending};
 ghost use Rattle.spec.specs.Engine.{callBytes};
 ghost use Rattle.spec.specs.Engine.Call.{write, land, close, reclaim, read, fill, restart, rebuild};
 ghost use Rattle.spec.specs.Memory.{stateLen};
 ghost use Rattle.spec.specs.Params.{mkParams, inRange, imageLen, pointersLen, addressesLen, compactLen, inflightLen};
-use api_answers::Told;
 use spec::Address;
 use spec::Params;
+use spec::Told;
 
 // The length of the buffer of the drives; 0 where a parameter is outside its range.
 #[no_mangle]

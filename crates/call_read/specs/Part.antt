@@ -1,12 +1,12 @@
 -- The part of the lent image that the first read answers with, by its bytes and its place (01, Read; Which form to use where). Assumes nothing.
-use denote.Ref.{RefT}
 use mathlib.Core.Path.{_≡_, refl, sym, ap}
 use mathlib.Core.List.{List, [], _∷_}
 use mathlib.Core.Bool.{Bool, true, false, cond}
-use Prim.Native.Nat.{ℕ, _+_}
+use Prim.Native.Nat.{ℕ}
 use native.Mathlib.Omega.{arith}
 use lib.Dec.{leb, eqb}
 use lib.ListN.{getD}
+use Rattle.spec.specs.Host.{partAt, partLen}
 use Rattle.spec.specs.declared.Params.{Params}
 use Rattle.spec.specs.declared.Answer.{Answer}
 use Rattle.spec.specs.declared.Answer.the-variants.{Refused, BadZone, Part}
@@ -17,20 +17,6 @@ use Rattle.spec.specs.Calls.{Check, ninth, ruled, firstRefusal}
 use Rattle.spec.specs.Lists.Opt.{some}
 use Rattle.spec.specs.Lists.{least}
 use Rattle.law_basic.specs.Ranges.{not-both}
-
--- r is the n bytes of the lent slice s from index at: its bytes, and where it lies in memory
-pub record PartOf (s : RefT (List ℕ)) (at n : ℕ) (r : RefT (List ℕ)) : Type 0 where
-  pub bytes : r .now ≡ part at n (s .now)
-  pub object : r .ptr .0 ≡ s .ptr .0
-  pub offset : r .ptr .1 ≡ s .ptr .1 + at
-
--- 01, Read: where the part of an answer begins; 0 where the answer is no part
-unfoldable pub partAt : Answer → ℕ
-partAt r = cond (eqb (kind r) 8) (getD (values r) 0 0) 0
-
--- 01, Read: and its length; none where the answer is no part
-unfoldable pub partLen : Params → Answer → ℕ
-partLen p r = cond (eqb (kind r) 8) (p .B) 0
 
 pub part-here : (p : Params) (n : ℕ) → (partAt (Part n) ≡ n) × (partLen p (Part n) ≡ p .B)
 unfolding partAt partLen kind values

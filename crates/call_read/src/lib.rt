@@ -19,7 +19,7 @@ ghost use Rattle.spec.specs.Read.{lookup, foundFaults, shown, decodedAt, readAn
 ghost use Rattle.mem_lookup.specs.Lies.{foundOf};
 ghost use Rattle.call_read.specs.Decode.{shownBlock};
 ghost use Rattle.call_read.specs.Order.{refusal};
-ghost use Rattle.call_read.specs.Part.{PartOf, partAt, partLen};
+ghost use Rattle.spec.specs.Host.{PartOf, partAt, partLen};
 ghost use Rattle.call_read.specs.Sought.{refusedBy, liesAt};
 ghost use Rattle.call_read.specs.Fill.{mkFill, filling, Placed, placedAt};
 ghost use Rattle.law_views.specs.Views.{Whole};

@@ -20,8 +20,8 @@ use Rattle.spec.specs.Rebuild.{rebuildChecks, rebuildStores, rebuildVerdict}
 use Rattle.spec.specs.Segments.{remaining, Segment, segmentOf, segments}
 use Rattle.law_basic.specs.Geometry.{ranged}
 use Rattle.law_views.specs.Views.{AllFit, seen}
-use Rattle.mem_calls.specs.declared.Done.{Done}
-use Rattle.mem_calls.specs.Left.{after}
+use Rattle.spec.specs.declared.Done.{Done}
+use Rattle.spec.specs.Host.{after}
 use Rattle.law_calls.specs.Refusals.{zones-pass, none-left, call-refused, call-done, call-cut}
 use Rattle.law_drives.specs.Accept.{Accepted, faults-apart}
 use Rattle.law_drives.specs.Image.{sized-of, shaped-of}

@@ -1,8 +1,9 @@
 -- The ends of a restart: refused, cut, done (01, Restart; Store count). Assumes nothing.
 use Prim.Native.Nat.{ℕ, _≤_, _<_}
-use Rattle.mem_calls.specs.Left.{checked, after}
+use Rattle.mem_calls.specs.Left.{checked}
+use Rattle.spec.specs.Host.{after}
 use Rattle.mem_calls.specs.declared.Check.the-variants.{Pass, Fail}
-use Rattle.mem_calls.specs.declared.Done.{Done}
+use Rattle.spec.specs.declared.Done.{Done}
 use Rattle.spec.specs.Calls.{firstRefusal, Plan, mkPlan, decided, After, mkAfter, cutMemory, outcome}
 use Rattle.spec.specs.Drives.{View, Store, storeView, Disk, storeDisk, storeAll}
 use Rattle.spec.specs.Engine.{storeCount, lentBlock, verdict, lentOk, callOn, callDisk}

@@ -9,14 +9,9 @@ ghost use Rattle.spec.specs.Engine.{lentOk};
 ghost use Rattle.spec.specs.Memory.{mkMemory, zeroState};
 ghost use Rattle.spec.specs.Params.{inRange};
 use spec::Answer;
+use spec::Done;
 use spec::Params;
 use spec::State;
-
-// What a call leaves beside the lent buffers.
-pub struct Done {
-    pub answer: Answer,
-    pub state: State,
-}
 
 // 01, Refusals: no check holds, or the refusal of the first that does.
 pub enum Check {

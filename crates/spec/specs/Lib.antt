@@ -19,6 +19,7 @@ pub mod Faults
 pub mod Restart
 pub mod Rebuild
 pub mod Engine
+pub mod Host
 pub mod History
 pub mod Demands
 pub mod Examples

@@ -151,3 +151,18 @@ pub enum Answer {
 pub fn examples()
     ensures { λ _. ⌜ Examples ⌝ }
 {}
+
+// What a call leaves beside the lent buffers.
+pub struct Done {
+    pub answer: Answer,
+    pub state: State,
+}
+
+// An answer as numbers: its kind, and up to three values.
+#[repr(C)]
+pub struct Told {
+    pub kind: u64,
+    pub first: u64,
+    pub second: u64,
+    pub third: u64,
+}

@@ -1,6 +1,6 @@
 -- `apply`: kinds 0 and 1 are refusals (`applied-refused`), 2 a cut, which clears (`applied-cut`), others change the bytes (`applied-done`). Assumes nothing.
 use Rattle.api_answers.specs.Applied.{applied-refused, applied-cut, applied-done}
-use Rattle.api_answers.specs.declared.Told.{Told}
+use Rattle.spec.specs.declared.Told.{Told}
 use Rattle.spec.specs.Answers.{kind}
 use mathlib.Core.Path.{_≡_, sym, ap, _∙_}
 use native.Mathlib.Omega.{arith}

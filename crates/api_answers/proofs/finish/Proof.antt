@@ -1,5 +1,5 @@
 -- `finish`: kinds 0 and 1 are the refusals and leave the bytes; above them the state is encoded. Assumes nothing.
-use Rattle.api_answers.specs.declared.Told.{Told}
+use Rattle.spec.specs.declared.Told.{Told}
 use Rattle.spec.specs.Answers.{kind, isRefused}
 use Rattle.spec.specs.Memory.{stateBytes}
 use borrow.Author.Needs.{needs}

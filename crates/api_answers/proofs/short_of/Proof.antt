@@ -1,5 +1,5 @@
 -- `short_of`: both ways through the if give what `shortAnswer` refuses with, 2 or 1. Assumes nothing.
-use Rattle.api_answers.specs.Told.{toldOf}
+use Rattle.spec.specs.Host.{toldOf}
 use Rattle.spec.specs.declared.Answer.the-variants.{Refused}
 use borrow.Author.Needs.{needs}
 use mathlib.Core.Bool.{Bool, cond}

@@ -1,5 +1,5 @@
 -- `told_of`: variant by variant: kind and values unfold to the numbers that the code gives. Assumes nothing.
-use Rattle.api_answers.specs.Told.{toldOf}
+use Rattle.spec.specs.Host.{toldOf}
 use Rattle.spec.specs.Answers.{kind, values}
 use borrow.Author.Needs.{needs}
 use mathlib.Core.Path.{sym, ap, _∙_}

@@ -1,9 +1,9 @@
 -- `sorgizhed_rebuild`: a state of another length is refused with 1 or 2, by `good_rebuild`
 -- (`hears-short`); else `rebuild` on it decoded, and the new one encoded: `hears-call`. Assumes nothing.
-use Rattle.api_answers.specs.Told.{toldOf, lending, hears}
+use Rattle.spec.specs.Host.{toldOf, lending, hears}
 use Rattle.api_answers.specs.Hears.{hears-short, hears-call}
-use Rattle.api_answers.specs.declared.Told.{Told}
-use Rattle.mem_calls.specs.Left.{after}
+use Rattle.spec.specs.declared.Told.{Told}
+use Rattle.spec.specs.Host.{after}
 use Rattle.spec.specs.Engine.{callDisk, Lent, lentDisk, lentMemory}
 use Rattle.spec.specs.Engine.Call.{rebuild}
 use Rattle.spec.specs.Memory.{mkMemory}

@@ -1,8 +1,8 @@
 -- `sorgizhed_reclaim`: a state of another length is `hears-short`; else `reclaim` on it decoded, then the change made there: `hears-change`. Assumes nothing.
-use Rattle.api_answers.specs.Told.{toldOf, lending, hears}
+use Rattle.spec.specs.Host.{toldOf, lending, hears}
 use Rattle.api_answers.specs.Applied.{hears-change}
 use Rattle.api_answers.specs.Hears.{hears-short}
-use Rattle.api_answers.specs.declared.Told.{Told}
+use Rattle.spec.specs.declared.Told.{Told}
 use Rattle.mem_rows.specs.Rows.{afterChange}
 use Rattle.spec.specs.Engine.{callDisk, Lent, lentDisk, lentMemory}
 use Rattle.spec.specs.Engine.Call.{reclaim}

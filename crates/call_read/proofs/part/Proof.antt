@@ -14,7 +14,8 @@ use Rattle.spec.proofs.Answer.{the-type}
 use Rattle.law_basic.specs.Ranges.{not-both}
 use Rattle.law_basic.specs.Splice.{part-zero, part-lent}
 use Rattle.call_read.specs.Ends.{part-within}
-use Rattle.call_read.specs.Part.{partAt, partLen, part-here, part-none}
+use Rattle.call_read.specs.Part.{part-here, part-none}
+use Rattle.spec.specs.Host.{partAt, partLen}
 use borrow.Author.Needs.{needs}
 use borrow.Author.Tests.{eq-eqb}
 use denote.Enum.Declared.{tagOf}
