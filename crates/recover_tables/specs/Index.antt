@@ -10,7 +10,7 @@ use lib.Dec.{leb, ltb, eqb}
 use lib.ListN.{length, getD, drop, set}
 use lib.Seq.{getD-take, getD-drop}
 use Rattle.spec.specs.declared.Params.{Params}
-use Rattle.spec.specs.Drives.{View, viewOf, zoneOn}
+use Rattle.spec.specs.Drives.{View, viewOf}
 use Rattle.spec.specs.Faults.{storedBad}
 use Rattle.spec.specs.Layout.{compactEntry, Rec, mkRec}
 use Rattle.spec.specs.Lists.{isIn}
@@ -115,10 +115,6 @@ module _ (p : Params) (r : Ranged p) (im ps : List ℕ) (gone : ℕ) (cs : List 
 
   pub all-entered : (old at : List ℕ) (i : ℕ) → Entering p d base rs old at i → length rs ≤ i → SameBelow d old at × Row p base rs d at
   all-entered old at i x h = (x .lower, entering-end p d base rs old at i x h .1)
-
-pub entry-zone : (g d : ℕ) → zoneOn g d ≡ g
-unfolding zoneOn
-entry-zone g d = refl
 
 -- a place of the table lies in it
 pub entry-within : (p : Params) (d z b i : ℕ) → d < p .N → z < p .Z → b + i < p .S → compactAt p d z b + i < compactLen p

@@ -8,7 +8,8 @@ use Rattle.spec.specs.Memory.{compactAt}
 use Rattle.spec.specs.Params.{compactLen}
 use Rattle.recover_groups.specs.Bases.{group-len-fits}
 use Rattle.law_basic.specs.Geometry.{ranged, zone-on-lt}
-use Rattle.recover_tables.specs.Index.{entry-within, entry-zone}
+use Rattle.recover_addresses.specs.Lies.{zone-is}
+use Rattle.recover_tables.specs.Index.{entry-within}
 use Rattle.recover_tables.proofs.entry_at.Statement.{statement}
 use Rattle.recover_tables.proofs.entry_at.Tie as tie
 
@@ -33,7 +34,7 @@ at-is : (c : tie.After-shared-slice-known2)
     → let a = c .before .before .before .before .args in c .before .compact-at .result ≡ compactAt (a .p) (a .drive) (a .w .seg) (a .w .base)
 at-is c =
     let a = c .before .before .before .before .args in
-    c .before .compact-at .ensures .0 ∙ ap (λ (z : ℕ). compactAt (a .p) (a .drive) z (a .w .base)) (c .before .before .zone-on .ensures ∙ entry-zone (a .w .seg) (a .drive))
+    c .before .compact-at .ensures .0 ∙ ap (λ (z : ℕ). compactAt (a .p) (a .drive) z (a .w .base)) (c .before .before .zone-on .ensures ∙ zone-is (a .w .seg) (a .drive))
 
 within : (c : tie.After-shared-slice-known2) → let a = c .before .before .before .before .args in c .before .compact-at .result + a .i < compactLen (a .p)
 within c =
