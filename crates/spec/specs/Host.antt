@@ -1,4 +1,5 @@
--- What the caller of a function holds when it returns: all that a call leaves, put together; the same as C gets it; the part of the lent image that a read gives (01, The calls; Read; Which form to use where). Assumes nothing.
+-- What the caller of a function holds when it returns: all that a call leaves, put together; the same as C gets it; the part of the lent image
+-- that a read gives (01, The calls; Read; Which form to use where). Assumes nothing.
 use Prim.Native.Nat.{ℕ, _+_}
 use Rattle.spec.specs.Answers.{kind, values}
 use Rattle.spec.specs.Bytes.{part}
