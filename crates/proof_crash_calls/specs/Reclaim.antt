@@ -321,7 +321,7 @@ module _ (p : Params) (h : Ranged p) (v : View) (m : Memory) (ss : List Send) (n
                   from-idle x i = unfold idle in keep-has (λ q. not (flying p v st q)) x (victimLive (some w)) i .0
 
       none-taken : Q none → CallOk p h (l .g) v (plan none) ss ss n
-      none-taken q = clash (unfold isNone in refl) (or-left (isNone none) (not (isNil (victimLive none)) && isNil (idle p v st none)) (q .1 .1 .1 .0))
+      none-taken q = clash {b = isNone none} (unfold isNone in refl) (or-left (isNone none) (not (isNil (victimLive none)) && isNil (idle p v st none)) (q .1 .1 .1 .0))
 
       go : (w : Opt Victim) → victim p v (m .addresses) ≡ w → Q (victim p v (m .addresses)) → CallOk p h (l .g) v (reclaimPlan p v m) ss ss n
       go none e q = subst (λ (y : Plan). CallOk p h (l .g) v y ss ss n) (sym (is ∙ ap plan e)) (none-taken (subst Q e q))
