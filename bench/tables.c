@@ -33,7 +33,7 @@ static void entry(size_t a, uint32_t q) {
 
 /* the table that a restart left made another */
 static void retable(enum table k) {
-    size_t places = box.image_length / (box.b + 20), c = places / (box.n * box.z), left = k == A_THOUSAND_LEFT ? 1000 : 0, taken = box.z / 2 - 1;
+    size_t places = box.image_length / (box.b + 20), c = places / (box.n * box.z), left = k == A_THOUSAND_LEFT ? 1000 : 0, taken = (box.z - 3) / 2;
     for (size_t a = 0; a < box.l; a++) {
         uint32_t q = place(a);
         if (k == FOUR_IN_FIVE && random_below(5) == 0) entry(a, UINT32_MAX);
@@ -105,7 +105,8 @@ static void by_table(const size_t v[6], size_t turns) {
     for (int t = 0; t < TABLES; t++) {
         memcpy(box.addresses, full, box.addresses_length);
         retable((enum table)t);
-        double ours = reclaim(turns, k, kinds[t]);
+        /* entries at random take a pass for each two million places: once is enough on the largest */
+        double ours = reclaim(t == ANY_PLACE && box.l > 100000000 ? 1 : turns, k, kinds[t]);
         row(names[t], ours, scan(turns), most[t]);
     }
     let_go(k);

@@ -19,6 +19,7 @@ ghost use Rattle.spec.specs.Reclaim.{tableFaults, victim, cleared, resetPlan};
 ghost use Rattle.call_reclaim.specs.Choosing.{copyRules, laterChecks, Chose, refusal};
 ghost use Rattle.mem_rows.specs.Rows.{afterChange};
 ghost use Rattle.call_reclaim_victim.specs.Looked.{Looked};
+ghost use Rattle.call_reclaim_victim.specs.Outside.{isOutside};
 ghost use Rattle.law_views.specs.Views.{Whole};
 use call_reclaim_victim::Chosen;
 use mem_calls::Check;
@@ -53,16 +54,16 @@ fn copy_rules(p: Params, pointers: &[u8], state: State) -> Check
     Check::Pass
 }
 
-// 01, Refusals, 9: a state number out of range, or a place outside the image; both name zone 0.
-fn has_fault(p: Params, addresses: &[u8], state: State) -> bool
+// 01, Refusals, 9: a state number out of range, or a place of the table outside the image; both name zone 0.
+fn has_fault(p: Params, addresses: &[u8], state: State, outside: bool) -> bool
     requires { ⌜ inRange p ≡ true ⌝ }
-    requires { ⌜ length (now addresses) ≡ addressesLen p ⌝ }
+    requires { ⌜ (length (now addresses) ≡ addressesLen p) × (outside ≡ isOutside p (now addresses)) ⌝ }
     ensures { λ r. ⌜ ((zs : List ℕ) → firstRefusal (zones (stateFaults p state ++ tableFaults p (now (addresses .entry)) ++ zs) ∷ []) ≡ cond r (some (BadZone 0)) (firstRefusal (zones zs ∷ []))) ⌝ }
 {
     if !mem_state::state_ok(p, state) {
         return true;
     }
-    call_reclaim_victim::any_outside(p, addresses)
+    outside
 }
 
 // What reclaim does: refuse, reset a segment, or copy the block at a place.
@@ -100,7 +101,7 @@ fn choose_copy(
     if let Check::Fail(answer) = c {
         return Choice::Refuse(answer);
     }
-    if has_fault(p, addresses, state) {
+    if has_fault(p, addresses, state, seen.outside) {
         return Choice::Refuse(Answer::BadZone(0));
     }
     if seen.odd {
@@ -141,7 +142,7 @@ fn choose(
     if 0 < seen.live {
         return choose_copy(p, image, pointers, addresses, state, seen);
     }
-    if has_fault(p, addresses, state) {
+    if has_fault(p, addresses, state, seen.outside) {
         return Choice::Refuse(Answer::BadZone(0));
     }
     Choice::Clear(seen.segment)

@@ -12,6 +12,7 @@ ghost use Rattle.spec.specs.Drives.{viewOf, sealedIn};
 ghost use Rattle.spec.specs.Params.{inRange, capacity, imageLen, pointersLen, addressesLen};
 ghost use Rattle.spec.specs.Reclaim.{victim};
 ghost use Rattle.mem_marks.specs.Marks.{Marks};
+ghost use Rattle.mem_tables.specs.Tables.{countPlaces};
 use spec::Params;
 
 // The places of the image.
@@ -70,23 +71,26 @@ fn count_zones(p: Params, marks: &[u8], live: &mut [usize], first: usize, end: u
 }
 
 // 01, Reclaim: the live blocks of each segment, one pass over the table for each window of places that the marks stand for. Where they stand
-// for all places, the marks are left as they are after that pass.
-pub fn count_windows(p: Params, addresses: &[u8], marks: &mut [u8], live: &mut [usize])
+// for all places, the marks are left as they are after that pass. How many entries lie outside the image.
+pub fn count_windows(p: Params, addresses: &[u8], marks: &mut [u8], live: &mut [usize]) -> usize
     requires { ⌜ inRange p ≡ true ⌝ }
     requires { ⌜ (length (now addresses) ≡ addressesLen p) × (0 < length (now marks)) × (length (now marks) < 268435456) × (p .Z ≤ length (now live)) ⌝ }
     requires { ⌜ Counted p (now addresses) (now live) 0 ⌝ }
     ensures { λ _. ⌜ Counted p (now (addresses .entry)) (now (live .exit)) (p .N * p .Z * capacity p) ⌝ }
     ensures { λ _. ⌜ (p .N * p .Z * capacity p ≤ 8 * length (now (marks .entry)) → Marks (now (addresses .entry)) (p .L) (now (marks .exit)) 0 (p .N * p .Z * capacity p)) ⌝ }
+    ensures { λ r. ⌜ r ≡ countPlaces (now (addresses .entry)) (p .L) (p .N * p .Z * capacity p) 4294967295 ⌝ }
 {
     let all = places(p);
     let step = 8 * marks.len();
+    let mut outside = 0;
     let mut first = 0;
     while first < all {
         let end = clip(0, all, first + step);
-        mem_marks::mark_window(addresses, p.L, marks, first, end);
+        outside = mem_marks::mark_window(addresses, p.L, marks, first, end);
         count_zones(p, marks, live, first, end);
         first = end;
     }
+    outside
 }
 
 // ---- the segment

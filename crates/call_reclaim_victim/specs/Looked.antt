@@ -11,6 +11,7 @@ use Rattle.spec.specs.Reclaim.{placesIn, flying, Victim, victimOf, fewest, vict
 use Rattle.spec.specs.declared.Params.{Params}
 use Rattle.spec.specs.declared.State.{State}
 use Rattle.law_basic.specs.Geometry.{Ranged}
+use Rattle.call_reclaim_victim.specs.Outside.{isOutside}
 use Rattle.call_reclaim_victim.specs.Waiting.{isOdd, Waiting, nil-first, waiting-nil, waiting-found}
 use Rattle.call_reclaim_victim.specs.declared.Chosen.{Chosen}
 use Rattle.call_reclaim_victim.specs.declared.Idle.{Idle}
@@ -40,6 +41,8 @@ pub record Looked (p : Params) (v : View) (tb : List ℕ) (st : State) (r : Chos
   pub found : (r .first .0 ≡ neverPlace → ⊥)
       → (r .segment < p .Z) × (r .first .0 < p .N * p .Z * capacity p) × (placeZone p (r .first .0) ≡ r .segment)
       × (r .odd ≡ false → isOdd p (r .first .0) ≡ false)
+  -- some place of the table lies outside the image; not looked at where no segment is sealed
+  pub outside : r .segment < p .Z → r .outside ≡ isOutside p tb
 
 -- ---- the two cases
 
@@ -57,6 +60,7 @@ module _ (p : Params) (v : View) (tb : List ℕ) (st : State) (g : ℕ) (taken :
         none-idle = ap (λ (x : Opt Victim). isNil (idle p v st x)) w ∙ sym (eq-eqb (r .first .0) neverPlace ef);
         odd = ap (λ (x : Opt Victim). any (isOdd p) (victimLive x)) w ∙ sym eo;
         found = λ n. absurd (n ef);
+        outside = λ l. absurd (let q : ⊥ = omega (arith, es, l) in q);
       }
 
   module _ (rg : Ranged p) (h : g < p .Z) where
@@ -76,9 +80,9 @@ module _ (p : Params) (v : View) (tb : List ℕ) (st : State) (g : ℕ) (taken :
 
     -- one is
     pub looked-some : (n : ℕ) → length (liveBelow p tb g all!) ≡ n → (i : Idle) → Waiting p v st tb g all! i → (r : Chosen) → r .segment ≡ g → r .live ≡ n
-        → r .first .0 ≡ i .first .0 → r .odd ≡ i .odd → Looked p v tb st r
+        → r .first .0 ≡ i .first .0 → r .odd ≡ i .odd → r .outside ≡ isOutside p tb → Looked p v tb st r
     unfolding isNone victimSegment victimOf
-    looked-some n so i wait r es el ef eo =
+    looked-some n so i wait r es el ef eo ex =
         let l = liveBelow p tb g all! in
         let f : ℕ → Bool = λ q. not (flying p v st q) in
         let e : firstOr neverPlace (keep f l) ≡ r .first .0 = sym (wait .first) ∙ sym ef in
@@ -97,6 +101,7 @@ module _ (p : Params) (v : View) (tb : List ℕ) (st : State) (g : ℕ) (taken :
                 z ∙ sym es,
                 λ o. subst (λ (x : ℕ). isOdd p x ≡ false) e (t .2 (sym (wait .odd) ∙ sym eo ∙ o)),
               );
+          outside = λ _. ex;
         }
 
 -- ---- no segment is sealed

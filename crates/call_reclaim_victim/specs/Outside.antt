@@ -87,3 +87,16 @@ outside-count p r tb h bytes =
 
     one : (q : ℕ) → q < 4294967296 → (not (eqb q neverPlace) && leb (p .N) (placeDrive p q)) ≡ isWithin (p .N * p .Z * capacity p) neverPlace q
     one q l = (λ j. below-never q l j && drive-beyond p r q j) ∙ swap (ltb q neverPlace) (leb (p .N * p .Z * capacity p) q)
+
+-- 01, Refusals, 9: some place of the table lies outside the image, by their count
+unfoldable pub isOutside : Params → List ℕ → Bool
+isOutside p tb = not (eqb (countPlaces tb (p .L) (p .N * p .Z * capacity p) neverPlace) 0)
+
+pub outside-is : (p : Params) (tb : List ℕ) (n : ℕ) → n ≡ countPlaces tb (p .L) (p .N * p .Z * capacity p) neverPlace → not (eqb n 0) ≡ isOutside p tb
+unfolding isOutside
+outside-is p tb n e = ap (λ (x : ℕ). not (eqb x 0)) e
+
+pub outside-told : (p : Params) → Ranged p → (tb : List ℕ) → 4 * p .L ≤ length tb → ((i : ℕ) → getD tb i 0 < 256) → (b : Bool) → b ≡ isOutside p tb
+    → tableFaults p tb ≡ consIf b 0 []
+unfolding isOutside
+outside-told p r tb h bytes b e = outside-count p r tb h bytes ∙ ap (λ (x : Bool). consIf x 0 []) (sym e)

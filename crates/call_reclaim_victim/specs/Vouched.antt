@@ -17,6 +17,7 @@ use Rattle.law_basic.specs.Geometry.{Ranged, between-of, data-below, place-bloc
 use Rattle.law_basic.specs.Ranges.{and-both}
 use Rattle.mem_marks.specs.Marks.{isPointed}
 use Rattle.call_reclaim_victim.specs.Looked.{Looked, looked-some}
+use Rattle.call_reclaim_victim.specs.Outside.{isOutside}
 use Rattle.call_reclaim_victim.specs.Waiting.{isOdd, Stepped, Waiting, waiting-none, waiting-step}
 use Rattle.call_reclaim_victim.specs.declared.Chosen.{Chosen}
 use Rattle.call_reclaim_victim.specs.declared.Idle.{Idle}
@@ -37,7 +38,7 @@ seenIdle s = record { first = s .first; odd = false }
 
 -- what is told, as the segment that reclaim takes
 abbrev pub chosenOf : Told → Chosen
-chosenOf t = record { segment = t .segment; live = t .live; first = t .first; odd = false }
+chosenOf t = record { segment = t .segment; live = t .live; first = t .first; odd = false; outside = t .outside }
 
 -- what s says of the live blocks of segment g below place n
 pub record Vouched (p : Params) (v : View) (st : State) (tb : List ℕ) (g n : ℕ) (s : Seen) : Type 0 where
@@ -132,8 +133,8 @@ module _ (p : Params) (v : View) (tb : List ℕ) (st : State) (g : ℕ) (rg : Ra
         (λ k l e. omega (arith, size g h, size k (omega (arith, l, h)), as-many, others k (omega (arith, l, h)) e .0 l))
         (λ k l m e. omega (arith, size g h, size k m, as-many, others k m e .1 l))
 
-    pub looked-sure : (r : Chosen) → r .segment ≡ g → r .live ≡ s .live → r .first .0 ≡ s .first .0 → r .odd ≡ false → Looked p v tb st r
-    looked-sure r es el ef eo = looked-some p v tb st g taken rg h (s .live) as-many (seenIdle s) (w .whole (sym as-many)) r es el ef eo
+    pub looked-sure : (r : Chosen) → r .segment ≡ g → r .live ≡ s .live → r .first .0 ≡ s .first .0 → r .odd ≡ false → r .outside ≡ isOutside p tb → Looked p v tb st r
+    looked-sure r es el ef eo ex = looked-some p v tb st g taken rg h (s .live) as-many (seenIdle s) (w .whole (sym as-many)) r es el ef eo ex
 
   -- by the entries of the table: no more live blocks than entries, and where there are none the others have enough
   module _ (used : List ℕ) (en : Entered p tb (p .L) used) (le : Least p v used (p .Z) g) where
@@ -147,13 +148,15 @@ module _ (p : Params) (v : View) (tb : List ℕ) (st : State) (g : ℕ) (rg : Ra
       λ b. omega arith,
     )
 
-    pub looked-empty : getD used g 0 ≡ 0 → (r : Chosen) → r .segment ≡ g → r .live ≡ 0 → r .first .0 ≡ neverPlace → r .odd ≡ false → Looked p v tb st r
+    pub looked-empty : getD used g 0 ≡ 0 → (r : Chosen) → r .segment ≡ g → r .live ≡ 0 → r .first .0 ≡ neverPlace → r .odd ≡ false → r .outside ≡ isOutside p tb
+        → Looked p v tb st r
     looked-empty z =
         let s : Seen = record { live = 0; first = record { 0 = 4294967295 } } in
         looked-sure s (vouched-skip p v st tb g 0 all! s (omega arith) (vouched-none p v st tb g s refl refl)) (le .taken h) (omega (arith, long-used, z)) (none-else z)
 
     -- where it has some, they are all live blocks that are seen
     pub looked-seen : (s : Seen) → Vouched p v st tb g all! s → s .live ≡ getD used g 0 → ((k : ℕ) → k < p .Z → Enough p v tb g (getD used g 0) k)
-        → (r : Chosen) → r .segment ≡ g → r .live ≡ getD used g 0 → r .first .0 ≡ s .first .0 → r .odd ≡ false → Looked p v tb st r
+        → (r : Chosen) → r .segment ≡ g → r .live ≡ getD used g 0 → r .first .0 ≡ s .first .0 → r .odd ≡ false → r .outside ≡ isOutside p tb
+        → Looked p v tb st r
     looked-seen s w e others r es el =
         looked-sure s w (le .taken h) (omega (arith, long-used, e)) (λ k l. subst (λ (x : ℕ). Enough p v tb g x k) (sym e) (others k l)) r es (el ∙ sym e)

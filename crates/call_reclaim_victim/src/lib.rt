@@ -259,12 +259,13 @@ fn idle_of(
 // ---- the segment
 
 // The segment that reclaim takes, Z if there is none; how many live blocks it has; the first of them that is not in flight, NEVER if there is
-// none; whether some live block is no data block.
+// none; whether some live block is no data block; whether some place of the table lies outside the image, where there is a segment.
 pub struct Chosen {
     pub segment: usize,
     pub live: usize,
     pub first: Place,
     pub odd: bool,
+    pub outside: bool,
 }
 
 // 01, Reclaim: the segment, with marks to work with.
@@ -282,7 +283,7 @@ fn look_with(
     ensures { λ r. ⌜ Looked p (viewOf p (now (image .entry)) (now (pointers .entry))) (now (addresses .entry)) state r ⌝ }
 {
     let mut live = [0usize; 1024];
-    call_reclaim_live::count_windows(p, addresses, marks, &mut live);
+    let outside = call_reclaim_live::count_windows(p, addresses, marks, &mut live);
     let g = call_reclaim_live::fewest(p, pointers, &live);
     if p.Z <= g {
         return Chosen {
@@ -290,6 +291,7 @@ fn look_with(
             live: 0,
             first: Place::NEVER,
             odd: false,
+            outside: false,
         };
     }
     let n = live[g];
@@ -301,6 +303,7 @@ fn look_with(
         live: n,
         first,
         odd,
+        outside: outside != 0,
     }
 }
 
@@ -402,12 +405,13 @@ fn see_segment(
 }
 
 // A segment, the count of its live blocks and the first not in flight; whether it is sure that reclaim takes it, and that none of them is a
-// header or footer block.
+// header or footer block; whether some place of the table lies outside the image.
 pub struct Told {
     pub sure: bool,
     pub segment: usize,
     pub live: usize,
     pub first: Place,
+    pub outside: bool,
 }
 
 // The sealed segment with fewest entries in the table, if each of its entries is a live block by its record, and the others have as many. Where
@@ -420,7 +424,7 @@ fn look_by_records(p: Params, image: &[u8], pointers: &[u8], addresses: &[u8], s
 {
     let none = Place::NEVER;
     let mut used = [0usize; 1024];
-    call_reclaim_entries::count_entries(p, addresses, &mut used);
+    let outside = call_reclaim_entries::count_entries(p, addresses, &mut used);
     let g = call_reclaim_live::fewest(p, pointers, &used);
     if p.Z <= g {
         return Told {
@@ -428,6 +432,7 @@ fn look_by_records(p: Params, image: &[u8], pointers: &[u8], addresses: &[u8], s
             segment: g,
             live: 0,
             first: none,
+            outside: outside != 0,
         };
     }
     let n = used[g];
@@ -437,6 +442,7 @@ fn look_by_records(p: Params, image: &[u8], pointers: &[u8], addresses: &[u8], s
             segment: g,
             live: 0,
             first: none,
+            outside: outside != 0,
         };
     }
     if !call_reclaim_records::is_quick(p, &used, n) {
@@ -445,6 +451,7 @@ fn look_by_records(p: Params, image: &[u8], pointers: &[u8], addresses: &[u8], s
             segment: g,
             live: 0,
             first: none,
+            outside: outside != 0,
         };
     }
     let seen = see_segment(p, image, pointers, addresses, state, g);
@@ -455,6 +462,7 @@ fn look_by_records(p: Params, image: &[u8], pointers: &[u8], addresses: &[u8], s
             segment: g,
             live: 0,
             first,
+            outside: outside != 0,
         };
     }
     let sure = call_reclaim_records::is_fewest(p, image, pointers, addresses, g, n);
@@ -463,6 +471,7 @@ fn look_by_records(p: Params, image: &[u8], pointers: &[u8], addresses: &[u8], s
         segment: g,
         live: n,
         first,
+        outside: outside != 0,
     }
 }
 
@@ -529,6 +538,7 @@ pub fn look(p: Params, image: &[u8], pointers: &[u8], addresses: &[u8], state: S
             live: 0,
             first: Place::NEVER,
             odd: false,
+            outside: false,
         };
     }
     let n = call_reclaim_live::places(p);
@@ -551,6 +561,7 @@ pub fn look(p: Params, image: &[u8], pointers: &[u8], addresses: &[u8], state: S
         live: told.live,
         first,
         odd: false,
+        outside: told.outside,
     }
 }
 

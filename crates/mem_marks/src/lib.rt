@@ -3,9 +3,10 @@ ghost use mathlib.Core.Path.{_≡_};
 ghost use mathlib.Core.Bool.{true, false, cond, _||_};
 ghost use Prim.Native.Nat.{ℕ, _+_, _-_, _*_, _/_, _≤_, _<_};
 ghost use lib.ListN.{length};
+ghost use mir.Val.{boolByte};
 ghost use Rattle.spec.specs.Lists.{upFrom, keep};
 ghost use Rattle.mem_marks.specs.Marks.{marked, withMark, isPointed, Marks};
-ghost use Rattle.mem_tables.specs.Tables.{isWithin};
+ghost use Rattle.mem_tables.specs.Tables.{isWithin, countPlaces};
 use spec::Place;
 
 // Marks number k.
@@ -33,40 +34,46 @@ fn whole(place: Place) -> usize
     place.0 as usize
 }
 
-// Marks a place that lies from first up to end, counted from first.
-fn mark_place(marks: &mut [u8], first: usize, end: usize, q: usize)
-    requires { ⌜ end - first ≤ 8 * length (now marks) ⌝ }
+// Marks a place that lies from first up to end, counted from first. 1 where it lies at end or above, and is not never written.
+fn mark_place(marks: &mut [u8], first: usize, end: usize, q: usize) -> usize
+    requires { ⌜ (first ≤ end) × (end - first ≤ 8 * length (now marks)) ⌝ }
     ensures { λ _. ⌜ now (marks .exit) ≡ cond (isWithin first end q) (withMark (now (marks .entry)) (q - first)) (now (marks .entry)) ⌝ }
+    ensures { λ r. ⌜ r ≡ boolByte (isWithin end 4294967295 q) ⌝ }
 {
     if q < first {
-        return;
+        return 0;
     }
     if end <= q {
-        return;
+        return (q < 4294967295) as usize;
     }
     add_mark(marks, q - first);
+    0
 }
 
-// Marks the places of the first n addresses.
-fn mark_places(addresses: &[u8], n: usize, marks: &mut [u8], first: usize, end: usize)
-    requires { ⌜ (4 * n ≤ length (now addresses)) × (end - first ≤ 8 * length (now marks)) ⌝ }
+// Marks the places of the first n addresses; how many of these have one at end or above.
+fn mark_places(addresses: &[u8], n: usize, marks: &mut [u8], first: usize, end: usize) -> usize
+    requires { ⌜ (4 * n ≤ length (now addresses)) × (first ≤ end) × (end - first ≤ 8 * length (now marks)) ⌝ }
     ensures { λ _. ⌜ ((q : ℕ) → first ≤ q → q < end → marked (now (marks .exit)) (q - first) ≡ (isPointed (now (addresses .entry)) n q || marked (now (marks .entry)) (q - first))) ⌝ }
+    ensures { λ r. ⌜ r ≡ countPlaces (now (addresses .entry)) n end 4294967295 ⌝ }
 {
+    let mut k = 0;
     let mut a = 0;
     while a < n {
         let q = whole(mem_tables::place_at(addresses, a));
-        mark_place(marks, first, end, q);
+        k += mark_place(marks, first, end, q);
         a += 1;
     }
+    k
 }
 
-// 01, Reclaim: marks just the places, from first up to end, that the first n addresses have.
-pub fn mark_window(addresses: &[u8], n: usize, marks: &mut [u8], first: usize, end: usize)
-    requires { ⌜ (4 * n ≤ length (now addresses)) × (end - first ≤ 8 * length (now marks)) ⌝ }
+// 01, Reclaim: marks just the places, from first up to end, that the first n addresses have; how many of these have one at end or above.
+pub fn mark_window(addresses: &[u8], n: usize, marks: &mut [u8], first: usize, end: usize) -> usize
+    requires { ⌜ (4 * n ≤ length (now addresses)) × (first ≤ end) × (end - first ≤ 8 * length (now marks)) ⌝ }
     ensures { λ _. ⌜ Marks (now (addresses .entry)) n (now (marks .exit)) first end ⌝ }
+    ensures { λ r. ⌜ r ≡ countPlaces (now (addresses .entry)) n end 4294967295 ⌝ }
 {
     disk_blocks::clear(marks);
-    mark_places(addresses, n, marks, first, end);
+    mark_places(addresses, n, marks, first, end)
 }
 
 // ---- how many are marked

@@ -116,15 +116,16 @@ returns-5 c =
 
 has-fault-requires : tie.Need-has-fault-requires
 has-fault-requires c κs =
-    let a = c .before .before .before .before .before .before .before .before .before .before .before .before .before .before .before .before .before .args in
-    let if2 = c .before .before .before .before .before .before .before .before .if2 in
-    let lent-ok = c .before .before .before .before .before .before .before .before .before .lent-ok in
-    let if1 = c .before .before .before .before .before .before .before .before .before .before .if1 in
-    let in-range = c .before .before .before .before .before .before .before .before .before .before .before .in-range in
+    let b = c .before .before in
+    let s = b .before .before .before in
+    let x = s .before .before .before .before in
+    let n = x .before .before in
+    let a = n .before .before .before .before .before .before .args in
     let k : Disk = mkDisk (a .image .now) (a .pointers .now) in
     let m : Memory = mkMemory (a .state) (a .addresses .now) (a .compact .now) (a .inflight .now) in
-    let l = lent-long (a .p) k m (sym (lent-ok .ensures (a .state)) ∙ not-false (lent-ok .result) (if2 .left)) in
-    (sym (in-range .ensures) ∙ not-false (in-range .result) (if1 .left), l .2)
+    let l = lent-long (a .p) k m (sym (x .lent-ok .ensures (a .state)) ∙ not-false (x .lent-ok .result) (s .before .before .before .if2 .left)) in
+    let r = sym (n .in-range .ensures) ∙ not-false (n .in-range .result) (x .before .if1 .left) in
+    (r, (l .2, s .look .ensures .outside (omega (arith, b .if4 .left))))
 
 returns-6 : tie.Need-returns-6
 returns-6 c =

@@ -60,7 +60,10 @@ enum-told : tie.Need-enum-told
 enum-told c = search needs
 
 has-fault-requires : tie.Need-has-fault-requires
-has-fault-requires c κs = search needs
+has-fault-requires c κs =
+    let o = c .before .before .before .before .before .before .before .before .before .before in
+    let l = o .pre .1 .1 .1 in
+    (o .pre .0, (o .pre .1 .1 .0, l .0 .outside (l .1)))
 
 returns-3 : tie.Need-returns-3
 returns-3 c =

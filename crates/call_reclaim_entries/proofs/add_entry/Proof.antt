@@ -1,9 +1,11 @@
 -- `add_entry`: a place outside counts nowhere; another's zone q / cap is numbered and its segment has a count, which one more fits. Assumes nothing.
 use Prim.Native.Nat.{ℕ, _+_, _*_, _/_, _<_}
 use borrow.Author.Needs.{needs}
-use borrow.Author.Tests.{lt-ltb, le-ltb}
+use borrow.Author.Tests.{lt-ltb, le-ltb, le-leb, lt-leb}
 use lib.ListN.{length, getD, set}
-use mathlib.Core.Bool.{Bool, cond}
+use lib.Dec.{ltb}
+use mathlib.Core.Bool.{Bool, cond, _&&_}
+use mir.Val.{boolByte}
 use mathlib.Core.Path.{_≡_, sym, ap, _∙_, subst}
 use native.Mathlib.Nat.{div-lt-iff-lt-mul}
 use native.Mathlib.Omega.{arith}
@@ -15,8 +17,13 @@ returns c =
     let o = c .before .before .before in
     let a = o .args in
     let u = a .used .now in
-    let g = getD (a .segments .now) (a .q / a .cap) 0 in
-    ap (λ (b : Bool). cond b (set u g (getD u g 0 + 1)) u) (sym (le-ltb (a .q) (a .all) (c .if1 .taken)))
+    let g = getD (a .segments .now) (a .q / a .cap) 0 in (
+      ap (λ (b : Bool). cond b (set u g (getD u g 0 + 1)) u) (sym (le-ltb (a .q) (a .all) (c .if1 .taken))),
+      ap (λ (b : Bool). boolByte (b && ltb (a .q) 4294967295)) (sym (le-leb (a .all) (a .q) (c .if1 .taken))),
+    )
+
+cast-result : tie.Need-cast-result
+cast-result c = search needs
 
 zone-number-requires : tie.Need-zone-number-requires
 zone-number-requires c κs =
@@ -89,13 +96,16 @@ returns-2 c =
     let a = o .args in
     let u = a .used .now in
     let g = getD (a .segments .now) (a .q / a .cap) 0 in
-    ap (λ (x : ℕ). set u x (getD u x 0 + 1)) (its-segment (c .before))
-    ∙ ap (λ (b : Bool). cond b (set u g (getD u g 0 + 1)) u) (sym (lt-ltb (a .q) (a .all) (omega (arith, c4 .if1 .left))))
+    let h : a .q < a .all = omega (arith, c4 .if1 .left) in (
+      ap (λ (x : ℕ). set u x (getD u x 0 + 1)) (its-segment (c .before)) ∙ ap (λ (b : Bool). cond b (set u g (getD u g 0 + 1)) u) (sym (lt-ltb (a .q) (a .all) h)),
+      ap (λ (b : Bool). boolByte (b && ltb (a .q) 4294967295)) (sym (lt-leb (a .all) (a .q) h)),
+    )
 
 pub add-entry-spec : {M : Type 1} → statement M
 add-entry-spec =
     tie.close
     (tie.spec
+    cast-result
     returns
     zone-number-requires
     mul-wide

@@ -4,20 +4,23 @@ use Rattle.spec.specs.Params.{capacity, addressesLen}
 use Rattle.call_reclaim_entries.specs.Entries.{Entered, entered-more, zone-told}
 use Rattle.call_reclaim_entries.specs.Inverse.{inverse}
 use Rattle.law_basic.specs.Geometry.{ranged, zones-all, addresses-all, zone-low}
+use Rattle.mem_tables.specs.Tables.{isWithin, countPlaces, bit-le, count-none, count-one, count-le}
 use lib.Dec.{ltb}
 use lib.ListN.{length, getD, set}
 use mathlib.Core.Bool.{cond}
-use mathlib.Core.Path.{_≡_, refl, sym, ap, _∙_, subst}
+use mathlib.Core.Path.{_≡_, refl, sym, ap, ap₂, _∙_, subst}
+use mir.Val.{boolByte}
 use native.Mathlib.Nat.{mul-le-mul-right, div-le-self}
 use native.Mathlib.Omega.{arith}
 use Rattle.call_reclaim_entries.proofs.count_all.Statement.{statement}
 use Rattle.call_reclaim_entries.proofs.count_all.Tie as tie
 
 abbrev Inv-loop : tie.InvT-loop
-Inv-loop p addresses segments used₀ all cap m a₀ used a = (a ≤ p .L) × (length used ≡ length used₀) × Entered p addresses a used
+Inv-loop p addresses segments used₀ all cap m k₀ a₀ used k a =
+    (a ≤ p .L) × (length used ≡ length used₀) × Entered p addresses a used × (k ≡ countPlaces addresses a all 4294967295) × (k ≤ a)
 
 abbrev μ-loop : tie.MeasureT-loop
-μ-loop p addresses segments used₀ all cap m a₀ used a = p .L - a
+μ-loop p addresses segments used₀ all cap m k₀ a₀ used k a = p .L - a
 
 places-requires : tie.Need-places-requires Inv-loop μ-loop
 places-requires c κs =
@@ -41,7 +44,7 @@ add-m c = omega (arith, quotient (c .capacity .result))
 loop-holds : tie.Need-loop-holds Inv-loop μ-loop
 loop-holds c =
     let o = c .before .before .before .before .before in
-    (omega arith, refl, o .pre .1 .1 .1)
+    (omega arith, refl, o .pre .1 .1 .1, count-none (o .args .addresses .now) (c .before .places .result) 4294967295, omega arith)
 
 place-at-requires : tie.Need-place-at-requires Inv-loop μ-loop
 unfolding addressesLen
@@ -82,6 +85,17 @@ add-entry-requires c κs =
       ),
     )
 
+add-k : tie.Need-add-k Inv-loop μ-loop
+add-k c =
+    let l = c .before .before .before .before .before .before .before .before .loop in
+    let add-entry = c .before .before .add-entry in
+    let place-at = c .before .before .before .before .before .place-at in
+    let places = c .before .before .before .before .before .before .before .before .before .before .places in
+    let o = c .before .before .before .before .before .before .before .before .before .before .before .before .before .before in
+    let all! = places .result in
+    let q = place-at .result .0 in
+    omega (arith, add-entry .ensures .1, bit-le (isWithin all! 4294967295 q), l .inv .4, l .inv .0, addresses-all (o .args .p) (ranged (o .args .p) (o .pre .0)))
+
 add-a : tie.Need-add-a Inv-loop μ-loop
 add-a c = omega arith
 
@@ -109,10 +123,14 @@ loop-again c =
     let eq = c5 .place-at .ensures in
     let ec = c9 .capacity .ensures .0 in
     let ea = c10 .places .ensures .0 in
-    let told = add-entry .ensures ∙ (λ j. cond (ltb (eq j) (ea j)) (set u (getD sg (eq j / ec j) 0) (getD u (getD sg (eq j / ec j) 0) 0 + 1)) u) in
+    let told = add-entry .ensures .0 ∙ (λ j. cond (ltb (eq j) (ea j)) (set u (getD sg (eq j / ec j) 0) (getD u (getD sg (eq j / ec j) 0) 0 + 1)) u) in
     let now′ = add-entry .last .1 .0 in
     let more = entered-more p (a .addresses .now) (l .a) u (i .2) r sg (h .1 .0) (omega (arith, i .1, h .0 .2)) now′ told in
-    (omega (arith, c6 .if1 .taken), add-entry .kept .1 .0 ∙ i .1, more)
+    let tb = a .addresses .now in
+    let all! = c10 .places .result in
+    let n : l .k + add-entry .result ≡ countPlaces tb (l .a + 1) all! 4294967295 =
+    ap₂ _+_ (i .3) (add-entry .ensures .1 ∙ ap (λ (x : ℕ). boolByte (isWithin all! 4294967295 x)) eq) ∙ count-one tb (l .a) all! 4294967295 in
+    (omega (arith, c6 .if1 .taken), add-entry .kept .1 .0 ∙ i .1, more, n, omega (arith, n, count-le tb (l .a + 1) all! 4294967295))
 
 same-length : tie.Need-same-length Inv-loop μ-loop
 same-length c = c .before .before .loop .inv .1
@@ -120,10 +138,14 @@ same-length c = c .before .before .loop .inv .1
 returns : tie.Need-returns Inv-loop μ-loop
 returns c =
     let o = c .before .before .before .before .before .before .before .before in
+    let places = c .before .before .before .before .places in
     let a = o .args in
     let l = c .before .before .loop in
     let e : l .a ≡ a .p .L = omega (arith, c .if1 .left, l .inv .0) in
-    subst (λ (x : ℕ). Entered (a .p) (a .addresses .now) x (l .used)) e (l .inv .2)
+    let s = places .ensures .0 in (
+      subst (λ (x : ℕ). Entered (a .p) (a .addresses .now) x (l .used)) e (l .inv .2),
+      l .inv .3 ∙ (λ j. countPlaces (a .addresses .now) (e j) (s j) 4294967295),
+    )
 
 pub count-all-spec : {M : Type 1} → statement M
 count-all-spec =
@@ -139,6 +161,7 @@ count-all-spec =
     place-at-requires
     cast-q
     add-entry-requires
+    add-k
     add-a
     loop-less
     loop-again

@@ -1,10 +1,10 @@
 -- `count_windows`: live counts each segment's live blocks below first; a turn marks and counts a window. One window of all leaves its marks. Assumes nothing.
 use Prim.Native.Nat.{ℕ, _-_, _*_, _≤_, _<_}
 use Rattle.call_reclaim_live.specs.Live.{liveBelow, Counted, counted-le, only-window, left-marks, window-nearer}
-use Rattle.spec.specs.History.{before, step}
-use Rattle.spec.specs.Lists.{all}
 use Rattle.spec.specs.Params.{addressesLen}
+use Rattle.law_basic.specs.Geometry.{ranged, capacity-low, place-lt}
 use Rattle.mem_marks.specs.Marks.{Marks}
+use Rattle.mem_tables.specs.Tables.{countPlaces}
 use lib.ListN.{length}
 use mathlib.Core.Path.{_≡_, refl, ap, _∙_}
 use native.Mathlib.Omega.{arith}
@@ -12,15 +12,13 @@ use Rattle.call_reclaim_live.proofs.count_windows.Statement.{statement}
 use Rattle.call_reclaim_live.proofs.count_windows.Tie as tie
 
 abbrev Inv-loop : tie.InvT-loop
-Inv-loop p addresses marks₀ live₀ all step first₀ marks live first =
-    (first ≤ all)
-    × (length marks ≡ length marks₀)
-    × (length live ≡ length live₀)
-    × Counted p addresses live first
+Inv-loop p addresses marks₀ live₀ all step outside₀ first₀ marks live outside first =
+    (first ≤ all) × (length marks ≡ length marks₀) × (length live ≡ length live₀) × Counted p addresses live first
     × (0 < first → all ≤ 8 * length marks₀ → (first ≡ all) × Marks addresses (p .L) marks 0 all)
+    × (0 < first → outside ≡ countPlaces addresses (p .L) first 4294967295)
 
 abbrev μ-loop : tie.MeasureT-loop
-μ-loop p addresses marks₀ live₀ all step first₀ marks live first = all - first
+μ-loop p addresses marks₀ live₀ all step outside₀ first₀ marks live outside first = all - first
 
 places-requires : tie.Need-places-requires Inv-loop μ-loop
 places-requires c κs = c .before .before .before .pre .0
@@ -31,7 +29,7 @@ mul-step c = omega arith
 loop-holds : tie.Need-loop-holds Inv-loop μ-loop
 loop-holds c =
     let pre = c .before .before .before .before .pre in
-    (omega arith, refl, refl, pre .1 .1, λ h. absurd (let q : ⊥ = omega arith in q))
+    (omega arith, refl, refl, pre .1 .1, (λ h. absurd (let q : ⊥ = omega arith in q)), λ h. absurd (let q : ⊥ = omega arith in q))
 
 add-clip : tie.Need-add-clip Inv-loop μ-loop
 add-clip c = omega arith
@@ -44,7 +42,9 @@ unfolding addressesLen
 mark-window-requires c κs =
     let pre′ = c .before .before .before .before .before .before .before .before .pre in
     let pre = pre′ .1 .0 in
-    (omega (arith, pre .0), omega (arith, c .before .clip .ensures, c .before .before .before .loop .inv .1))
+    let e = c .before .clip .ensures in
+    let l = c .before .before .before .loop in
+    (omega (arith, pre .0), omega (arith, e, l .inv .0), omega (arith, e, l .inv .1))
 
 count-zones-requires : tie.Need-count-zones-requires Inv-loop μ-loop
 count-zones-requires c κs =
@@ -74,23 +74,24 @@ loop-less c =
 
 loop-again : tie.Need-loop-again Inv-loop μ-loop
 loop-again c =
-    let a = c .before .before .before .before .before .before .before .before .before .before .before .before .before .before .before .before .args in
-    let l = c .before .before .before .before .before .before .before .before .before .before .before .loop in
+    let w = c .before .before .before .before .before .before .before in
+    let x = w .before .before in
+    let a = x .before .before .before .before .before .before .before .args in
+    let l = x .before .before .loop in
     let count-zones = c .before .before .count-zones in
-    let mark-window = c .before .before .before .before .before .before .before .mark-window in
-    let clip = c .before .before .before .before .before .before .before .before .before .clip in
-    let loop-test = c .before .before .before .before .before .before .before .before .before .before .loop-test in
-    let places = c .before .before .before .before .before .before .before .before .before .before .before .before .places in
     let i = l .inv in
-    let e = clip .ensures in
-    let k = mark-window .kept .1 .1 .0 in
-    let told = mark-window .ensures in
-    let t = loop-test .taken in (
+    let tb = a .addresses .now in
+    let e = x .clip .ensures in
+    let all! = x .before .before .before .places .result in
+    let told = w .mark-window .ensures .0 in
+    let t = x .before .loop-test .taken in (
       omega (arith, e),
-      k ∙ i .1,
+      w .mark-window .kept .1 .1 .0 ∙ i .1,
       count-zones .kept .1 .1 .0 ∙ i .2,
-      count-zones .ensures (a .addresses .now) told (i .3),
-      λ h m. only-window (a .addresses .now) (mark-window .last .1 .1 .0) (a .p .L) (l .first) (clip .result) (places .result) (8 * length (a .marks .now)) told (λ x. i .4 x m .0) t e m,
+      count-zones .ensures tb told (i .3),
+      (λ h m.
+          only-window tb (w .mark-window .last .1 .1 .0) (a .p .L) (l .first) (x .clip .result) all! (8 * length (a .marks .now)) told (λ y. i .4 y m .0) t e m),
+      λ _. w .mark-window .ensures .1,
     )
 
 same-length : tie.Need-same-length Inv-loop μ-loop
@@ -101,14 +102,23 @@ same-length-2 c = c .before .loop .inv .2
 
 returns : tie.Need-returns Inv-loop μ-loop
 returns c =
-    let a = c .before .before .before .before .before .before .args in
-    let l = c .before .loop in
+    let o = c .before .before .before .before .before .before in
     let places = c .before .before .places in
+    let a = o .args in
+    let tb = a .addresses .now in
+    let l = c .before .loop in
     let i = l .inv in
+    let all! = places .result in
     let s = places .ensures .0 in
-    let f : l .first ≡ places .result = omega (arith, i .0, c .loop-test .left) in (
-      (λ g h. i .3 g h ∙ ap (λ (x : ℕ). length (liveBelow (a .p) (a .addresses .now) g x)) (f ∙ s)),
-      λ h q x y. left-marks (a .addresses .now) (l .marks) (a .p .L) (l .first) (places .result) (8 * length (a .marks .now)) (i .4) f (omega (arith, h, s)) q x (omega (arith, y, s)),
+    let f : l .first ≡ all! = omega (arith, i .0, c .loop-test .left) in
+    let r = ranged (a .p) (o .pre .0) in
+    let low = place-lt (a .p) 0 0 0 (omega (arith, r .drives-low)) (omega (arith, r .zones-low)) (omega (arith, capacity-low (a .p) r)) in
+    let some : 0 < l .first = omega (arith, f, s, low) in (
+      (λ g h. i .3 g h ∙ ap (λ (x : ℕ). length (liveBelow (a .p) tb g x)) (f ∙ s)),
+      (
+        (λ h q x y. left-marks tb (l .marks) (a .p .L) (l .first) all! (8 * length (a .marks .now)) (i .4) f (omega (arith, h, s)) q x (omega (arith, y, s))),
+        i .5 some ∙ ap (λ (x : ℕ). countPlaces tb (a .p .L) x 4294967295) (f ∙ s),
+      ),
     )
 
 pub count-windows-spec : {M : Type 1} → statement M

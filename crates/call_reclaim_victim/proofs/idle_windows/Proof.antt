@@ -48,7 +48,9 @@ unfolding addressesLen
 mark-window-requires c κs =
     let pre′ = c .before .before .before .before .before .before .before .before .before .pre in
     let pre = pre′ .1 .1 in
-    (omega (arith, pre .0), omega (arith, c .before .clip .ensures, c .before .before .before .loop .inv .1))
+    let e = c .before .clip .ensures in
+    let l = c .before .before .before .loop in
+    (omega (arith, pre .0), omega (arith, e, l .inv .0), omega (arith, e, l .inv .1))
 
 idle-zones-requires : tie.Need-idle-zones-requires Inv-loop μ-loop
 idle-zones-requires c κs =
@@ -77,11 +79,11 @@ loop-less c =
 loop-again : tie.Need-loop-again Inv-loop μ-loop
 loop-again c =
     let a = c .before .before .before .before .before .before .before .before .before .before .before .before .before .before .args in
-    let mark-window = c .before .before .before .before .mark-window in
+    let m = c .before .before .before .before .mark-window in
     let clip = c .before .before .before .before .before .before .clip in
     let loop = c .before .before .before .before .before .before .before .before .loop in
     let i = loop .inv in
-    (omega (arith, clip .ensures), mark-window .kept .1 .1 .0 ∙ i .1, c .idle-zones .ensures (a .addresses .now) (mark-window .ensures) (i .2))
+    (omega (arith, clip .ensures), m .kept .1 .1 .0 ∙ i .1, c .idle-zones .ensures (a .addresses .now) (m .ensures .0) (i .2))
 
 same-length : tie.Need-same-length Inv-loop μ-loop
 same-length c = c .before .loop .inv .1

@@ -22,7 +22,7 @@ returns c =
     let v = viewOf p (a .image .now) (a .pointers .now) in
     let no = sym (c .before .any-sealed .ensures (a .image .now) (w .image-long)) ∙ not-true (c .before .any-sealed .result) (c .if1 .taken) in
     looked-none p v tb (a .state) (p .Z) (unsealed p v tb no) (omega arith)
-    (record { segment = p .Z; live = 0; first = record { 0 = 4294967295 }; odd = false }) refl refl refl refl
+    (record { segment = p .Z; live = 0; first = record { 0 = 4294967295 }; odd = false; outside = false }) refl refl refl refl
 
 places-requires : tie.Need-places-requires
 places-requires c κs = search needs

@@ -4,11 +4,13 @@ use Rattle.spec.specs.Drives.{viewOf}
 use Rattle.call_reclaim_entries.specs.Entries.{entered-none}
 use Rattle.law_basic.specs.Geometry.{ranged, addresses-all}
 use Rattle.law_basic.specs.Ranges.{not-both}
+use Rattle.call_reclaim_victim.specs.Outside.{outside-is}
 use Rattle.call_reclaim_victim.specs.Vouched.{chosenOf, looked-empty, looked-seen}
 use Rattle.call_reclaim_victim.specs.declared.Told.{Told}
 use borrow.Author.Needs.{needs}
+use lib.Dec.{eqb}
 use lib.ListN.{length, getD, replicate, length-replicate, getD-replicate}
-use mathlib.Core.Bool.{true, false}
+use mathlib.Core.Bool.{true, false, not}
 use mathlib.Core.Path.{_≡_, refl, sym, _∙_, subst}
 use native.Mathlib.Omega.{arith}
 use Rattle.call_reclaim_victim.proofs.look_by_records.Statement.{statement}
@@ -65,8 +67,9 @@ returns-2 c =
     let used = c6 .count-entries .last .1 .1 .0 in
     let h : g < p .Z = omega (arith, c .before .if1 .left) in
     let le = c3 .fewest .ensures .1 (a .image .now) (o .pre .1 .0 .image-long) in
-    let t : Told = record { sure = true; segment = g; live = 0; first = record { 0 = 4294967295 } } in
-    λ _. looked-empty p v (a .addresses .now) (a .state) g (ranged p (o .pre .0)) h used (c6 .count-entries .ensures) le (c .if2 .taken) (chosenOf t) refl refl refl refl
+    let t : Told = record { sure = true; segment = g; live = 0; first = record { 0 = 4294967295 }; outside = not (eqb (c6 .count-entries .result) 0) } in
+    let out = outside-is p (a .addresses .now) (c6 .count-entries .result) (c6 .count-entries .ensures .1) in
+    λ _. looked-empty p v (a .addresses .now) (a .state) g (ranged p (o .pre .0)) h used (c6 .count-entries .ensures .0) le (c .if2 .taken) (chosenOf t) refl refl refl refl out
 
 slice-aggregate-is-quick : tie.Need-slice-aggregate-is-quick
 slice-aggregate-is-quick c = search needs
@@ -80,7 +83,7 @@ is-quick-requires c κs =
     let a = o .args in
     let r = ranged (a .p) (o .pre .0) in
     let n : length {A = ℕ} (replicate 1024 0) ≡ 1024 = length-replicate {A = ℕ} 1024 0 in
-    let low = c7 .count-entries .ensures .low (c4 .fewest .result) (omega (arith, if1 .left)) in
+    let low = c7 .count-entries .ensures .0 .low (c4 .fewest .result) (omega (arith, if1 .left)) in
     (o .pre .0, (subst (λ (x : ℕ). a .p .Z ≤ x) (sym (c7 .count-entries .kept .1 .1 .0 ∙ n)) (r .zones-high), omega (arith, low, addresses-all (a .p) r)))
 
 returns-3 : tie.Need-returns-3
@@ -103,7 +106,7 @@ is-fewest-requires c κs =
     let o = c .before .before .before .before .before .before .before .before .before .before .before .before .before .before .before .before .before .before in
     let a = o .args in
     let r = ranged (a .p) (o .pre .0) in
-    let low = c13 .count-entries .ensures .low (c10 .fewest .result) (omega (arith, c8 .if1 .left)) in
+    let low = c13 .count-entries .ensures .0 .low (c10 .fewest .result) (omega (arith, c8 .if1 .left)) in
     (o .pre .0, (o .pre .1 .0, (o .pre .1 .1, omega (arith, low, addresses-all (a .p) r))))
 
 returns-5 : tie.Need-returns-5
@@ -121,9 +124,10 @@ returns-5 c =
     let s = c4 .see-segment .result in
     let h : g < p .Z = omega (arith, c9 .if1 .left) in
     let le = c11 .fewest .ensures .1 (a .image .now) (o .pre .1 .0 .image-long) in
-    let t : Told = record { sure = c .is-fewest .result; segment = g; live = getD used g 0; first = s .first } in
-    λ sure. looked-seen p v (a .addresses .now) (a .state) g (ranged p (o .pre .0)) h used (c14 .count-entries .ensures) le s (c4 .see-segment .ensures) (c .before .if4 .left)
-    (c .is-fewest .ensures sure) (chosenOf t) refl refl refl refl
+    let t : Told = record { sure = c .is-fewest .result; segment = g; live = getD used g 0; first = s .first; outside = not (eqb (c14 .count-entries .result) 0) } in
+    let out = outside-is p (a .addresses .now) (c14 .count-entries .result) (c14 .count-entries .ensures .1) in
+    λ sure. looked-seen p v (a .addresses .now) (a .state) g (ranged p (o .pre .0)) h used (c14 .count-entries .ensures .0) le s (c4 .see-segment .ensures) (c .before .if4 .left)
+    (c .is-fewest .ensures sure) (chosenOf t) refl refl refl refl out
 
 pub look-by-records-spec : {M : Type 1} → statement M
 look-by-records-spec =

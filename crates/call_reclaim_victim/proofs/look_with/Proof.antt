@@ -5,9 +5,11 @@ use Rattle.spec.specs.Drives.{viewOf}
 use Rattle.spec.specs.Reclaim.{fewest}
 use Rattle.law_basic.specs.Geometry.{ranged}
 use Rattle.call_reclaim_victim.specs.Looked.{looked-none, looked-some}
+use Rattle.call_reclaim_victim.specs.Outside.{outside-is}
 use borrow.Author.Needs.{needs}
 use lib.ListN.{length, getD, replicate, length-replicate, getD-replicate}
-use mathlib.Core.Bool.{false}
+use lib.Dec.{eqb}
+use mathlib.Core.Bool.{false, not}
 use mathlib.Core.Path.{_≡_, refl, sym, _∙_, subst}
 use native.Mathlib.Omega.{arith}
 use Rattle.call_reclaim_victim.proofs.look_with.Statement.{statement}
@@ -55,7 +57,7 @@ returns c =
     let tb = a .addresses .now in
     let w = pre .1 .0 in
     looked-none p (viewOf p (a .image .now) (a .pointers .now)) tb (a .state) (fewest′ .result) (fewest′ .ensures .0 (a .image .now) tb (w .image-long) (count-windows .ensures .0)) (c .if1 .taken)
-    (record { segment = fewest′ .result; live = 0; first = record { 0 = 4294967295 }; odd = false }) refl refl refl refl
+    (record { segment = fewest′ .result; live = 0; first = record { 0 = 4294967295 }; odd = false; outside = false }) refl refl refl refl
 
 mul-n : tie.Need-mul-n
 mul-n c =
@@ -73,35 +75,34 @@ array-read-n c =
 
 idle-of-requires : tie.Need-idle-of-requires
 idle-of-requires c κs =
-    let count-windows = c .before .before .before .before .before .before .before .before .count-windows in
-    let pre = c .before .before .before .before .before .before .before .before .before .before .before .before .before .before .before .pre in
-    let h = pre .1 .1 in
-    let k = count-windows .kept .1 .1 .0 in
-    (pre .0, (pre .1 .0, ((h .0, omega (arith, h .1, k), omega (arith, h .2, k)), λ x. count-windows .ensures .1 (omega (arith, x, k)))))
+    let o = c .before .before .before .before .before .before .before .before .before .before .before .before .before .before .before in
+    let w = c .before .before .before .before .before .before .before .before .count-windows in
+    let h = o .pre .1 .1 in
+    let k = w .kept .1 .1 .0 in
+    (o .pre .0, (o .pre .1 .0, ((h .0, omega (arith, h .1, k), omega (arith, h .2, k)), λ x. w .ensures .1 .0 (omega (arith, x, k)))))
 
 same-length-2 : tie.Need-same-length-2
 same-length-2 c = search needs
 
 returns-2 : tie.Need-returns-2
 returns-2 c =
-    let a = c .before .before .before .before .before .before .before .before .before .before .before .before .before .before .before .before .before .before .before .args in
+    let o = c .before .before .before .before .before .before .before .before .before .before .before .before .before .before .before .before .before .before .before in
     let idle-of = c .before .before .before .idle-of in
     let if1 = c .before .before .before .before .before .if1 in
-    let fewest′ = c .before .before .before .before .before .before .before .fewest in
-    let count-windows = c .before .before .before .before .before .before .before .before .before .before .before .before .count-windows in
-    let pre = c .before .before .before .before .before .before .before .before .before .before .before .before .before .before .before .before .before .before .before .pre in
+    let f = c .before .before .before .before .before .before .before .fewest in
+    let w = c .before .before .before .before .before .before .before .before .before .before .before .before .count-windows in
+    let a = o .args in
     let p = a .p in
     let tb = a .addresses .now in
-    let w = pre .1 .0 in
-    let g = fewest′ .result in
+    let v = viewOf p (a .image .now) (a .pointers .now) in
+    let g = f .result in
     let i = idle-of .result in
-    let so = count-windows .ensures .0 in
-    let rg = ranged p (pre .0) in
+    let so = w .ensures .0 in
     let h : g < p .Z = omega (arith, if1 .left) in
-    let n = getD (count-windows .last .1 .1 .1 .0) g 0 in
-    let taken = fewest′ .ensures .0 (a .image .now) tb (w .image-long) so in
-    looked-some p (viewOf p (a .image .now) (a .pointers .now)) tb (a .state) g taken rg h n (sym (so g h)) i (idle-of .ensures)
-    (record { segment = g; live = n; first = i .first; odd = i .odd }) refl refl refl refl
+    let n = getD (w .last .1 .1 .1 .0) g 0 in
+    let taken = f .ensures .0 (a .image .now) tb (o .pre .1 .0 .image-long) so in
+    looked-some p v tb (a .state) g taken (ranged p (o .pre .0)) h n (sym (so g h)) i (idle-of .ensures)
+    (record { segment = g; live = n; first = i .first; odd = i .odd; outside = not (eqb (w .result) 0) }) refl refl refl refl (outside-is p tb (w .result) (w .ensures .1 .1))
 
 pub look-with-spec : {M : Type 1} → statement M
 look-with-spec =

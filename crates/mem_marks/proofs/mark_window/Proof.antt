@@ -22,9 +22,13 @@ returns : tie.Need-returns
 returns c =
     let s = c .before .before .before .before .before .before .before .before .before .before .args in
     let clear = c .before .before .before .before .before .before .clear in
-    λ q x y. c .before .before .mark-places .ensures q x y
-    ∙ ap (λ (b : Bool). isPointed (s .addresses .now) (s .n) q || b) (ap (λ (l : List ℕ). marked l (q - s .first)) (clear .ensures) ∙ marked-none (length (s .marks .now)) (q - s .first))
-    ∙ or-false (isPointed (s .addresses .now) (s .n) q)
+    let m = c .before .before .mark-places .ensures in
+    let e = clear .ensures in (
+      (λ q x y. m .0 q x y
+          ∙ ap (λ (b : Bool). isPointed (s .addresses .now) (s .n) q || b) (ap (λ (l : List ℕ). marked l (q - s .first)) e ∙ marked-none (length (s .marks .now)) (q - s .first))
+          ∙ or-false (isPointed (s .addresses .now) (s .n) q)),
+      m .1,
+    )
 
 pub mark-window-spec : {M : Type 1} → statement M
 mark-window-spec = tie.close (tie.spec clear-requires mark-places-requires same-length returns)
