@@ -2,3 +2,4 @@ pub mod Told
 pub mod Hears
 pub mod Numbers
 pub mod Applied
+pub mod Stateless

@@ -118,8 +118,18 @@ fn examined(
         (mkMemory state (now (addresses .entry)) (now (compact .entry)) (now (inflight .entry))) (rebuildCall drive count) ⌝ }
 {
     let gone = bits_masks::only_drive(drive);
-    let serials = recover_segments::serials(p, image, gone);
-    let kept = recover_segments::kept(p, image, pointers, gone, &serials);
+    let mut serials = [0u64; 1024];
+    let mut flags = [false; 1024];
+    let mut kept = [false; 1024];
+    recover_segments::look(
+        p,
+        image,
+        pointers,
+        gone,
+        &mut serials,
+        &mut flags,
+        &mut kept,
+    );
     let e = recover_check::examine(p, image, pointers, gone, &kept, &serials);
     if e.zone < p.Z {
         return Done {

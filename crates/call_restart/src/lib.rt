@@ -1,6 +1,6 @@
 // The restart call (01, Restart and rebuild).
 ghost use mathlib.Core.Path.{_≡_};
-ghost use mathlib.Core.Bool.{true, not, _||_};
+ghost use mathlib.Core.Bool.{true, false, not, _||_};
 ghost use mathlib.Core.List.{List, []};
 ghost use Prim.Native.Nat.{ℕ, _≤_, _<_};
 ghost use lib.ListN.{length};
@@ -11,9 +11,11 @@ ghost use Rattle.spec.specs.Drives.{View, viewOf, mkDisk};
 ghost use Rattle.spec.specs.Engine.{lentOk, callDisk};
 ghost use Rattle.spec.specs.Engine.Call.{restart};
 ghost use Rattle.spec.specs.Faults.{pointerFaults};
+ghost use Rattle.spec.specs.Lists.{any};
 ghost use Rattle.spec.specs.Memory.{mkMemory};
 ghost use Rattle.spec.specs.Params.{inRange, addressesLen, compactLen};
-ghost use Rattle.spec.specs.Restart.{namesDrive, restartStores};
+ghost use Rattle.spec.specs.Restart.{namesDrive, restartStores, restartMemory};
+ghost use Rattle.recover_groups.specs.Groups.{recsFault};
 ghost use Rattle.spec.specs.Segments.{segments};
 ghost use Rattle.spec.specs.declared.State.{State as StateOf};
 ghost use Rattle.recover_stores.specs.Refit.{Sane};
@@ -157,16 +159,23 @@ fn stores(
 }
 
 // 01, Restart: the checks behind the pointers of 9, then the stores.
-fn settle(p: Params, image: &mut [u8], pointers: &mut [u8], gone: u8, count: u64) -> Taken
+fn settle(
+    p: Params,
+    image: &mut [u8],
+    pointers: &mut [u8],
+    gone: u8,
+    kept: &[bool],
+    serials: &[u64],
+    count: u64,
+) -> Taken
     requires { ⌜ inRange p ≡ true ⌝ }
     requires { ⌜ Whole p (mkDisk (now image) (now pointers)) ⌝ }
     requires { ⌜ pointerFaults p (viewOf p (now image) (now pointers)) gone ≡ [] ⌝ }
+    requires { ⌜ Keeps p (viewOf p (now image) (now pointers)) gone (now kept) × Serials p (viewOf p (now image) (now pointers)) gone (now serials) ⌝ }
     ensures { λ r. ⌜ Settles p gone count (mkDisk (now (image .entry)) (now (pointers .entry))) r (mkDisk (now (image .exit)) (now (pointers .exit))) ⌝ }
 {
-    let serials = recover_segments::serials(p, image, gone);
-    let kept = recover_segments::kept(p, image, pointers, gone, &serials);
-    let e = recover_check::examine(p, image, pointers, gone, &kept, &serials);
-    let c = rest_checks(p, gone, &kept, &serials, e);
+    let e = recover_check::examine(p, image, pointers, gone, kept, serials);
+    let c = rest_checks(p, gone, kept, serials, e);
     if let Check::Fail(answer) = c {
         return Taken {
             check: Check::Fail(answer),
@@ -174,7 +183,7 @@ fn settle(p: Params, image: &mut [u8], pointers: &mut [u8], gone: u8, count: u64
             loose: 0,
         };
     }
-    let made = stores(p, image, pointers, gone, &kept, &serials, e, count);
+    let made = stores(p, image, pointers, gone, kept, serials, e, count);
     Taken {
         check: Check::Pass,
         cut: made.cut,
@@ -182,7 +191,152 @@ fn settle(p: Params, image: &mut [u8], pointers: &mut [u8], gone: u8, count: u64
     }
 }
 
-// 01, Restart: the same, then the memory that the drives say.
+// 01, Restart: the memory that the drives say, once the stores are made: serials and the segments that remain are read anew, into lent arrays.
+fn reload(
+    p: Params,
+    image: &[u8],
+    pointers: &[u8],
+    addresses: &mut [u8],
+    compact: &mut [u8],
+    gone: u8,
+    serials: &mut [u64],
+    flags: &mut [bool],
+    kept: &mut [bool],
+) -> State
+    requires { ⌜ inRange p ≡ true ⌝ }
+    requires { ⌜ Whole p (mkDisk (now image) (now pointers)) ⌝ }
+    requires { ⌜ (length (now addresses) ≡ addressesLen p) × (length (now compact) ≡ compactLen p) ⌝ }
+    requires { ⌜ any (recsFault p gone) (segments p (viewOf p (now image) (now pointers)) gone) ≡ false ⌝ }
+    requires { ⌜ (p .Z ≤ length (now serials)) × (p .Z ≤ length (now flags)) × (p .Z ≤ length (now kept)) ⌝ }
+    ensures { λ r. ⌜ ((fl : List ℕ) → mkMemory r (now (addresses .exit)) (now (compact .exit)) fl ≡ restartMemory p (viewOf p (now (image .entry)) (now (pointers .entry))) gone fl) ⌝ }
+{
+    recover_segments::look(p, image, pointers, gone, serials, flags, kept);
+    recover_tables::load(p, image, pointers, addresses, compact, gone, serials, kept)
+}
+
+// 01, Restart: checks and stores, then the memory that the drives say; the arrays are room for the segments.
+fn recover_in(
+    p: Params,
+    image: &mut [u8],
+    pointers: &mut [u8],
+    addresses: &mut [u8],
+    compact: &mut [u8],
+    state: State,
+    gone: u8,
+    count: u64,
+    serials: &mut [u64],
+    flags: &mut [bool],
+    kept: &mut [bool],
+) -> Done
+    requires { ⌜ inRange p ≡ true ⌝ }
+    requires { ⌜ Whole p (mkDisk (now image) (now pointers)) ⌝ }
+    requires { ⌜ pointerFaults p (viewOf p (now image) (now pointers)) gone ≡ [] ⌝ }
+    requires { ⌜ (length (now addresses) ≡ addressesLen p) × (length (now compact) ≡ compactLen p) ⌝ }
+    requires { ⌜ (p .Z ≤ length (now serials)) × (p .Z ≤ length (now flags)) × (p .Z ≤ length (now kept)) ⌝ }
+    ensures { λ r. ⌜ ((fl : List ℕ) → after r (now (image .exit)) (now (pointers .exit)) (now (addresses .exit)) (now (compact .exit)) fl []
+        ≡ recovered p (mkDisk (now (image .entry)) (now (pointers .entry))) (mkMemory state (now (addresses .entry)) (now (compact .entry)) fl) gone count) ⌝ }
+{
+    recover_segments::look(p, image, pointers, gone, serials, flags, kept);
+    let t = settle(p, image, pointers, gone, kept, serials, count);
+    let c = t.check;
+    if let Check::Fail(answer) = c {
+        return Done { answer, state };
+    }
+    if t.cut {
+        return mem_calls::cut(addresses, compact);
+    }
+    let report = Report { uncounted: t.loose };
+    let next = reload(
+        p,
+        image,
+        pointers,
+        addresses,
+        compact,
+        gone,
+        serials,
+        flags,
+        kept,
+    );
+    Done {
+        answer: Answer::Restarted(report),
+        state: next,
+    }
+}
+
+// The same for few zones: the arrays that are cleared are small too.
+fn recover_small(
+    p: Params,
+    image: &mut [u8],
+    pointers: &mut [u8],
+    addresses: &mut [u8],
+    compact: &mut [u8],
+    state: State,
+    gone: u8,
+    count: u64,
+) -> Done
+    requires { ⌜ inRange p ≡ true ⌝ }
+    requires { ⌜ Whole p (mkDisk (now image) (now pointers)) ⌝ }
+    requires { ⌜ pointerFaults p (viewOf p (now image) (now pointers)) gone ≡ [] ⌝ }
+    requires { ⌜ (length (now addresses) ≡ addressesLen p) × (length (now compact) ≡ compactLen p) ⌝ }
+    requires { ⌜ p .Z ≤ 16 ⌝ }
+    ensures { λ r. ⌜ ((fl : List ℕ) → after r (now (image .exit)) (now (pointers .exit)) (now (addresses .exit)) (now (compact .exit)) fl []
+        ≡ recovered p (mkDisk (now (image .entry)) (now (pointers .entry))) (mkMemory state (now (addresses .entry)) (now (compact .entry)) fl) gone count) ⌝ }
+{
+    let mut serials = [0u64; 16];
+    let mut flags = [false; 16];
+    let mut kept = [false; 16];
+    recover_in(
+        p,
+        image,
+        pointers,
+        addresses,
+        compact,
+        state,
+        gone,
+        count,
+        &mut serials,
+        &mut flags,
+        &mut kept,
+    )
+}
+
+// The same for any number of zones.
+fn recover_large(
+    p: Params,
+    image: &mut [u8],
+    pointers: &mut [u8],
+    addresses: &mut [u8],
+    compact: &mut [u8],
+    state: State,
+    gone: u8,
+    count: u64,
+) -> Done
+    requires { ⌜ inRange p ≡ true ⌝ }
+    requires { ⌜ Whole p (mkDisk (now image) (now pointers)) ⌝ }
+    requires { ⌜ pointerFaults p (viewOf p (now image) (now pointers)) gone ≡ [] ⌝ }
+    requires { ⌜ (length (now addresses) ≡ addressesLen p) × (length (now compact) ≡ compactLen p) ⌝ }
+    ensures { λ r. ⌜ ((fl : List ℕ) → after r (now (image .exit)) (now (pointers .exit)) (now (addresses .exit)) (now (compact .exit)) fl []
+        ≡ recovered p (mkDisk (now (image .entry)) (now (pointers .entry))) (mkMemory state (now (addresses .entry)) (now (compact .entry)) fl) gone count) ⌝ }
+{
+    let mut serials = [0u64; 1024];
+    let mut flags = [false; 1024];
+    let mut kept = [false; 1024];
+    recover_in(
+        p,
+        image,
+        pointers,
+        addresses,
+        compact,
+        state,
+        gone,
+        count,
+        &mut serials,
+        &mut flags,
+        &mut kept,
+    )
+}
+
+// The same, by the number of zones.
 fn recover(
     p: Params,
     image: &mut [u8],
@@ -197,25 +351,13 @@ fn recover(
     requires { ⌜ Whole p (mkDisk (now image) (now pointers)) ⌝ }
     requires { ⌜ pointerFaults p (viewOf p (now image) (now pointers)) gone ≡ [] ⌝ }
     requires { ⌜ (length (now addresses) ≡ addressesLen p) × (length (now compact) ≡ compactLen p) ⌝ }
-    ensures { λ r. ⌜
-        ((fl : List ℕ)
-        → after r (now (image .exit)) (now (pointers .exit)) (now (addresses .exit)) (now (compact .exit)) fl [] ≡ recovered p
-        (mkDisk (now (image .entry)) (now (pointers .entry))) (mkMemory state (now (addresses .entry)) (now (compact .entry)) fl) gone count) ⌝ }
+    ensures { λ r. ⌜ ((fl : List ℕ) → after r (now (image .exit)) (now (pointers .exit)) (now (addresses .exit)) (now (compact .exit)) fl []
+        ≡ recovered p (mkDisk (now (image .entry)) (now (pointers .entry))) (mkMemory state (now (addresses .entry)) (now (compact .entry)) fl) gone count) ⌝ }
 {
-    let t = settle(p, image, pointers, gone, count);
-    let c = t.check;
-    if let Check::Fail(answer) = c {
-        return Done { answer, state };
+    if p.Z <= 16 {
+        return recover_small(p, image, pointers, addresses, compact, state, gone, count);
     }
-    if t.cut {
-        return mem_calls::cut(addresses, compact);
-    }
-    let report = Report { uncounted: t.loose };
-    let next = recover_tables::load(p, image, pointers, addresses, compact, gone);
-    Done {
-        answer: Answer::Restarted(report),
-        state: next,
-    }
+    recover_large(p, image, pointers, addresses, compact, state, gone, count)
 }
 
 // A restart: refused, cut or done, it leaves what the definition says; the in-flight buffer stays.

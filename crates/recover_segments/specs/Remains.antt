@@ -2,7 +2,7 @@
 use mathlib.Core.Path.{_≡_}
 use mathlib.Core.List.{List}
 use mathlib.Core.Bool.{Bool, false, not, _&&_}
-use Prim.Native.Nat.{ℕ, _<_}
+use Prim.Native.Nat.{ℕ, _≤_, _<_}
 use lib.Dec.{eqb}
 use lib.ListN.{length, getD}
 use Rattle.spec.specs.declared.Params.{Params}
@@ -26,15 +26,19 @@ serialOf p v gone g = headerSerial (headerAt v (lowDrive p gone) g)
 
 -- an array of flags says which segments are left by 1
 abbrev pub LeftFlags : Params → View → ℕ → List Bool → Type 0
-LeftFlags p v gone l = (length l ≡ 1024) × ((g : ℕ) → g < p .Z → getD l g false ≡ isLeft p v gone g)
+LeftFlags p v gone l = (p .Z ≤ length l) × ((g : ℕ) → g < p .Z → getD l g false ≡ isLeft p v gone g)
 
 -- an array of flags says which segments remain
 abbrev pub Keeps : Params → View → ℕ → List Bool → Type 0
-Keeps p v gone l = (length l ≡ 1024) × ((g : ℕ) → g < p .Z → getD l g false ≡ remains p v gone g)
+Keeps p v gone l = (p .Z ≤ length l) × ((g : ℕ) → g < p .Z → getD l g false ≡ remains p v gone g)
 
 -- an array of numbers says the serials of the segments
 abbrev pub Serials : Params → View → ℕ → List ℕ → Type 0
-Serials p v gone l = (length l ≡ 1024) × ((g : ℕ) → g < p .Z → getD l g 0 ≡ serialOf p v gone g)
+Serials p v gone l = (p .Z ≤ length l) × ((g : ℕ) → g < p .Z → getD l g 0 ≡ serialOf p v gone g)
+
+-- flags that say which segments remain, made of serials and of flags that say which are left by 1
+abbrev pub Keeping : Params → View → ℕ → List ℕ → List Bool → List Bool → Type 0
+Keeping p v gone serials flags l = LeftFlags p v gone flags → Serials p v gone serials → Keeps p v gone l
 
 -- another of the first n flagged segments has serial c
 unfoldable pub otherSerial : ℕ → List Bool → List ℕ → ℕ → ℕ → Bool

@@ -12,7 +12,7 @@ ghost use Rattle.spec.specs.Params.{inRange, imageLen, pointersLen};
 ghost use Rattle.spec.specs.Restart.{freeZones};
 ghost use Rattle.spec.specs.Segments.{Segment, lowDrive, headerAt, isCopy, leftBy1, segments, greatestSerial, unsealed};
 ghost use Rattle.law_views.specs.Views.{Whole};
-ghost use Rattle.recover_segments.specs.Remains.{isLeft, remains, serialOf, otherSerial, LeftFlags, Keeps, Serials};
+ghost use Rattle.recover_segments.specs.Remains.{Keeping, isLeft, remains, serialOf, otherSerial, LeftFlags, Keeps, Serials};
 use spec::Params;
 use spec::Serial;
 
@@ -56,20 +56,18 @@ pub fn copied_on(p: Params, image: &[u8], drive: usize, segment: usize) -> Seria
 }
 
 // The serials in the headers of the lowest present drive, by segment, as the bytes stand.
-pub fn serials(p: Params, image: &[u8], gone: u8) -> [u64; 1024]
+fn read_serials(p: Params, image: &[u8], gone: u8, out: &mut [u64])
     requires { ⌜ inRange p ≡ true ⌝ }
-    requires { ⌜ length (now image) ≡ imageLen p ⌝ }
-    ensures { λ r. ⌜ ((ps : List ℕ) → length ps ≡ pointersLen p → Serials p (viewOf p (now (image .entry)) ps) gone r) ⌝ }
+    requires { ⌜ (length (now image) ≡ imageLen p) × (p .Z ≤ length (now out)) ⌝ }
+    ensures { λ _. ⌜ ((ps : List ℕ) → length ps ≡ pointersLen p → Serials p (viewOf p (now (image .entry)) ps) gone (now (out .exit))) ⌝ }
 {
     let low = low_drive(p, gone);
-    let mut out = [0u64; 1024];
     let mut g = 0;
     while g < p.Z {
         let s = serial_on(p, image, low, g);
         out[g] = s.0;
         g += 1;
     }
-    out
 }
 
 // ---- the segments that remain
@@ -103,18 +101,16 @@ fn is_left(p: Params, pointers: &[u8], gone: u8, g: usize) -> bool
 }
 
 // 01, Restart, 1: which segments are left.
-fn left(p: Params, pointers: &[u8], gone: u8) -> [bool; 1024]
+fn left(p: Params, pointers: &[u8], gone: u8, out: &mut [bool])
     requires { ⌜ inRange p ≡ true ⌝ }
-    requires { ⌜ length (now pointers) ≡ pointersLen p ⌝ }
-    ensures { λ r. ⌜ ((im : List ℕ) → length im ≡ imageLen p → LeftFlags p (viewOf p im (now (pointers .entry))) gone r) ⌝ }
+    requires { ⌜ (length (now pointers) ≡ pointersLen p) × (p .Z ≤ length (now out)) ⌝ }
+    ensures { λ _. ⌜ ((im : List ℕ) → length im ≡ imageLen p → LeftFlags p (viewOf p im (now (pointers .entry))) gone (now (out .exit))) ⌝ }
 {
-    let mut out = [false; 1024];
     let mut g = 0;
     while g < p.Z {
         out[g] = is_left(p, pointers, gone, g);
         g += 1;
     }
-    out
 }
 
 // Flagged segment h is not g and has serial c.
@@ -167,22 +163,39 @@ fn is_kept(p: Params, image: &[u8], low: usize, flags: &[bool], serials: &[u64],
     !is_serial_of_other(p, flags, serials, g, c)
 }
 
-// 01, Restart, 1 and 2: which segments remain.
-pub fn kept(p: Params, image: &[u8], pointers: &[u8], gone: u8, serials: &[u64]) -> [bool; 1024]
+// 01, Restart, 1 and 2: which segments remain; flags say which are left by 1.
+fn keep_flags(p: Params, image: &[u8], gone: u8, serials: &[u64], flags: &[bool], out: &mut [bool])
     requires { ⌜ inRange p ≡ true ⌝ }
-    requires { ⌜ Whole p (mkDisk (now image) (now pointers)) ⌝ }
-    requires { ⌜ Serials p (viewOf p (now image) (now pointers)) gone (now serials) ⌝ }
-    ensures { λ r. ⌜ Keeps p (viewOf p (now (image .entry)) (now (pointers .entry))) gone r ⌝ }
+    requires { ⌜ (length (now image) ≡ imageLen p) × (p .Z ≤ length (now serials)) × (p .Z ≤ length (now flags)) × (p .Z ≤ length (now out)) ⌝ }
+    ensures { λ _. ⌜ ((ps : List ℕ) → length ps ≡ pointersLen p → Keeping p (viewOf p (now (image .entry)) ps) gone (now (serials .entry)) (now (flags .entry)) (now (out .exit))) ⌝ }
 {
     let low = low_drive(p, gone);
-    let flags = left(p, pointers, gone);
-    let mut out = [false; 1024];
     let mut g = 0;
     while g < p.Z {
-        out[g] = is_kept(p, image, low, &flags, serials, g);
+        out[g] = is_kept(p, image, low, flags, serials, g);
         g += 1;
     }
-    out
+}
+
+// The serials, and which segments remain, in lent arrays; flags is room. An array is as long as the caller's box needs.
+pub fn look(
+    p: Params,
+    image: &[u8],
+    pointers: &[u8],
+    gone: u8,
+    serials: &mut [u64],
+    flags: &mut [bool],
+    kept: &mut [bool],
+)
+    requires { ⌜ inRange p ≡ true ⌝ }
+    requires { ⌜ Whole p (mkDisk (now image) (now pointers)) ⌝ }
+    requires { ⌜ (p .Z ≤ length (now serials)) × (p .Z ≤ length (now flags)) × (p .Z ≤ length (now kept)) ⌝ }
+    ensures { λ _. ⌜ Serials p (viewOf p (now (image .entry)) (now (pointers .entry))) gone (now (serials .exit)) ⌝ }
+    ensures { λ _. ⌜ Keeps p (viewOf p (now (image .entry)) (now (pointers .entry))) gone (now (kept .exit)) ⌝ }
+{
+    read_serials(p, image, gone, serials);
+    left(p, pointers, gone, flags);
+    keep_flags(p, image, gone, serials, flags, kept);
 }
 
 // ---- questions about those that remain

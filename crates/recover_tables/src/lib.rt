@@ -484,8 +484,8 @@ fn state_of(p: Params, gone: u8, h: Head, serial: Serial, opened: usize) -> Stat
     mem_state::idle_state(1, gone, stamp, serial, number, next)
 }
 
-// The address table, the compact table and the state that the drives say. The only fact needed of the view is that no remaining segment
-// has a stripe number outside its group or twice in a zone, or a bad data address stored; the in-flight buffer stays (fl).
+// The address table, the compact table and the state that the drives say, by their serials and the segments that remain. The only other fact needed of the
+// view is that no remaining segment has a stripe number outside its group or twice in a zone, or a bad data address stored; the in-flight buffer stays (fl).
 pub fn load(
     p: Params,
     image: &[u8],
@@ -493,17 +493,18 @@ pub fn load(
     addresses: &mut [u8],
     compact: &mut [u8],
     gone: u8,
+    serials: &[u64],
+    kept: &[bool],
 ) -> State
     requires { ⌜ inRange p ≡ true ⌝ }
     requires { ⌜ Whole p (mkDisk (now image) (now pointers)) ⌝ }
     requires { ⌜ (length (now addresses) ≡ addressesLen p) × (length (now compact) ≡ compactLen p) ⌝ }
     requires { ⌜ any (recsFault p gone) (segments p (viewOf p (now image) (now pointers)) gone) ≡ false ⌝ }
+    requires { ⌜ Serials p (viewOf p (now image) (now pointers)) gone (now serials) × Keeps p (viewOf p (now image) (now pointers)) gone (now kept) ⌝ }
     ensures { λ r. ⌜ ((fl : List ℕ) → mkMemory r (now (addresses .exit)) (now (compact .exit)) fl ≡ restartMemory p (viewOf p (now (image .entry)) (now (pointers .entry))) gone fl) ⌝ }
 {
-    let serials = recover_segments::serials(p, image, gone);
-    let kept = recover_segments::kept(p, image, pointers, gone, &serials);
-    let opened = recover_segments::first_unsealed(p, pointers, gone, &kept);
-    let serial = recover_segments::greatest_serial(p, &kept, &serials);
+    let opened = recover_segments::first_unsealed(p, pointers, gone, kept);
+    let serial = recover_segments::greatest_serial(p, kept, serials);
     let h = load_tables(
         p,
         image,
@@ -511,8 +512,8 @@ pub fn load(
         addresses,
         compact,
         gone,
-        &serials,
-        &kept,
+        serials,
+        kept,
         opened,
     );
     state_of(p, gone, h, serial, opened)
