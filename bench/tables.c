@@ -179,6 +179,7 @@ static void say_count(size_t n) {
     else printf("%zu", n);
 }
 
+/* a row of README.md's table; the calls that it times are made as often as turns says */
 static void size_row(const size_t v[6], size_t sealed, size_t turns) {
     double restarted = 1e18;
     full_lend(&box, v);
@@ -188,7 +189,7 @@ static void size_row(const size_t v[6], size_t sealed, size_t turns) {
         restart();
         restarted = least(restarted, spent() - t);
     }
-    printf("| %zu | %zu | ", box.n, box.z), say_count(box.s), printf(" | "), say_count(box.l);
+    printf("| %zu | ", box.n), say_count(box.z), printf(" | "), say_count(box.s), printf(" | "), say_count(box.l);
     say_bytes((double)box.l * (double)box.b);
     say_bytes((double)(box.pointers_length + box.addresses_length + box.compact_length + box.inflight_length + box.state_length));
     say_time(restarted);
@@ -201,7 +202,7 @@ static void size_row(const size_t v[6], size_t sealed, size_t turns) {
     retable(NONE_LEFT);
     double none = reclaim(turns, k, SORGIZHED_RESET);
     say_time(none), say_time(few), say_time(random);
-    printf(" |%s\n", sealed + 3 < box.z ? " half of its zones sealed" : "");
+    printf(" |\n");
     fflush(stdout);
     let_go(k);
     full_free(&box);
