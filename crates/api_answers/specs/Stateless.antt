@@ -20,7 +20,7 @@ use Rattle.spec.specs.declared.Answer.{Answer}
 use Rattle.spec.specs.declared.Params.{Params}
 use Rattle.spec.specs.declared.State.{State}
 use Rattle.law_lent.specs.Shorts.{restart-keeps}
-use Rattle.mem_rows.specs.Refused.{refused-is}
+use Rattle.law_calls.specs.Refusals.{refusal-kind}
 use Rattle.law_views.specs.Views.{seen}
 use lib.Dec.{leb}
 use lib.ListN.{length}
@@ -53,7 +53,7 @@ unfolding callDisk callOn storeCount lentBlock verdict restartVerdict restartPla
 restart-keeping p k x y ad co fl d n =
     let gs = segments p (seen p k) (named d) in
     let cs = restartChecks p (lentOk p k (mkMemory x ad co fl)) (seen p k) d gs in
-    outcome-keeping p n k x y ad co fl (restartPlan p (seen p k) d gs fl) refl (firstRefusal cs) (refused-is cs)
+    outcome-keeping p n k x y ad co fl (restartPlan p (seen p k) d gs fl) refl (firstRefusal cs) (refusal-kind cs)
 
 same-bytes : (t : Bool) (s : List ℕ) (x y : State) → cond t s (stateBytes y) ≡ cond t s (stateBytes (cond t x y))
 same-bytes true s x y = refl

@@ -9,7 +9,8 @@ use Rattle.spec.specs.Drives.{zeroSpare}
 use Rattle.spec.specs.Layout.{headerBlock}
 use Rattle.spec.specs.Lists.{sameList}
 use Rattle.law_basic.specs.Geometry.{ranged}
-use Rattle.disk_records.specs.Header.{header-block-long, same-unit}
+use Rattle.disk_records.specs.Header.{same-unit}
+use Rattle.law_basic.specs.Fields.{header-block-long}
 use Rattle.recover_headers.proofs.matches_header.Statement.{statement}
 use Rattle.recover_headers.proofs.matches_header.Tie as tie
 
