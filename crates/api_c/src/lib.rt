@@ -473,7 +473,7 @@ pub extern "C" fn sorgizhed_restart(
     if state.len() != mem_codec::state_len() {
         return api_answers::short_of(api_answers::good_restart(p, missing));
     }
-    let before = mem_codec::decode(state);
+    let before = mem_state::zero_state();
     let done = call_restart::restart(
         p,
         image,

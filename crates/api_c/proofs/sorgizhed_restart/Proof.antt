@@ -1,21 +1,19 @@
--- `sorgizhed_restart`: a state of another length is refused with 1 or 2, by `good_restart`
--- (`hears-short`); else `restart` on it decoded, and the new one encoded: `hears-call`. Assumes nothing.
+-- `sorgizhed_restart`: a state of another length is refused with 1 or 2 (`hears-short`). Else the restart starts from no state at all:
+-- the law `hears-restart` says that it leaves the same. Assumes nothing.
 use Rattle.spec.specs.Host.{toldOf, lending, hears}
-use Rattle.api_answers.specs.Hears.{hears-short, hears-call}
+use Rattle.api_answers.specs.Hears.{hears-short}
+use Rattle.api_answers.specs.Stateless.{hears-restart}
 use Rattle.spec.specs.declared.Told.{Told}
-use Rattle.spec.specs.Host.{after}
-use Rattle.spec.specs.Engine.{callDisk, Lent, lentDisk, lentMemory}
+use Rattle.spec.specs.Engine.{Lent, lentDisk, lentMemory}
 use Rattle.spec.specs.Engine.Call.{restart}
-use Rattle.spec.specs.Memory.{mkMemory}
 use Rattle.spec.specs.Params.{mkParams, inRange}
 use Rattle.spec.specs.declared.Params.{Params}
-use Rattle.spec.specs.declared.State.{State}
 use Rattle.spec.specs.Restart.{namesDrive}
-use Rattle.law_lent.specs.Shorts.{shortAnswer, restart-short, restart-keeps}
+use Rattle.law_lent.specs.Shorts.{shortAnswer, restart-short}
 use borrow.Author.Needs.{needs}
 use mathlib.Core.Bool.{Bool, _&&_}
 use mathlib.Core.List.{[]}
-use mathlib.Core.Path.{_≡_, sym, ap, _∙_}
+use mathlib.Core.Path.{sym, ap, _∙_}
 use Rattle.api_c.proofs.sorgizhed_restart.Statement.{statement}
 use Rattle.api_c.proofs.sorgizhed_restart.Tie as tie
 
@@ -33,24 +31,20 @@ returns c =
     let a = c .before .before .before .before .before .before .before .before .before .before .args in
     let p : Params = mkParams (a .n) (a .b) (a .z) (a .s) (a .g) (a .l) in
     let l : Lent = lending (a .image .now) (a .pointers .now) (a .addresses .now) (a .compact .now) (a .inflight .now) (a .state .now) in
-    let d = lentDisk l in
-    let m = lentMemory l in
     ap (λ (x : Told). hears x l []) (c .short-of .ensures ∙ ap (λ (x : Bool). toldOf (shortAnswer x)) (c .before .good-restart .ensures))
-    ∙ hears-short p l (restart (a .missing) (a .count)) []
-    (λ e. c .before .before .if1 .taken (e ∙ sym (c .before .before .before .state-len .ensures))) (inRange p && namesDrive p (a .missing))
-    (restart-short p d m (a .missing) (a .count))
+    ∙ hears-short p l (restart (a .missing) (a .count)) [] (λ e. c .before .before .if1 .taken (e ∙ sym (c .before .before .before .state-len .ensures))) (inRange p && namesDrive p (a .missing))
+    (restart-short p (lentDisk l) (lentMemory l) (a .missing) (a .count))
 
-decode-requires : tie.Need-decode-requires
-decode-requires c κs = c .before .if1 .left ∙ c .before .before .state-len .ensures
+zero-state-requires : tie.Need-zero-state-requires
+zero-state-requires c κs = search needs
 
 restart-requires : tie.Need-restart-requires
 restart-requires c κs = search needs
 
 finish-requires : tie.Need-finish-requires
 finish-requires c κs =
-    let if1 = c .before .before .before .before .before .before .before .before .before .before .before .before .before .before .before .before .if1 in
-    let state-len = c .before .before .before .before .before .before .before .before .before .before .before .before .before .before .before .before .before .state-len in
-    if1 .left ∙ state-len .ensures
+    let e = c .before .before .before .before .before .before .before .before .before .before .before .before .before .before .before in
+    e .if1 .left ∙ e .before .state-len .ensures
 
 same-length : tie.Need-same-length
 same-length c = search needs
@@ -68,24 +62,18 @@ same-length-5 : tie.Need-same-length-5
 same-length-5 c = search needs
 
 returns-2 : tie.Need-returns-2
-unfolding lentDisk lentMemory
+unfolding lentDisk
 returns-2 c =
-    let finish = c .before .before .finish in
-    let restart′ = c .before .before .before .before .before .before .before .before .before .before .before .before .restart in
-    let at = c .before .before .before .before .before .before .before .before .before .before .before .before .before .before .before .before .before in
-    let decode = c .before .before .before .before .before .before .before .before .before .before .before .before .before .before .before .before .before .decode in
-    let if1 = c .before .before .before .before .before .before .before .before .before .before .before .before .before .before .before .before .before .before .before .if1 in
-    let state-len = c .before .before .before .before .before .before .before .before .before .before .before .before .before .before .before .before .before .before .before .before .state-len in
-    let a =
-    at
-    .before .before .before .before .before .before .before .before .before .before .args in
+    let c1 = c .before .before .before .before .before .before .before .before .before .before .before .before .before .before .before .before in
+    let a = c1 .before .before .before .before .before .before .before .before .before .before .args in
+    let r = c .before .before .before .before .before .before .before .before .before .before .before .before .restart in
     let p : Params = mkParams (a .n) (a .b) (a .z) (a .s) (a .g) (a .l) in
     let l : Lent = lending (a .image .now) (a .pointers .now) (a .addresses .now) (a .compact .now) (a .inflight .now) (a .state .now) in
-    let w = restart′ .last in
-    let e : after (restart′ .result) (w .1 .0) (w .1 .1 .0) (w .1 .1 .1 .0) (w .1 .1 .1 .1 .0) (a .inflight .now) [] ≡ callDisk p (lentDisk l) (lentMemory l) (restart (a .missing) (a .count)) =
-    restart′ .ensures ∙ ap (λ (x : State). callDisk p (lentDisk l) (mkMemory x (a .addresses .now) (a .compact .now) (a .inflight .now)) (restart (a .missing) (a .count))) (decode .ensures) in
-    hears-call p l (restart (a .missing) (a .count)) [] (if1 .left ∙ state-len .ensures) (restart-keeps p (lentDisk l) (lentMemory l) (a .missing) (a .count))
-    (restart′ .result) (w .1 .0) (w .1 .1 .0) (w .1 .1 .1 .0) (w .1 .1 .1 .1 .0) (a .inflight .now) (finish .last .0) [] (finish .result) e (finish .ensures .0) (finish .ensures .1)
+    let w = r .last in
+    let f = c .before .before .finish in
+    hears-restart p l (a .missing) (a .count) (c1 .before .before .if1 .left ∙ c1 .before .before .before .state-len .ensures) (c1 .before .zero-state .result)
+    (r .result) (w .1 .0) (w .1 .1 .0) (w .1 .1 .1 .0) (w .1 .1 .1 .1 .0)
+    (f .last .0) (f .result) (r .ensures) (f .ensures .0) (f .ensures .1)
 
 pub sorgizhed-restart-spec : {M : Type 1} → statement M
 sorgizhed-restart-spec =
@@ -95,7 +83,7 @@ sorgizhed-restart-spec =
     good-restart-requires
     short-of-requires
     returns
-    decode-requires
+    zero-state-requires
     restart-requires
     finish-requires
     same-length
