@@ -263,45 +263,8 @@ fn recover_in(
     }
 }
 
-// The same for few zones: the arrays that are cleared are small too.
-fn recover_small(
-    p: Params,
-    image: &mut [u8],
-    pointers: &mut [u8],
-    addresses: &mut [u8],
-    compact: &mut [u8],
-    state: State,
-    gone: u8,
-    count: u64,
-) -> Done
-    requires { ⌜ inRange p ≡ true ⌝ }
-    requires { ⌜ Whole p (mkDisk (now image) (now pointers)) ⌝ }
-    requires { ⌜ pointerFaults p (viewOf p (now image) (now pointers)) gone ≡ [] ⌝ }
-    requires { ⌜ (length (now addresses) ≡ addressesLen p) × (length (now compact) ≡ compactLen p) ⌝ }
-    requires { ⌜ p .Z ≤ 16 ⌝ }
-    ensures { λ r. ⌜ ((fl : List ℕ) → after r (now (image .exit)) (now (pointers .exit)) (now (addresses .exit)) (now (compact .exit)) fl []
-        ≡ recovered p (mkDisk (now (image .entry)) (now (pointers .entry))) (mkMemory state (now (addresses .entry)) (now (compact .entry)) fl) gone count) ⌝ }
-{
-    let mut serials = [0u64; 16];
-    let mut flags = [false; 16];
-    let mut kept = [false; 16];
-    recover_in(
-        p,
-        image,
-        pointers,
-        addresses,
-        compact,
-        state,
-        gone,
-        count,
-        &mut serials,
-        &mut flags,
-        &mut kept,
-    )
-}
-
-// The same for any number of zones.
-fn recover_large(
+// The same, with room for any number of zones.
+fn recover(
     p: Params,
     image: &mut [u8],
     pointers: &mut [u8],
@@ -334,30 +297,6 @@ fn recover_large(
         &mut flags,
         &mut kept,
     )
-}
-
-// The same, by the number of zones.
-fn recover(
-    p: Params,
-    image: &mut [u8],
-    pointers: &mut [u8],
-    addresses: &mut [u8],
-    compact: &mut [u8],
-    state: State,
-    gone: u8,
-    count: u64,
-) -> Done
-    requires { ⌜ inRange p ≡ true ⌝ }
-    requires { ⌜ Whole p (mkDisk (now image) (now pointers)) ⌝ }
-    requires { ⌜ pointerFaults p (viewOf p (now image) (now pointers)) gone ≡ [] ⌝ }
-    requires { ⌜ (length (now addresses) ≡ addressesLen p) × (length (now compact) ≡ compactLen p) ⌝ }
-    ensures { λ r. ⌜ ((fl : List ℕ) → after r (now (image .exit)) (now (pointers .exit)) (now (addresses .exit)) (now (compact .exit)) fl []
-        ≡ recovered p (mkDisk (now (image .entry)) (now (pointers .entry))) (mkMemory state (now (addresses .entry)) (now (compact .entry)) fl) gone count) ⌝ }
-{
-    if p.Z <= 16 {
-        return recover_small(p, image, pointers, addresses, compact, state, gone, count);
-    }
-    recover_large(p, image, pointers, addresses, compact, state, gone, count)
 }
 
 // A restart: refused, cut or done, it leaves what the definition says; the in-flight buffer stays.
