@@ -7,13 +7,13 @@ ghost use lib.ListN.{length, set, replicate};
 ghost use Rattle.mem_calls.specs.Left.{checked};
 ghost use Rattle.spec.specs.declared.Answer.the-variants.{Cut};
 ghost use Rattle.spec.specs.declared.State.{State as StateOf};
-ghost use Rattle.spec.specs.Drives.{viewOf, mkDisk, pointerOf, storeDisk, zoneOn};
+ghost use Rattle.spec.specs.Drives.{mkDisk, pointerOf, storeDisk, zoneOn};
 ghost use Rattle.spec.specs.Drives.Store.{put};
 ghost use Rattle.spec.specs.Engine.{callDisk};
 ghost use Rattle.spec.specs.Engine.Call.{land};
 ghost use Rattle.spec.specs.Landing.{flightRec};
 ghost use Rattle.spec.specs.Layout.{compactEntry, recordBytes};
-ghost use Rattle.spec.specs.Memory.{mkMemory, filledIn, offsetIn, compactAt, slotBlock};
+ghost use Rattle.spec.specs.Memory.{mkMemory, stateLen, stateOf, filledIn, offsetIn, compactAt, slotBlock};
 ghost use Rattle.spec.specs.Params.{inRange, dataCount, footers, capacity, addressesLen, compactLen, inflightLen};
 ghost use Rattle.call_land.specs.Ends.{Chosen};
 ghost use Rattle.call_land.specs.Marked.{changeTo};
@@ -53,12 +53,13 @@ fn within(slot: usize) -> usize
     0
 }
 
-// 01, Landing: looks at the state.
-fn look_at(p: Params, state: State, drive: usize, stripe: usize) -> Look
+// 01, Landing: looks at the state; the row is read in its bytes.
+fn look_at(p: Params, state: State, bytes: &[u8], drive: usize, stripe: usize) -> Look
+    requires { ⌜ (state ≡ stateOf (now bytes)) × (length (now bytes) ≡ stateLen) ⌝ }
     ensures { λ r. ⌜ Looks p state drive stripe r ⌝ }
 {
     let slot = mem_state::slot_of(state, stripe);
-    let row = mem_rows::row_of(state, within(slot));
+    let row = mem_codec::row_at(bytes, within(slot));
     let segment = mem_state::open_segment(state);
     let done = call_land_chunk::completes(p, row, drive);
     let flying = mem_state::in_flight(state);
@@ -72,7 +73,7 @@ fn look_at(p: Params, state: State, drive: usize, stripe: usize) -> Look
     }
 }
 
-// 01, Refusals: the checks of a landing, in order.
+// 01, Refusals: the checks of a landing, in order. The ranges of the state are looked at in its bytes.
 fn checks(
     p: Params,
     image: &[u8],
@@ -80,16 +81,18 @@ fn checks(
     addresses: &[u8],
     compact: &[u8],
     inflight: &[u8],
-    state: State,
+    bytes: &[u8],
+    missing: u8,
     seen: Look,
     drive: usize,
     stripe: usize,
 ) -> Check
-    requires { ⌜ Looks p state drive stripe seen ⌝ }
+    requires { ⌜ Looks p (stateOf (now bytes)) drive stripe seen ⌝ }
+    requires { ⌜ (missing ≡ stateOf (now bytes) .missing) × (length (now bytes) ≡ stateLen) ⌝ }
     ensures { λ r. ⌜
         checked r
         ≡ refusal p (mkDisk (now (image .entry)) (now (pointers .entry)))
-        (mkMemory state (now (addresses .entry)) (now (compact .entry)) (now (inflight .entry))) drive stripe ⌝ }
+        (mkMemory (stateOf (now (bytes .entry))) (now (addresses .entry)) (now (compact .entry)) (now (inflight .entry))) drive stripe ⌝ }
 {
     if !disk_shape::in_range(p) {
         return Check::Fail(Answer::Refused(1));
@@ -97,14 +100,14 @@ fn checks(
     if !mem_calls::lent_ok(p, image, pointers, addresses, compact, inflight) {
         return Check::Fail(Answer::Refused(2));
     }
-    if state.missing != 0 {
+    if missing != 0 {
         return Check::Fail(Answer::Refused(3));
     }
     let row = seen.row;
     if !call_land_chunk::waiting(p, seen.slot, row, drive) {
         return Check::Fail(Answer::Refused(5));
     }
-    if !mem_state::state_ok(p, state) {
+    if !mem_bounds::state_ok(p, bytes) {
         return Check::Fail(Answer::BadZone(0));
     }
     let z = call_land_faults::land_fault(
@@ -355,7 +358,7 @@ fn plan(
     )
 }
 
-// A landing: refused, cut or done, with the change made it leaves what the definition says.
+// A landing: refused, cut or done, with the change made it leaves what the definition says. The state goes by value, with the bytes that say it.
 pub fn land(
     p: Params,
     image: &mut [u8],
@@ -364,16 +367,18 @@ pub fn land(
     compact: &mut [u8],
     inflight: &[u8],
     state: State,
+    bytes: &[u8],
     drive: usize,
     stripe: usize,
     count: u64,
 ) -> Change
+    requires { ⌜ (state ≡ stateOf (now bytes)) × (length (now bytes) ≡ stateLen) ⌝ }
     ensures { λ r. ⌜
         afterChange state r (now (image .exit)) (now (pointers .exit)) (now (addresses .exit)) (now (compact .exit)) (now (inflight .entry)) []
         ≡ callDisk p (mkDisk (now (image .entry)) (now (pointers .entry)))
         (mkMemory state (now (addresses .entry)) (now (compact .entry)) (now (inflight .entry))) (land drive stripe count) ⌝ }
 {
-    let seen = look_at(p, state, drive, stripe);
+    let seen = look_at(p, state, bytes, drive, stripe);
     let front = mem_rows::front_of(state);
     let c = checks(
         p,
@@ -382,7 +387,8 @@ pub fn land(
         addresses,
         compact,
         inflight,
-        state,
+        bytes,
+        state.missing,
         seen,
         drive,
         stripe,

@@ -8,7 +8,7 @@ ghost use Rattle.spec.specs.Counts.{lastCount};
 ghost use Rattle.spec.specs.Drives.{mkDisk};
 ghost use Rattle.spec.specs.Engine.{callDisk};
 ghost use Rattle.spec.specs.Engine.Call.{write};
-ghost use Rattle.spec.specs.Memory.{mkMemory};
+ghost use Rattle.spec.specs.Memory.{mkMemory, stateLen, stateOf};
 ghost use Rattle.spec.specs.Params.{inRange, dataCount, inflightLen};
 ghost use Rattle.call_filling.specs.Aims.{aimOf};
 ghost use Rattle.mem_rows.specs.Rows.{frontOf, afterChange};
@@ -35,7 +35,7 @@ fn reserve(a: Aim) -> usize
     1
 }
 
-// 01, Refusals: the checks of a write, in order.
+// 01, Refusals: the checks of a write, in order. The ranges of the state are looked at in its bytes.
 fn checks(
     p: Params,
     image: &[u8],
@@ -43,17 +43,19 @@ fn checks(
     addresses: &[u8],
     compact: &[u8],
     inflight: &[u8],
-    state: State,
+    bytes: &[u8],
+    missing: u8,
     f: Front,
     a: Aim,
     address: Address,
     block: &[u8],
 ) -> Check
-    requires { ⌜ (f ≡ frontOf state) × (a ≡ aimOf p state) ⌝ }
+    requires { ⌜ (f ≡ frontOf (stateOf (now bytes))) × (a ≡ aimOf p (stateOf (now bytes))) × (missing ≡ stateOf (now bytes) .missing) × (length (now bytes) ≡ stateLen) ⌝ }
     ensures { λ r. ⌜
         checked r
         ≡ refusal p (mkDisk (now (image .entry)) (now (pointers .entry)))
-        (mkMemory state (now (addresses .entry)) (now (compact .entry)) (now (inflight .entry))) (address .0) (now (block .entry)) ⌝ }
+        (mkMemory (stateOf (now (bytes .entry))) (now (addresses .entry)) (now (compact .entry)) (now (inflight .entry))) (address .0)
+        (now (block .entry)) ⌝ }
 {
     if !disk_shape::in_range(p) {
         return Check::Fail(Answer::Refused(1));
@@ -64,7 +66,7 @@ fn checks(
     if block.len() != p.B {
         return Check::Fail(Answer::Refused(2));
     }
-    if state.missing != 0 {
+    if missing != 0 {
         return Check::Fail(Answer::Refused(3));
     }
     if p.L as u64 <= address.0 {
@@ -83,7 +85,7 @@ fn checks(
     if call_filling::scarce(p, pointers, n) {
         return Check::Fail(Answer::Refused(8));
     }
-    if !mem_state::state_ok(p, state) {
+    if !mem_bounds::state_ok(p, bytes) {
         return Check::Fail(Answer::BadZone(0));
     }
     Check::Pass
@@ -121,7 +123,7 @@ fn plan(
     }
 }
 
-// A write: refused, cut or done, it leaves what the definition says.
+// A write: refused, cut or done, it leaves what the definition says. The state goes by value, with the bytes that say it.
 pub fn write(
     p: Params,
     image: &mut [u8],
@@ -130,10 +132,12 @@ pub fn write(
     compact: &mut [u8],
     inflight: &mut [u8],
     state: State,
+    bytes: &[u8],
     address: Address,
     block: &[u8],
     count: u64,
 ) -> Change
+    requires { ⌜ (state ≡ stateOf (now bytes)) × (length (now bytes) ≡ stateLen) ⌝ }
     ensures { λ r. ⌜
         afterChange state r (now (image .exit)) (now (pointers .exit)) (now (addresses .exit)) (now (compact .exit)) (now (inflight .exit))
         (now (block .entry))
@@ -149,7 +153,8 @@ pub fn write(
         addresses,
         compact,
         inflight,
-        state,
+        bytes,
+        state.missing,
         f,
         a,
         address,
@@ -162,6 +167,6 @@ pub fn write(
     if o.cut {
         return call_filling::cut(addresses, compact, f);
     }
-    let row = mem_rows::row_of(state, a.slot);
+    let row = mem_codec::row_at(bytes, a.slot);
     plan(p, inflight, row, f, a, o, address, block)
 }

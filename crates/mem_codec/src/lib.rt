@@ -8,8 +8,9 @@ ghost use Rattle.spec.specs.Memory.{stateSections, numbersAt, stateLen, stateOf
 ghost use Rattle.mem_codec.specs.Changes.{countEdits, markEdits, cellEdits};
 ghost use Rattle.mem_codec.specs.Codec.{putSections, frontNumbers};
 ghost use Rattle.mem_codec.specs.Edits.{writtenAll};
-ghost use Rattle.mem_rows.specs.Rows.{changed};
+ghost use Rattle.mem_rows.specs.Rows.{rowOf, changed};
 use mem_rows::Change;
+use mem_rows::Row;
 use spec::Serial;
 use spec::Stamp;
 use spec::State;
@@ -39,6 +40,20 @@ fn words_at(src: &[u8], at: usize) -> [u32; 8]
     let mut i = 0;
     while i < 8 {
         out[i] = bits_le::read_le32(src, at + 4 * i);
+        i += 1;
+    }
+    out
+}
+
+// 8 numbers of 8 bytes.
+fn longs_at(src: &[u8], at: usize) -> [u64; 8]
+    requires { ⌜ at + 64 ≤ length (now src) ⌝ }
+    ensures { λ r. ⌜ r ≡ numbersAt 8 8 at (now (src .entry)) ⌝ }
+{
+    let mut out = [0u64; 8];
+    let mut i = 0;
+    while i < 8 {
+        out[i] = bits_le::read_le64(src, at + 8 * i);
         i += 1;
     }
     out
@@ -151,6 +166,26 @@ pub fn decode(bytes: &[u8]) -> State
         filled,
         writes,
         landed,
+        addresses,
+        stamps,
+        offsets,
+    }
+}
+
+// Eighth i of the state that the bytes say.
+pub fn row_at(bytes: &[u8], i: usize) -> Row
+    requires { ⌜ (length (now bytes) ≡ stateLen) × (i < 8) ⌝ }
+    ensures { λ r. ⌜ r ≡ rowOf (stateOf (now (bytes .entry))) i ⌝ }
+{
+    let addresses = longs_at(bytes, 82 + 64 * i);
+    let stamps = longs_at(bytes, 594 + 64 * i);
+    let offsets = words_at(bytes, 1106 + 32 * i);
+    let number = bits_le::read_le32(bytes, 26 + 4 * i);
+    Row {
+        number,
+        filled: bytes[58 + i],
+        writes: bytes[66 + i],
+        landed: bytes[74 + i],
         addresses,
         stamps,
         offsets,

@@ -1,4 +1,4 @@
--- `checks`: a failed test closes its end (`waiting-fails` and so on), those passed drop off; `land_fault` gives the lowest zone at fault. Assumes nothing.
+-- `checks`: each return is the refusal of its check behind those that pass; the state is what the bytes say. Assumes nothing.
 use Prim.Native.Nat.{ℕ, _<_}
 use Rattle.mem_rows.specs.declared.Row.{Row}
 use Rattle.law_views.specs.Views.{seen}
@@ -6,7 +6,7 @@ use Rattle.call_land_chunk.specs.Alone.{alone, row-filled}
 use Rattle.spec.specs.Drives.{Disk, mkDisk}
 use Rattle.spec.specs.Engine.{lentOk}
 use Rattle.spec.specs.Landing.{slotOf, waiting}
-use Rattle.spec.specs.Memory.{Memory, mkMemory, filledIn, stateOk}
+use Rattle.spec.specs.Memory.{Memory, mkMemory, filledIn, stateOf, stateOk}
 use Rattle.spec.specs.Params.{inRange}
 use Rattle.call_land.specs.Order.{range-fails, range-passes, lengths-fail, lengths-pass, missing-fails, missing-passes, waiting-fails, waiting-passes}
 use Rattle.call_land.specs.Order.{state-fails, faults-refused, waits-row, faults-seen}
@@ -24,24 +24,23 @@ use Rattle.call_land.proofs.checks.Tie as tie
 in-range-requires : tie.Need-in-range-requires
 in-range-requires c κs = search needs
 
+abbrev start : tie.After-waiting → tie.Start
+start c =
+    let at = c .before .before .before .before .before .before .before .before .before .before .before .before .before in
+    at
+
 -- 01, Refusals, 5: what the row says is what the definition says
-waits-is :
-    (c : tie.After-waiting)
-    → c .waiting .result ≡ waiting
-    (c .before .before .before .before .before .before .before .before .before .before .before .before .before .args .p)
-    (c .before .before .before .before .before .before .before .before .before .before .before .before .before .args .state)
-    (c .before .before .before .before .before .before .before .before .before .before .before .before .before .args .drive)
-    (c .before .before .before .before .before .before .before .before .before .before .before .before .before .args .stripe)
+waits-is : (c : tie.After-waiting) → c .waiting .result ≡ waiting (start c .args .p) (stateOf (start c .args .bytes .now)) (start c .args .drive) (start c .args .stripe)
 waits-is c =
-    let entry = c .before .before .before .before .before .before .before .before .before .before .before .before .before in
-    let args = entry .args in
-    let pre = entry .pre in
-    c .waiting .ensures ∙ waits-row (args .p) (args .state) (args .drive) (args .stripe) (args .seen) (pre)
+    let s = start c in
+    let a = s .args in
+    c .waiting .ensures ∙ waits-row (a .p) (stateOf (a .bytes .now)) (a .drive) (a .stripe) (a .seen) (s .pre .0)
 
 returns : tie.Need-returns
 returns c =
-    let a = c .before .before .before .before .before .before .before .args in
-    let st = a .state in
+    let s = c .before .before .before .before .before .before .before .before in
+    let a = s .args in
+    let st = stateOf (a .bytes .now) in
     let k : Disk = mkDisk (a .image .now) (a .pointers .now) in
     let m : Memory = mkMemory st (a .addresses .now) (a .compact .now) (a .inflight .now) in
     let er : inRange (a .p) ≡ false = sym (c .before .in-range .ensures) ∙ not-true (c .before .in-range .result) (c .if1 .taken) in
@@ -52,10 +51,11 @@ lent-ok-requires c κs = sym (c .before .in-range .ensures) ∙ not-false (c .be
 
 returns-2 : tie.Need-returns-2
 returns-2 c =
-    let a = c .before .before .before .before .before .before .before .before .before .args in
+    let s = c .before .before .before .before .before .before .before .before .before .before in
     let if1 = c .before .before .if1 in
     let in-range = c .before .before .before .in-range in
-    let st = a .state in
+    let a = s .args in
+    let st = stateOf (a .bytes .now) in
     let k : Disk = mkDisk (a .image .now) (a .pointers .now) in
     let m : Memory = mkMemory st (a .addresses .now) (a .compact .now) (a .inflight .now) in
     let er : inRange (a .p) ≡ true = sym (in-range .ensures) ∙ not-false (in-range .result) (if1 .left) in
@@ -64,60 +64,65 @@ returns-2 c =
 
 returns-3 : tie.Need-returns-3
 returns-3 c =
-    let a = c .before .before .before .before .before .before .before .before .before .before .before .args in
-    let if2 = c .before .before .if2 in
-    let lent-ok = c .before .before .before .lent-ok in
-    let if1 = c .before .before .before .before .if1 in
-    let in-range = c .before .before .before .before .before .in-range in
-    let st = a .state in
+    let s = c .before .before .before .before .before .before .before .before .before .before .before in
+    let lent-ok = c .before .before .lent-ok in
+    let if1 = c .before .before .before .if1 in
+    let in-range = c .before .before .before .before .in-range in
+    let a = s .args in
+    let st = stateOf (a .bytes .now) in
     let k : Disk = mkDisk (a .image .now) (a .pointers .now) in
     let m : Memory = mkMemory st (a .addresses .now) (a .compact .now) (a .inflight .now) in
     let er : inRange (a .p) ≡ true = sym (in-range .ensures) ∙ not-false (in-range .result) (if1 .left) in
-    let el : lentOk (a .p) k m ≡ true = sym (lent-ok .ensures st) ∙ not-false (lent-ok .result) (if2 .left) in
-    missing-fails (a .p) k m (a .drive) (a .stripe) (c .if3 .taken)
+    let el : lentOk (a .p) k m ≡ true = sym (lent-ok .ensures st) ∙ not-false (lent-ok .result) (c .before .if2 .left) in
+    missing-fails (a .p) k m (a .drive) (a .stripe) (λ e. c .if3 .taken (s .pre .1 .0 ∙ e))
     ∙ lengths-pass (a .p) k m (a .drive) (a .stripe) el
     ∙ range-passes (a .p) k m (a .drive) (a .stripe) er
 
 waiting-requires : tie.Need-waiting-requires
 waiting-requires c κs =
-    let if1 = c .before .before .before .before .before .if1 in
-    let in-range = c .before .before .before .before .before .before .in-range in
+    let if1 = c .before .before .before .before .if1 in
+    let in-range = c .before .before .before .before .before .in-range in
     sym (in-range .ensures) ∙ not-false (in-range .result) (if1 .left)
 
 returns-4 : tie.Need-returns-4
 returns-4 c =
-    let a = c .before .before .before .before .before .before .before .before .before .before .before .before .before .before .args in
+    let s = c .before .before .before .before .before .before .before .before .before .before .before .before .before .before in
     let if3 = c .before .before .before .if3 in
-    let if2 = c .before .before .before .before .before .if2 in
-    let lent-ok = c .before .before .before .before .before .before .lent-ok in
-    let if1 = c .before .before .before .before .before .before .before .if1 in
-    let in-range = c .before .before .before .before .before .before .before .before .in-range in
-    let st = a .state in
+    let if2 = c .before .before .before .before .if2 in
+    let lent-ok = c .before .before .before .before .before .lent-ok in
+    let if1 = c .before .before .before .before .before .before .if1 in
+    let in-range = c .before .before .before .before .before .before .before .in-range in
+    let a = s .args in
+    let st = stateOf (a .bytes .now) in
     let k : Disk = mkDisk (a .image .now) (a .pointers .now) in
     let m : Memory = mkMemory st (a .addresses .now) (a .compact .now) (a .inflight .now) in
     let er : inRange (a .p) ≡ true = sym (in-range .ensures) ∙ not-false (in-range .result) (if1 .left) in
     let el : lentOk (a .p) k m ≡ true = sym (lent-ok .ensures st) ∙ not-false (lent-ok .result) (if2 .left) in
     let ew : waiting (a .p) st (a .drive) (a .stripe) ≡ false = sym (waits-is (c .before)) ∙ not-true (c .before .waiting .result) (c .if4 .taken) in
     waiting-fails (a .p) k m (a .drive) (a .stripe) ew
-    ∙ missing-passes (a .p) k m (a .drive) (a .stripe) (if3 .left)
+    ∙ missing-passes (a .p) k m (a .drive) (a .stripe) (sym (s .pre .1 .0) ∙ if3 .left)
     ∙ lengths-pass (a .p) k m (a .drive) (a .stripe) el
     ∙ range-passes (a .p) k m (a .drive) (a .stripe) er
 
 state-ok-requires : tie.Need-state-ok-requires
-state-ok-requires c κs = search needs
+state-ok-requires c κs =
+    let s = c .before .before .before .before .before .before .before .before .before .before .before .before .before .before in
+    let o = c .before .before .before .before .before .before in
+    (sym (o .before .in-range .ensures) ∙ not-false (o .before .in-range .result) (o .if1 .left), s .pre .1 .1)
 
 returns-5 : tie.Need-returns-5
 returns-5 c =
-    let a = c .before .before .before .before .before .before .before .before .before .before .before .before .before .before .before .before .args in
+    let s = c .before .before .before .before .before .before .before .before .before .before .before .before .before .before .before .before in
     let if4 = c .before .before .if4 in
     let at = c .before .before .before in
     let waiting′ = c .before .before .before .waiting in
     let if3 = c .before .before .before .before .before .if3 in
-    let if2 = c .before .before .before .before .before .before .before .if2 in
-    let lent-ok = c .before .before .before .before .before .before .before .before .lent-ok in
-    let if1 = c .before .before .before .before .before .before .before .before .before .if1 in
-    let in-range = c .before .before .before .before .before .before .before .before .before .before .in-range in
-    let st = a .state in
+    let if2 = c .before .before .before .before .before .before .if2 in
+    let lent-ok = c .before .before .before .before .before .before .before .lent-ok in
+    let if1 = c .before .before .before .before .before .before .before .before .if1 in
+    let in-range = c .before .before .before .before .before .before .before .before .before .in-range in
+    let a = s .args in
+    let st = stateOf (a .bytes .now) in
     let k : Disk = mkDisk (a .image .now) (a .pointers .now) in
     let m : Memory = mkMemory st (a .addresses .now) (a .compact .now) (a .inflight .now) in
     let er : inRange (a .p) ≡ true = sym (in-range .ensures) ∙ not-false (in-range .result) (if1 .left) in
@@ -126,22 +131,22 @@ returns-5 c =
     let eo : stateOk (a .p) st ≡ false = sym (c .before .state-ok .ensures) ∙ not-true (c .before .state-ok .result) (c .if5 .taken) in
     state-fails (a .p) k m (a .drive) (a .stripe) eo
     ∙ waiting-passes (a .p) k m (a .drive) (a .stripe) ew
-    ∙ missing-passes (a .p) k m (a .drive) (a .stripe) (if3 .left)
+    ∙ missing-passes (a .p) k m (a .drive) (a .stripe) (sym (s .pre .1 .0) ∙ if3 .left)
     ∙ lengths-pass (a .p) k m (a .drive) (a .stripe) el
     ∙ range-passes (a .p) k m (a .drive) (a .stripe) er
 
 land-fault-requires : tie.Need-land-fault-requires
 land-fault-requires c κs =
-    let a = c .before .before .before .before .before .before .before .before .before .before .before .before .before .before .before .before .args in
+    let s = c .before .before .before .before .before .before .before .before .before .before .before .before .before .before .before .before in
     let if4 = c .before .before .if4 in
     let at = c .before .before .before in
     let waiting′ = c .before .before .before .waiting in
-    let if2 = c .before .before .before .before .before .before .before .if2 in
-    let lent-ok = c .before .before .before .before .before .before .before .before .lent-ok in
-    let if1 = c .before .before .before .before .before .before .before .before .before .if1 in
-    let in-range = c .before .before .before .before .before .before .before .before .before .before .in-range in
-    let sn = c .before .before .before .before .before .before .before .before .before .before .before .before .before .before .before .before .pre in
-    let st = a .state in
+    let if2 = c .before .before .before .before .before .before .if2 in
+    let lent-ok = c .before .before .before .before .before .before .before .lent-ok in
+    let if1 = c .before .before .before .before .before .before .before .before .if1 in
+    let in-range = c .before .before .before .before .before .before .before .before .before .in-range in
+    let a = s .args in
+    let st = stateOf (a .bytes .now) in
     let k : Disk = mkDisk (a .image .now) (a .pointers .now) in
     let m : Memory = mkMemory st (a .addresses .now) (a .compact .now) (a .inflight .now) in
     let er : inRange (a .p) ≡ true = sym (in-range .ensures) ∙ not-false (in-range .result) (if1 .left) in
@@ -152,6 +157,7 @@ land-fault-requires c κs =
     let long = lent-long (a .p) k m el in
     let w = waits-low (a .p) st (a .drive) (a .stripe) ew in
     let f = filled-low (a .p) st eo (slotOf st (a .stripe)) (w .1) in
+    let sn = s .pre .0 in
     let g = segment-low (a .p) st eo (omega (arith, r .zones-low)) in
     let e : filledIn (alone (a .seen .row)) 0 ≡ filledIn st (slotOf st (a .stripe)) = ap (λ (x : Row). filledIn (alone x) 0) (sn .row (w .1)) ∙ row-filled st (slotOf st (a .stripe)) in
     (er, ((long .1, long .2, w .0), (subst (λ (x : ℕ). x < a .p .Z) (sym (sn .segment)) g, omega (arith, e, f, data-count-high (a .p) r))))
@@ -161,19 +167,19 @@ zone-check-requires c κs = search needs
 
 returns-6 : tie.Need-returns-6
 returns-6 c =
-    let a = c .before .before .before .before .before .before .before .before .before .before .before .before .before .before .before .before .before .before .args in
+    let s = c .before .before .before .before .before .before .before .before .before .before .before .before .before .before .before .before .before .before in
     let if5 = c .before .before .if5 in
     let state-ok = c .before .before .before .state-ok in
     let if4 = c .before .before .before .before .if4 in
     let at = c .before .before .before .before .before in
     let waiting′ = c .before .before .before .before .before .waiting in
     let if3 = c .before .before .before .before .before .before .before .if3 in
-    let if2 = c .before .before .before .before .before .before .before .before .before .if2 in
-    let lent-ok = c .before .before .before .before .before .before .before .before .before .before .lent-ok in
-    let if1 = c .before .before .before .before .before .before .before .before .before .before .before .if1 in
-    let in-range = c .before .before .before .before .before .before .before .before .before .before .before .before .in-range in
-    let pre = c .before .before .before .before .before .before .before .before .before .before .before .before .before .before .before .before .before .before .pre in
-    let st = a .state in
+    let if2 = c .before .before .before .before .before .before .before .before .if2 in
+    let lent-ok = c .before .before .before .before .before .before .before .before .before .lent-ok in
+    let if1 = c .before .before .before .before .before .before .before .before .before .before .if1 in
+    let in-range = c .before .before .before .before .before .before .before .before .before .before .before .in-range in
+    let a = s .args in
+    let st = stateOf (a .bytes .now) in
     let k : Disk = mkDisk (a .image .now) (a .pointers .now) in
     let m : Memory = mkMemory st (a .addresses .now) (a .compact .now) (a .inflight .now) in
     let er : inRange (a .p) ≡ true = sym (in-range .ensures) ∙ not-false (in-range .result) (if1 .left) in
@@ -185,10 +191,10 @@ returns-6 c =
     c .zone-check .ensures
     ∙ faults-refused (a .p) k m (a .drive) (a .stripe) eo er (segment-low (a .p) st eo (omega (arith, r .zones-low))) (c .before .land-fault .result)
     (c .before .land-fault .ensures (a .image .now) (long .0)
-    ∙ faults-seen (a .p) (seen (a .p) k) m (a .drive) (a .stripe) (a .seen) (pre) (waits-low (a .p) st (a .drive) (a .stripe) ew .1)
+    ∙ faults-seen (a .p) (seen (a .p) k) m (a .drive) (a .stripe) (a .seen) (s .pre .0) (waits-low (a .p) st (a .drive) (a .stripe) ew .1)
     (filled-low (a .p) st eo (slotOf st (a .stripe)) (waits-low (a .p) st (a .drive) (a .stripe) ew .1)) er)
     ∙ waiting-passes (a .p) k m (a .drive) (a .stripe) ew
-    ∙ missing-passes (a .p) k m (a .drive) (a .stripe) (if3 .left)
+    ∙ missing-passes (a .p) k m (a .drive) (a .stripe) (sym (s .pre .1 .0) ∙ if3 .left)
     ∙ lengths-pass (a .p) k m (a .drive) (a .stripe) el
     ∙ range-passes (a .p) k m (a .drive) (a .stripe) er
 

@@ -1,5 +1,6 @@
--- `look_at`: each field is what its call gives; the row is the stripe's where its eighth is below 8, since `within` keeps such an eighth. Assumes nothing.
+-- `look_at`: each field is what its question answers; the row of the bytes is that of the state. Assumes nothing.
 use Prim.Native.Nat.{ℕ, _<_}
+use Rattle.spec.specs.declared.State.{State}
 use Rattle.mem_rows.specs.Rows.{rowOf}
 use borrow.Author.Needs.{needs}
 use lib.Dec.{eqb}
@@ -14,8 +15,8 @@ slot-of-requires c κs = search needs
 within-requires : tie.Need-within-requires
 within-requires c κs = search needs
 
-row-of-requires : tie.Need-row-of-requires
-row-of-requires c κs = c .within .ensures .0
+row-at-requires : tie.Need-row-at-requires
+row-at-requires c κs = (c .before .before .before .pre .1, c .within .ensures .0)
 
 open-segment-requires : tie.Need-open-segment-requires
 open-segment-requires c κs = search needs
@@ -31,21 +32,22 @@ is-last-requires c κs = search needs
 
 returns : tie.Need-returns
 returns c =
-    let a = c .before .before .before .before .before .before .before .args in
+    let s = c .before .before .before .before .before .before .before .before in
     let completes = c .before .before .completes in
     let open-segment = c .before .before .before .open-segment in
-    let row-of = c .before .before .before .before .row-of in
+    let row-at = c .before .before .before .before .row-at in
     let within = c .before .before .before .before .before .within in
     let slot-of = c .before .before .before .before .before .before .slot-of in
+    let a = s .args in
     let e = slot-of .ensures in
     let d = completes .result in
     record {
       slot = e;
-      row = λ h. row-of .ensures ∙ ap (rowOf (a .state)) (within .ensures .1 (subst (λ (x : ℕ). x < 8) (sym e) h) ∙ e);
+      row = λ h. row-at .ensures ∙ ap (λ (x : State). rowOf x (within .result)) (sym (s .pre .0)) ∙ ap (rowOf (a .state)) (within .ensures .1 (subst (λ (x : ℕ). x < 8) (sym e) h) ∙ e);
       segment = open-segment .ensures;
       done = completes .ensures;
       seals = c .is-last .ensures ∙ ap (λ (x : ℕ). d && eqb (a .state .next) (a .p .S) && eqb x 1) (c .before .in-flight .ensures);
     }
 
 pub look-at-spec : {M : Type 1} → statement M
-look-at-spec = tie.close (tie.spec slot-of-requires within-requires row-of-requires open-segment-requires completes-requires in-flight-requires is-last-requires returns)
+look-at-spec = tie.close (tie.spec slot-of-requires within-requires row-at-requires open-segment-requires completes-requires in-flight-requires is-last-requires returns)

@@ -1,7 +1,7 @@
--- `checks`: a failed test closes its end (`stamp-fails` and so on), those passed drop off; front and aim are the state's, as required. Assumes nothing.
+-- `checks`: each return is the refusal of its check behind those that pass; the state is what the bytes say. Assumes nothing.
 use Rattle.spec.specs.Drives.{Disk, mkDisk}
 use Rattle.spec.specs.Engine.{lentOk}
-use Rattle.spec.specs.Memory.{Memory, mkMemory, stateOk}
+use Rattle.spec.specs.Memory.{Memory, mkMemory, stateOf, stateOk}
 use Rattle.spec.specs.Params.{inRange}
 use Rattle.spec.specs.Write.{opens, noStamp, noSerial, mustWait, scarce}
 use Rattle.call_filling.specs.Aims.{front-stamp, front-wait, front-aim, front-serial}
@@ -24,8 +24,9 @@ in-range-requires c κs = search needs
 
 returns : tie.Need-returns
 returns c =
-    let a = c .before .before .before .before .before .before .before .before .args in
-    let st = a .state in
+    let s = c .before .before .before .before .before .before .before .before .before in
+    let a = s .args in
+    let st = stateOf (a .bytes .now) in
     let k : Disk = mkDisk (a .image .now) (a .pointers .now) in
     let m : Memory = mkMemory st (a .addresses .now) (a .compact .now) (a .inflight .now) in
     let er : inRange (a .p) ≡ false = sym (c .before .in-range .ensures) ∙ not-true (c .before .in-range .result) (c .if1 .taken) in
@@ -36,10 +37,11 @@ lent-ok-requires c κs = sym (c .before .in-range .ensures) ∙ not-false (c .be
 
 returns-2 : tie.Need-returns-2
 returns-2 c =
-    let a = c .before .before .before .before .before .before .before .before .before .before .args in
+    let s = c .before .before .before .before .before .before .before .before .before .before .before in
     let if1 = c .before .before .if1 in
     let in-range = c .before .before .before .in-range in
-    let st = a .state in
+    let a = s .args in
+    let st = stateOf (a .bytes .now) in
     let k : Disk = mkDisk (a .image .now) (a .pointers .now) in
     let m : Memory = mkMemory st (a .addresses .now) (a .compact .now) (a .inflight .now) in
     let er : inRange (a .p) ≡ true = sym (in-range .ensures) ∙ not-false (in-range .result) (if1 .left) in
@@ -49,12 +51,13 @@ returns-2 c =
 
 returns-3 : tie.Need-returns-3
 returns-3 c =
-    let a = c .before .before .before .before .before .before .before .before .before .before .before .before .args in
+    let s = c .before .before .before .before .before .before .before .before .before .before .before .before .before in
     let if2 = c .before .before .if2 in
     let lent-ok = c .before .before .before .lent-ok in
     let if1 = c .before .before .before .before .if1 in
     let in-range = c .before .before .before .before .before .in-range in
-    let st = a .state in
+    let a = s .args in
+    let st = stateOf (a .bytes .now) in
     let k : Disk = mkDisk (a .image .now) (a .pointers .now) in
     let m : Memory = mkMemory st (a .addresses .now) (a .compact .now) (a .inflight .now) in
     let er : inRange (a .p) ≡ true = sym (in-range .ensures) ∙ not-false (in-range .result) (if1 .left) in
@@ -64,37 +67,38 @@ returns-3 c =
 
 returns-4 : tie.Need-returns-4
 returns-4 c =
-    let a = c .before .before .before .before .before .before .before .before .before .before .before .before .before .before .args in
-    let if3 = c .before .before .if3 in
-    let if2 = c .before .before .before .before .if2 in
-    let lent-ok = c .before .before .before .before .before .lent-ok in
-    let if1 = c .before .before .before .before .before .before .if1 in
-    let in-range = c .before .before .before .before .before .before .before .in-range in
-    let st = a .state in
+    let s = c .before .before .before .before .before .before .before .before .before .before .before .before .before .before in
+    let if2 = c .before .before .before .if2 in
+    let lent-ok = c .before .before .before .before .lent-ok in
+    let if1 = c .before .before .before .before .before .if1 in
+    let in-range = c .before .before .before .before .before .before .in-range in
+    let a = s .args in
+    let st = stateOf (a .bytes .now) in
     let k : Disk = mkDisk (a .image .now) (a .pointers .now) in
     let m : Memory = mkMemory st (a .addresses .now) (a .compact .now) (a .inflight .now) in
     let er : inRange (a .p) ≡ true = sym (in-range .ensures) ∙ not-false (in-range .result) (if1 .left) in
     let el : lentOk (a .p) k m ≡ true = sym (lent-ok .ensures st) ∙ not-false (lent-ok .result) (if2 .left) in
-    missing-fails (a .p) k m (a .address .0) (a .block .now) (c .if4 .taken)
-    ∙ lengths-pass (a .p) k m (a .address .0) (a .block .now) el (if3 .left)
+    missing-fails (a .p) k m (a .address .0) (a .block .now) (λ e. c .if4 .taken (s .pre .2 ∙ e))
+    ∙ lengths-pass (a .p) k m (a .address .0) (a .block .now) el (c .before .if3 .left)
     ∙ range-passes (a .p) k m (a .address .0) (a .block .now) er
 
 returns-5 : tie.Need-returns-5
 returns-5 c =
-    let a = c .before .before .before .before .before .before .before .before .before .before .before .before .before .before .before .before .args in
+    let s = c .before .before .before .before .before .before .before .before .before .before .before .before .before .before .before .before in
     let if4 = c .before .before .if4 in
-    let if3 = c .before .before .before .before .if3 in
-    let if2 = c .before .before .before .before .before .before .if2 in
-    let lent-ok = c .before .before .before .before .before .before .before .lent-ok in
-    let if1 = c .before .before .before .before .before .before .before .before .if1 in
-    let in-range = c .before .before .before .before .before .before .before .before .before .in-range in
-    let st = a .state in
+    let if3 = c .before .before .before .if3 in
+    let if2 = c .before .before .before .before .before .if2 in
+    let lent-ok = c .before .before .before .before .before .before .lent-ok in
+    let if1 = c .before .before .before .before .before .before .before .if1 in
+    let in-range = c .before .before .before .before .before .before .before .before .in-range in
+    let a = s .args in
+    let st = stateOf (a .bytes .now) in
     let k : Disk = mkDisk (a .image .now) (a .pointers .now) in
     let m : Memory = mkMemory st (a .addresses .now) (a .compact .now) (a .inflight .now) in
     let er : inRange (a .p) ≡ true = sym (in-range .ensures) ∙ not-false (in-range .result) (if1 .left) in
     let el : lentOk (a .p) k m ≡ true = sym (lent-ok .ensures st) ∙ not-false (lent-ok .result) (if2 .left) in
     address-fails (a .p) k m (a .address .0) (a .block .now) (omega (arith, c .if5 .taken))
-    ∙ missing-passes (a .p) k m (a .address .0) (a .block .now) (if4 .left)
+    ∙ missing-passes (a .p) k m (a .address .0) (a .block .now) (sym (s .pre .2) ∙ if4 .left)
     ∙ lengths-pass (a .p) k m (a .address .0) (a .block .now) el (if3 .left)
     ∙ range-passes (a .p) k m (a .address .0) (a .block .now) er
 
@@ -103,24 +107,24 @@ no-stamp-requires c κs = search needs
 
 returns-6 : tie.Need-returns-6
 returns-6 c =
-    let a = c .before .before .before .before .before .before .before .before .before .before .before .before .before .before .before .before .before .before .args in
+    let s = c .before .before .before .before .before .before .before .before .before .before .before .before .before .before .before .before .before .before in
     let if5 = c .before .before .if5 in
     let if4 = c .before .before .before .before .if4 in
-    let if3 = c .before .before .before .before .before .before .if3 in
-    let if2 = c .before .before .before .before .before .before .before .before .if2 in
-    let lent-ok = c .before .before .before .before .before .before .before .before .before .lent-ok in
-    let if1 = c .before .before .before .before .before .before .before .before .before .before .if1 in
-    let in-range = c .before .before .before .before .before .before .before .before .before .before .before .in-range in
-    let pre = c .before .before .before .before .before .before .before .before .before .before .before .before .before .before .before .before .before .before .pre in
-    let st = a .state in
+    let if3 = c .before .before .before .before .before .if3 in
+    let if2 = c .before .before .before .before .before .before .before .if2 in
+    let lent-ok = c .before .before .before .before .before .before .before .before .lent-ok in
+    let if1 = c .before .before .before .before .before .before .before .before .before .if1 in
+    let in-range = c .before .before .before .before .before .before .before .before .before .before .in-range in
+    let a = s .args in
+    let st = stateOf (a .bytes .now) in
     let k : Disk = mkDisk (a .image .now) (a .pointers .now) in
     let m : Memory = mkMemory st (a .addresses .now) (a .compact .now) (a .inflight .now) in
     let er : inRange (a .p) ≡ true = sym (in-range .ensures) ∙ not-false (in-range .result) (if1 .left) in
     let el : lentOk (a .p) k m ≡ true = sym (lent-ok .ensures st) ∙ not-false (lent-ok .result) (if2 .left) in
-    let es : noStamp st ≡ true = sym (front-stamp (a .p) st (a .f) (pre .0)) ∙ sym (c .before .no-stamp .ensures) ∙ c .if6 .taken in
+    let es : noStamp st ≡ true = sym (front-stamp (a .p) st (a .f) (s .pre .0)) ∙ sym (c .before .no-stamp .ensures) ∙ c .if6 .taken in
     stamp-fails (a .p) k m (a .address .0) (a .block .now) es
     ∙ address-passes (a .p) k m (a .address .0) (a .block .now) (omega (arith, if5 .left))
-    ∙ missing-passes (a .p) k m (a .address .0) (a .block .now) (if4 .left)
+    ∙ missing-passes (a .p) k m (a .address .0) (a .block .now) (sym (s .pre .2) ∙ if4 .left)
     ∙ lengths-pass (a .p) k m (a .address .0) (a .block .now) el (if3 .left)
     ∙ range-passes (a .p) k m (a .address .0) (a .block .now) er
 
@@ -129,64 +133,64 @@ no-serial-requires c κs = search needs
 
 returns-7 : tie.Need-returns-7
 returns-7 c =
-    let a = c .before .before .before .before .before .before .before .before .before .before .before .before .before .before .before .before .before .before .before .before .args in
+    let s = c .before .before .before .before .before .before .before .before .before .before .before .before .before .before .before .before .before .before .before .before in
     let if6 = c .before .before .if6 in
     let no-stamp = c .before .before .before .no-stamp in
     let if5 = c .before .before .before .before .if5 in
     let if4 = c .before .before .before .before .before .before .if4 in
-    let if3 = c .before .before .before .before .before .before .before .before .if3 in
-    let if2 = c .before .before .before .before .before .before .before .before .before .before .if2 in
-    let lent-ok = c .before .before .before .before .before .before .before .before .before .before .before .lent-ok in
-    let if1 = c .before .before .before .before .before .before .before .before .before .before .before .before .if1 in
-    let in-range = c .before .before .before .before .before .before .before .before .before .before .before .before .before .in-range in
-    let pre = c .before .before .before .before .before .before .before .before .before .before .before .before .before .before .before .before .before .before .before .before .pre in
-    let st = a .state in
+    let if3 = c .before .before .before .before .before .before .before .if3 in
+    let if2 = c .before .before .before .before .before .before .before .before .before .if2 in
+    let lent-ok = c .before .before .before .before .before .before .before .before .before .before .lent-ok in
+    let if1 = c .before .before .before .before .before .before .before .before .before .before .before .if1 in
+    let in-range = c .before .before .before .before .before .before .before .before .before .before .before .before .in-range in
+    let a = s .args in
+    let st = stateOf (a .bytes .now) in
     let k : Disk = mkDisk (a .image .now) (a .pointers .now) in
     let m : Memory = mkMemory st (a .addresses .now) (a .compact .now) (a .inflight .now) in
     let er : inRange (a .p) ≡ true = sym (in-range .ensures) ∙ not-false (in-range .result) (if1 .left) in
     let el : lentOk (a .p) k m ≡ true = sym (lent-ok .ensures st) ∙ not-false (lent-ok .result) (if2 .left) in
-    let es : noStamp st ≡ false = sym (front-stamp (a .p) st (a .f) (pre .0)) ∙ sym (no-stamp .ensures) ∙ if6 .left in
-    let en : noSerial (a .p) st ≡ true = sym (front-serial (a .p) st (a .f) (pre .0) (a .a) (pre .1)) ∙ sym (c .before .no-serial .ensures) ∙ c .if7 .taken in
+    let es : noStamp st ≡ false = sym (front-stamp (a .p) st (a .f) (s .pre .0)) ∙ sym (no-stamp .ensures) ∙ if6 .left in
+    let en : noSerial (a .p) st ≡ true = sym (front-serial (a .p) st (a .f) (s .pre .0) (a .a) (s .pre .1)) ∙ sym (c .before .no-serial .ensures) ∙ c .if7 .taken in
     serial-fails (a .p) k m (a .address .0) (a .block .now) es en
     ∙ address-passes (a .p) k m (a .address .0) (a .block .now) (omega (arith, if5 .left))
-    ∙ missing-passes (a .p) k m (a .address .0) (a .block .now) (if4 .left)
+    ∙ missing-passes (a .p) k m (a .address .0) (a .block .now) (sym (s .pre .2) ∙ if4 .left)
     ∙ lengths-pass (a .p) k m (a .address .0) (a .block .now) el (if3 .left)
     ∙ range-passes (a .p) k m (a .address .0) (a .block .now) er
 
 must-wait-requires : tie.Need-must-wait-requires
 must-wait-requires c κs =
     let s = c .before .before .before .before .before .before .before .before .before .before .before .before .before .before .before .before .before .before .before .before in
-    let if1 = c .before .before .before .before .before .before .before .before .before .before .before .before .if1 in
-    let in-range = c .before .before .before .before .before .before .before .before .before .before .before .before .before .in-range in
-    (sym (in-range .ensures) ∙ not-false (in-range .result) (if1 .left), s .pre .1 ∙ sym (front-aim (s .args .p) (s .args .state) (s .args .f) (s .pre .0)))
+    let if1 = c .before .before .before .before .before .before .before .before .before .before .before .if1 in
+    let in-range = c .before .before .before .before .before .before .before .before .before .before .before .before .in-range in
+    (sym (in-range .ensures) ∙ not-false (in-range .result) (if1 .left), s .pre .1 ∙ sym (front-aim (s .args .p) (stateOf (s .args .bytes .now)) (s .args .f) (s .pre .0)))
 
 returns-8 : tie.Need-returns-8
 returns-8 c =
-    let a = c .before .before .before .before .before .before .before .before .before .before .before .before .before .before .before .before .before .before .before .before .before .before .args in
+    let s = c .before .before .before .before .before .before .before .before .before .before .before .before .before .before .before .before .before .before .before .before .before .before in
     let if7 = c .before .before .if7 in
     let no-serial = c .before .before .before .no-serial in
     let if6 = c .before .before .before .before .if6 in
     let no-stamp = c .before .before .before .before .before .no-stamp in
     let if5 = c .before .before .before .before .before .before .if5 in
     let if4 = c .before .before .before .before .before .before .before .before .if4 in
-    let if3 = c .before .before .before .before .before .before .before .before .before .before .if3 in
-    let if2 = c .before .before .before .before .before .before .before .before .before .before .before .before .if2 in
-    let lent-ok = c .before .before .before .before .before .before .before .before .before .before .before .before .before .lent-ok in
-    let if1 = c .before .before .before .before .before .before .before .before .before .before .before .before .before .before .if1 in
-    let in-range = c .before .before .before .before .before .before .before .before .before .before .before .before .before .before .before .in-range in
-    let pre = c .before .before .before .before .before .before .before .before .before .before .before .before .before .before .before .before .before .before .before .before .before .before .pre in
-    let st = a .state in
+    let if3 = c .before .before .before .before .before .before .before .before .before .if3 in
+    let if2 = c .before .before .before .before .before .before .before .before .before .before .before .if2 in
+    let lent-ok = c .before .before .before .before .before .before .before .before .before .before .before .before .lent-ok in
+    let if1 = c .before .before .before .before .before .before .before .before .before .before .before .before .before .if1 in
+    let in-range = c .before .before .before .before .before .before .before .before .before .before .before .before .before .before .in-range in
+    let a = s .args in
+    let st = stateOf (a .bytes .now) in
     let k : Disk = mkDisk (a .image .now) (a .pointers .now) in
     let m : Memory = mkMemory st (a .addresses .now) (a .compact .now) (a .inflight .now) in
     let er : inRange (a .p) ≡ true = sym (in-range .ensures) ∙ not-false (in-range .result) (if1 .left) in
     let el : lentOk (a .p) k m ≡ true = sym (lent-ok .ensures st) ∙ not-false (lent-ok .result) (if2 .left) in
-    let es : noStamp st ≡ false = sym (front-stamp (a .p) st (a .f) (pre .0)) ∙ sym (no-stamp .ensures) ∙ if6 .left in
-    let en : noSerial (a .p) st ≡ false = sym (front-serial (a .p) st (a .f) (pre .0) (a .a) (pre .1)) ∙ sym (no-serial .ensures) ∙ if7 .left in
-    let ew : mustWait (a .p) st ≡ true = sym (front-wait (a .p) st (a .f) (pre .0)) ∙ sym (c .before .must-wait .ensures) ∙ c .if8 .taken in
+    let es : noStamp st ≡ false = sym (front-stamp (a .p) st (a .f) (s .pre .0)) ∙ sym (no-stamp .ensures) ∙ if6 .left in
+    let en : noSerial (a .p) st ≡ false = sym (front-serial (a .p) st (a .f) (s .pre .0) (a .a) (s .pre .1)) ∙ sym (no-serial .ensures) ∙ if7 .left in
+    let ew : mustWait (a .p) st ≡ true = sym (front-wait (a .p) st (a .f) (s .pre .0)) ∙ sym (c .before .must-wait .ensures) ∙ c .if8 .taken in
     wait-fails (a .p) k m (a .address .0) (a .block .now) ew
     ∙ counts-pass (a .p) k m (a .address .0) (a .block .now) es en
     ∙ address-passes (a .p) k m (a .address .0) (a .block .now) (omega (arith, if5 .left))
-    ∙ missing-passes (a .p) k m (a .address .0) (a .block .now) (if4 .left)
+    ∙ missing-passes (a .p) k m (a .address .0) (a .block .now) (sym (s .pre .2) ∙ if4 .left)
     ∙ lengths-pass (a .p) k m (a .address .0) (a .block .now) el (if3 .left)
     ∙ range-passes (a .p) k m (a .address .0) (a .block .now) er
 
@@ -195,15 +199,13 @@ reserve-requires c κs = search needs
 
 scarce-requires : tie.Need-scarce-requires
 scarce-requires c κs =
-    let if2 = c .before .before .before .before .before .before .before .before .before .before .before .before .before .if2 in
-    let lent-ok = c .before .before .before .before .before .before .before .before .before .before .before .before .before .before .lent-ok in
-    let if1 = c .before .before .before .before .before .before .before .before .before .before .before .before .before .before .before .if1 in
-    let in-range = c .before .before .before .before .before .before .before .before .before .before .before .before .before .before .before .before .in-range in
-    let at = c .before .before .before .before .before .before .before .before .before .before .before .before .before .before .before .before .before in
-    let a =
-    at
-    .before .before .before .before .before .before .args in
-    let st = a .state in
+    let s = c .before .before .before .before .before .before .before .before .before .before .before .before .before .before .before .before .before .before .before .before .before .before .before in
+    let if2 = c .before .before .before .before .before .before .before .before .before .before .before .before .if2 in
+    let lent-ok = c .before .before .before .before .before .before .before .before .before .before .before .before .before .lent-ok in
+    let if1 = c .before .before .before .before .before .before .before .before .before .before .before .before .before .before .if1 in
+    let in-range = c .before .before .before .before .before .before .before .before .before .before .before .before .before .before .before .in-range in
+    let a = s .args in
+    let st = stateOf (a .bytes .now) in
     let k : Disk = mkDisk (a .image .now) (a .pointers .now) in
     let m : Memory = mkMemory st (a .addresses .now) (a .compact .now) (a .inflight .now) in
     let er : inRange (a .p) ≡ true = sym (in-range .ensures) ∙ not-false (in-range .result) (if1 .left) in
@@ -221,41 +223,45 @@ returns-9 c =
     let no-stamp = c .before .before .before .before .before .before .before .before .no-stamp in
     let if5 = c .before .before .before .before .before .before .before .before .before .if5 in
     let if4 = c .before .before .before .before .before .before .before .before .before .before .before .if4 in
-    let if3 = c .before .before .before .before .before .before .before .before .before .before .before .before .before .if3 in
-    let if2 = c .before .before .before .before .before .before .before .before .before .before .before .before .before .before .before .if2 in
-    let lent-ok = c .before .before .before .before .before .before .before .before .before .before .before .before .before .before .before .before .lent-ok in
+    let if3 = c .before .before .before .before .before .before .before .before .before .before .before .before .if3 in
+    let if2 = c .before .before .before .before .before .before .before .before .before .before .before .before .before .before .if2 in
+    let lent-ok = c .before .before .before .before .before .before .before .before .before .before .before .before .before .before .before .lent-ok in
+    let if1 = c .before .before .before .before .before .before .before .before .before .before .before .before .before .before .before .before .if1 in
     let at = c .before .before .before .before .before .before .before .before .before .before .before .before .before .before .before .before .before in
-    let if1 = c .before .before .before .before .before .before .before .before .before .before .before .before .before .before .before .before .before .if1 in
-    let in-range = c .before .before .before .before .before .before .before .before .before .before .before .before .before .before .before .before .before .before .in-range in
-    let a =
+    let in-range = c .before .before .before .before .before .before .before .before .before .before .before .before .before .before .before .before .before .in-range in
+    let s =
     at
-    .before .before .before .before .before .before .before .before .args in
-    let pre =
-    at
-    .before .before .before .before .before .before .before .before .pre in
-    let st = a .state in
+    .before .before .before .before .before .before .before .before in
+    let a = s .args in
+    let st = stateOf (a .bytes .now) in
     let k : Disk = mkDisk (a .image .now) (a .pointers .now) in
     let m : Memory = mkMemory st (a .addresses .now) (a .compact .now) (a .inflight .now) in
     let er : inRange (a .p) ≡ true = sym (in-range .ensures) ∙ not-false (in-range .result) (if1 .left) in
     let el : lentOk (a .p) k m ≡ true = sym (lent-ok .ensures st) ∙ not-false (lent-ok .result) (if2 .left) in
-    let es : noStamp st ≡ false = sym (front-stamp (a .p) st (a .f) (pre .0)) ∙ sym (no-stamp .ensures) ∙ if6 .left in
-    let en : noSerial (a .p) st ≡ false = sym (front-serial (a .p) st (a .f) (pre .0) (a .a) (pre .1)) ∙ sym (no-serial .ensures) ∙ if7 .left in
-    let ew : mustWait (a .p) st ≡ false = sym (front-wait (a .p) st (a .f) (pre .0)) ∙ sym (must-wait .ensures) ∙ if8 .left in
+    let es : noStamp st ≡ false = sym (front-stamp (a .p) st (a .f) (s .pre .0)) ∙ sym (no-stamp .ensures) ∙ if6 .left in
+    let en : noSerial (a .p) st ≡ false = sym (front-serial (a .p) st (a .f) (s .pre .0) (a .a) (s .pre .1)) ∙ sym (no-serial .ensures) ∙ if7 .left in
+    let ew : mustWait (a .p) st ≡ false = sym (front-wait (a .p) st (a .f) (s .pre .0)) ∙ sym (must-wait .ensures) ∙ if8 .left in
     let long = lent-long (a .p) k m el in
     let ez : scarce (a .p) (seen (a .p) k) (cond (opens (a .p) st) 2 1) ≡ true =
-    ap (scarce (a .p) (seen (a .p) k)) (ap (λ (x : Aim). cond (x .opens) 2 1) (sym (pre .1)) ∙ sym (reserve .ensures .0))
+    ap (scarce (a .p) (seen (a .p) k)) (ap (λ (x : Aim). cond (x .opens) 2 1) (sym (s .pre .1)) ∙ sym (reserve .ensures .0))
     ∙ sym (c .before .scarce .ensures (a .image .now) (long .0))
     ∙ c .if9 .taken in
     zones-fail (a .p) k m (a .address .0) (a .block .now) ez
     ∙ wait-passes (a .p) k m (a .address .0) (a .block .now) ew
     ∙ counts-pass (a .p) k m (a .address .0) (a .block .now) es en
     ∙ address-passes (a .p) k m (a .address .0) (a .block .now) (omega (arith, if5 .left))
-    ∙ missing-passes (a .p) k m (a .address .0) (a .block .now) (if4 .left)
+    ∙ missing-passes (a .p) k m (a .address .0) (a .block .now) (sym (s .pre .2) ∙ if4 .left)
     ∙ lengths-pass (a .p) k m (a .address .0) (a .block .now) el (if3 .left)
     ∙ range-passes (a .p) k m (a .address .0) (a .block .now) er
 
 state-ok-requires : tie.Need-state-ok-requires
-state-ok-requires c κs = search needs
+state-ok-requires c κs =
+    let o = c .before .before .before .before .before .before .before .before .before .before .before .before .before .before .before .before in
+    let at-17 = c .before .before .before .before .before .before .before .before .before .before .before .before .before .before .before .before .before in
+    let s =
+    at-17
+    .before .before .before .before .before .before .before .before in
+    (sym (o .before .in-range .ensures) ∙ not-false (o .before .in-range .result) (o .if1 .left), s .pre .3)
 
 returns-10 : tie.Need-returns-10
 returns-10 c =
@@ -270,36 +276,34 @@ returns-10 c =
     let no-stamp = c .before .before .before .before .before .before .before .before .before .before .no-stamp in
     let if5 = c .before .before .before .before .before .before .before .before .before .before .before .if5 in
     let if4 = c .before .before .before .before .before .before .before .before .before .before .before .before .before .if4 in
-    let if3 = c .before .before .before .before .before .before .before .before .before .before .before .before .before .before .before .if3 in
+    let if3 = c .before .before .before .before .before .before .before .before .before .before .before .before .before .before .if3 in
+    let if2 = c .before .before .before .before .before .before .before .before .before .before .before .before .before .before .before .before .if2 in
     let at = c .before .before .before .before .before .before .before .before .before .before .before .before .before .before .before .before .before in
-    let if2 = c .before .before .before .before .before .before .before .before .before .before .before .before .before .before .before .before .before .if2 in
-    let lent-ok = c .before .before .before .before .before .before .before .before .before .before .before .before .before .before .before .before .before .before .lent-ok in
-    let if1 = c .before .before .before .before .before .before .before .before .before .before .before .before .before .before .before .before .before .before .before .if1 in
-    let in-range = c .before .before .before .before .before .before .before .before .before .before .before .before .before .before .before .before .before .before .before .before .in-range in
-    let a =
+    let lent-ok = c .before .before .before .before .before .before .before .before .before .before .before .before .before .before .before .before .before .lent-ok in
+    let if1 = c .before .before .before .before .before .before .before .before .before .before .before .before .before .before .before .before .before .before .if1 in
+    let in-range = c .before .before .before .before .before .before .before .before .before .before .before .before .before .before .before .before .before .before .before .in-range in
+    let s =
     at
-    .before .before .before .before .before .before .before .before .before .before .args in
-    let pre =
-    at
-    .before .before .before .before .before .before .before .before .before .before .pre in
-    let st = a .state in
+    .before .before .before .before .before .before .before .before .before .before in
+    let a = s .args in
+    let st = stateOf (a .bytes .now) in
     let k : Disk = mkDisk (a .image .now) (a .pointers .now) in
     let m : Memory = mkMemory st (a .addresses .now) (a .compact .now) (a .inflight .now) in
     let er : inRange (a .p) ≡ true = sym (in-range .ensures) ∙ not-false (in-range .result) (if1 .left) in
     let el : lentOk (a .p) k m ≡ true = sym (lent-ok .ensures st) ∙ not-false (lent-ok .result) (if2 .left) in
-    let es : noStamp st ≡ false = sym (front-stamp (a .p) st (a .f) (pre .0)) ∙ sym (no-stamp .ensures) ∙ if6 .left in
-    let en : noSerial (a .p) st ≡ false = sym (front-serial (a .p) st (a .f) (pre .0) (a .a) (pre .1)) ∙ sym (no-serial .ensures) ∙ if7 .left in
-    let ew : mustWait (a .p) st ≡ false = sym (front-wait (a .p) st (a .f) (pre .0)) ∙ sym (must-wait .ensures) ∙ if8 .left in
+    let es : noStamp st ≡ false = sym (front-stamp (a .p) st (a .f) (s .pre .0)) ∙ sym (no-stamp .ensures) ∙ if6 .left in
+    let en : noSerial (a .p) st ≡ false = sym (front-serial (a .p) st (a .f) (s .pre .0) (a .a) (s .pre .1)) ∙ sym (no-serial .ensures) ∙ if7 .left in
+    let ew : mustWait (a .p) st ≡ false = sym (front-wait (a .p) st (a .f) (s .pre .0)) ∙ sym (must-wait .ensures) ∙ if8 .left in
     let long = lent-long (a .p) k m el in
     let ez : scarce (a .p) (seen (a .p) k) (cond (opens (a .p) st) 2 1) ≡ false =
-    ap (scarce (a .p) (seen (a .p) k)) (ap (λ (x : Aim). cond (x .opens) 2 1) (sym (pre .1)) ∙ sym (reserve .ensures .0)) ∙ sym (scarce′ .ensures (a .image .now) (long .0)) ∙ if9 .left in
+    ap (scarce (a .p) (seen (a .p) k)) (ap (λ (x : Aim). cond (x .opens) 2 1) (sym (s .pre .1)) ∙ sym (reserve .ensures .0)) ∙ sym (scarce′ .ensures (a .image .now) (long .0)) ∙ if9 .left in
     let eo : stateOk (a .p) st ≡ false = sym (c .before .state-ok .ensures) ∙ not-true (c .before .state-ok .result) (c .if10 .taken) in
     state-fails (a .p) k m (a .address .0) (a .block .now) eo
     ∙ zones-suffice (a .p) k m (a .address .0) (a .block .now) ez
     ∙ wait-passes (a .p) k m (a .address .0) (a .block .now) ew
     ∙ counts-pass (a .p) k m (a .address .0) (a .block .now) es en
     ∙ address-passes (a .p) k m (a .address .0) (a .block .now) (omega (arith, if5 .left))
-    ∙ missing-passes (a .p) k m (a .address .0) (a .block .now) (if4 .left)
+    ∙ missing-passes (a .p) k m (a .address .0) (a .block .now) (sym (s .pre .2) ∙ if4 .left)
     ∙ lengths-pass (a .p) k m (a .address .0) (a .block .now) el (if3 .left)
     ∙ range-passes (a .p) k m (a .address .0) (a .block .now) er
 
@@ -316,36 +320,34 @@ returns-11 c =
     let no-stamp = c .before .before .before .before .before .before .before .before .before .before .no-stamp in
     let if5 = c .before .before .before .before .before .before .before .before .before .before .before .if5 in
     let if4 = c .before .before .before .before .before .before .before .before .before .before .before .before .before .if4 in
-    let if3 = c .before .before .before .before .before .before .before .before .before .before .before .before .before .before .before .if3 in
+    let if3 = c .before .before .before .before .before .before .before .before .before .before .before .before .before .before .if3 in
+    let if2 = c .before .before .before .before .before .before .before .before .before .before .before .before .before .before .before .before .if2 in
     let at = c .before .before .before .before .before .before .before .before .before .before .before .before .before .before .before .before .before in
-    let if2 = c .before .before .before .before .before .before .before .before .before .before .before .before .before .before .before .before .before .if2 in
-    let lent-ok = c .before .before .before .before .before .before .before .before .before .before .before .before .before .before .before .before .before .before .lent-ok in
-    let if1 = c .before .before .before .before .before .before .before .before .before .before .before .before .before .before .before .before .before .before .before .if1 in
-    let in-range = c .before .before .before .before .before .before .before .before .before .before .before .before .before .before .before .before .before .before .before .before .in-range in
-    let a =
+    let lent-ok = c .before .before .before .before .before .before .before .before .before .before .before .before .before .before .before .before .before .lent-ok in
+    let if1 = c .before .before .before .before .before .before .before .before .before .before .before .before .before .before .before .before .before .before .if1 in
+    let in-range = c .before .before .before .before .before .before .before .before .before .before .before .before .before .before .before .before .before .before .before .in-range in
+    let s =
     at
-    .before .before .before .before .before .before .before .before .before .before .args in
-    let pre =
-    at
-    .before .before .before .before .before .before .before .before .before .before .pre in
-    let st = a .state in
+    .before .before .before .before .before .before .before .before .before .before in
+    let a = s .args in
+    let st = stateOf (a .bytes .now) in
     let k : Disk = mkDisk (a .image .now) (a .pointers .now) in
     let m : Memory = mkMemory st (a .addresses .now) (a .compact .now) (a .inflight .now) in
     let er : inRange (a .p) ≡ true = sym (in-range .ensures) ∙ not-false (in-range .result) (if1 .left) in
     let el : lentOk (a .p) k m ≡ true = sym (lent-ok .ensures st) ∙ not-false (lent-ok .result) (if2 .left) in
-    let es : noStamp st ≡ false = sym (front-stamp (a .p) st (a .f) (pre .0)) ∙ sym (no-stamp .ensures) ∙ if6 .left in
-    let en : noSerial (a .p) st ≡ false = sym (front-serial (a .p) st (a .f) (pre .0) (a .a) (pre .1)) ∙ sym (no-serial .ensures) ∙ if7 .left in
-    let ew : mustWait (a .p) st ≡ false = sym (front-wait (a .p) st (a .f) (pre .0)) ∙ sym (must-wait .ensures) ∙ if8 .left in
+    let es : noStamp st ≡ false = sym (front-stamp (a .p) st (a .f) (s .pre .0)) ∙ sym (no-stamp .ensures) ∙ if6 .left in
+    let en : noSerial (a .p) st ≡ false = sym (front-serial (a .p) st (a .f) (s .pre .0) (a .a) (s .pre .1)) ∙ sym (no-serial .ensures) ∙ if7 .left in
+    let ew : mustWait (a .p) st ≡ false = sym (front-wait (a .p) st (a .f) (s .pre .0)) ∙ sym (must-wait .ensures) ∙ if8 .left in
     let long = lent-long (a .p) k m el in
     let ez : scarce (a .p) (seen (a .p) k) (cond (opens (a .p) st) 2 1) ≡ false =
-    ap (scarce (a .p) (seen (a .p) k)) (ap (λ (x : Aim). cond (x .opens) 2 1) (sym (pre .1)) ∙ sym (reserve .ensures .0)) ∙ sym (scarce′ .ensures (a .image .now) (long .0)) ∙ if9 .left in
+    ap (scarce (a .p) (seen (a .p) k)) (ap (λ (x : Aim). cond (x .opens) 2 1) (sym (s .pre .1)) ∙ sym (reserve .ensures .0)) ∙ sym (scarce′ .ensures (a .image .now) (long .0)) ∙ if9 .left in
     let eo : stateOk (a .p) st ≡ true = sym (c .before .state-ok .ensures) ∙ not-false (c .before .state-ok .result) (c .if10 .left) in
     state-passes (a .p) k m (a .address .0) (a .block .now) eo
     ∙ zones-suffice (a .p) k m (a .address .0) (a .block .now) ez
     ∙ wait-passes (a .p) k m (a .address .0) (a .block .now) ew
     ∙ counts-pass (a .p) k m (a .address .0) (a .block .now) es en
     ∙ address-passes (a .p) k m (a .address .0) (a .block .now) (omega (arith, if5 .left))
-    ∙ missing-passes (a .p) k m (a .address .0) (a .block .now) (if4 .left)
+    ∙ missing-passes (a .p) k m (a .address .0) (a .block .now) (sym (s .pre .2) ∙ if4 .left)
     ∙ lengths-pass (a .p) k m (a .address .0) (a .block .now) el (if3 .left)
     ∙ range-passes (a .p) k m (a .address .0) (a .block .now) er
 

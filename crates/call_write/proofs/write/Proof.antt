@@ -1,15 +1,17 @@
 -- `write`: the front and the aim are the state's; then the three ends. Assumes nothing.
 use Prim.Native.Nat.{_≤_, _<_}
 use Rattle.mem_calls.specs.Left.{checked}
+use Rattle.mem_codec.specs.Changes.{read-sized}
 use Rattle.spec.specs.Counts.{lastCount}
 use Rattle.spec.specs.Drives.{Disk, mkDisk}
 use Rattle.spec.specs.Lists.Opt.{none, some}
 use Rattle.spec.specs.Memory.{Memory, mkMemory}
+use Rattle.spec.specs.declared.State.{State}
 use Rattle.call_filling.specs.Aims.{aimOf, front-aim}
 use Rattle.call_filling.specs.Left.{Opening, opening-front}
 use Rattle.call_filling.specs.declared.Aim.{Aim}
 use Rattle.law_calls.specs.Slots.{slot-lt}
-use Rattle.mem_rows.specs.Rows.{Sized, behind}
+use Rattle.mem_rows.specs.Rows.{Sized, frontOf, behind, rowOf}
 use Rattle.mem_rows.specs.declared.Change.{Change}
 use Rattle.mem_rows.specs.declared.Front.{Front}
 use Rattle.call_write.specs.Ends.{write-refused, ends-cut, plan-asks, ends-plan}
@@ -29,15 +31,7 @@ stamp-fits : (c : tie.Start) → c .args .state .stamp .0 < 18446744073709551616
 stamp-fits c = omega arith
 
 sized : (c : tie.Start) → Sized (c .args .state)
-sized c = record {
-  numbers = search needs;
-  filled = search needs;
-  writes = search needs;
-  landed = search needs;
-  addresses = search needs;
-  stamps = search (needs, c .good .1 .1 .1 .1 .1 .1 .0 .1 .1 .1 .1 .1 .1 .1 .1 .1);
-  offsets = search (needs, c .good .1 .1 .1 .1 .1 .1 .0 .1 .1 .1 .1 .1 .1 .1 .1 .1);
-}
+sized c = subst Sized (sym (c .pre .0)) (read-sized (c .args .bytes .now))
 
 abbrev disk : (c : tie.Start) → Disk
 disk c = mkDisk (c .args .image .now) (c .args .pointers .now)
@@ -48,10 +42,10 @@ memory c = mkMemory (c .args .state) (c .args .addresses .now) (c .args .compact
 -- the aim is the state's
 aimed :
     (c : tie.After-aim-of)
-    → c .aim-of .result ≡ aimOf (c .before .before .before .before .before .before .before .before .args .p)
-    (c .before .before .before .before .before .before .before .before .args .state)
+    → c .aim-of .result ≡ aimOf (c .before .before .before .before .before .before .before .before .before .args .p)
+    (c .before .before .before .before .before .before .before .before .before .args .state)
 aimed c =
-    let args = c .before .before .before .before .before .before .before .before .args in
+    let args = c .before .before .before .before .before .before .before .before .before .args in
     c .aim-of .ensures ∙ front-aim (args .p) (args .state) (c .before .front-of .result) (c .before .front-of .ensures)
 
 front-of-requires : tie.Need-front-of-requires
@@ -62,9 +56,23 @@ aim-of-requires c κs = search needs
 
 checks-requires : tie.Need-checks-requires
 checks-requires c κs =
-    let at = c .before .before .before .before .before in
-    let front-of = c .before .before .before .before .before .before .front-of in
-    (front-of .ensures, aimed (at))
+    let g = c .before .before .before .before .before in
+    let s = g .before .before .before .before .before .before .before .before .before in
+    let e = s .pre .0 in
+    (g .before .front-of .ensures ∙ ap frontOf e, aimed g ∙ ap (aimOf (s .args .p)) e, ap (λ (x : State). x .missing) e, s .pre .1)
+
+-- the refusal is that of the state
+abbrev start : tie.After-checks → tie.Start
+start c =
+    let at = c .before .before .before .before .before .before .before .before .before .before .before .before .before .before .before in
+    at
+
+checked-is : (c : tie.After-checks) → checked (c .checks .result) ≡ refusal (start c .args .p) (disk (start c)) (memory (start c)) (start c .args .address .0) (start c .args .block .now)
+checked-is c =
+    let s = start c in
+    let a = s .args in
+    subst (λ (x : State). checked (c .checks .result) ≡ refusal (a .p) (disk s) (mkMemory x (a .addresses .now) (a .compact .now) (a .inflight .now)) (a .address .0) (a .block .now)) (sym (s .pre .0))
+    (c .checks .ensures)
 
 enum-known-c : tie.Need-enum-known-c
 enum-known-c c = search needs
@@ -89,26 +97,26 @@ same-length-5 c = search needs
 
 returns : tie.Need-returns
 returns c =
-    let s = c .before .before .before .before .before .before .before .before .before .before .before .before .before .before .before .before .before .before in
-    let checks = c .before .before .before .before .checks in
+    let s = c .before .before .before .before .before .before .before .before .before .before .before .before .before .before .before .before .before .before .before in
+    let at = c .before .before .before .before in
     let a = s .args in
     let q = c .before .before .c .given in
     write-refused (a .p) (disk s) (memory s) (a .address .0) (a .block .now) (a .count) (c .kept .result)
-    (sym (checks .ensures) ∙ ap checked (q .1) ∙ ap (λ (x : Change). some (x .answer)) (sym (c .kept .ensures)))
+    (sym (checked-is (at)) ∙ ap checked (q .1) ∙ ap (λ (x : Change). some (x .answer)) (sym (c .kept .ensures)))
 
 enum-told : tie.Need-enum-told
 enum-told c = search needs
 
 open-requires : tie.Need-open-requires
 open-requires c κs =
-    let s = c .before .before .before .before .before .before .before .before .before .before .before .before .before .before .before .before .before .before in
+    let s = c .before .before .before .before .before .before .before .before .before .before .before .before .before .before .before .before .before .before .before in
     let enum-told = c .before .before .enum-told in
-    let checks = c .before .before .before .before .checks in
-    let at = c .before .before .before .before .before .before .before .before .before .before in
+    let at-4 = c .before .before .before .before in
+    let at-10 = c .before .before .before .before .before .before .before .before .before .before in
     let g = c .before .before .before .before .before .before .before .before .before .before .aim-of in
     let f = c .before .before .before .before .before .before .before .before .before .before .before .front-of in
     let a = s .args in
-    let none! : refusal (a .p) (disk s) (memory s) (a .address .0) (a .block .now) ≡ none = sym (checks .ensures) ∙ ap checked (enum-told .given .1) in
+    let none! : refusal (a .p) (disk s) (memory s) (a .address .0) (a .block .now) ≡ none = sym (checked-is (at-4)) ∙ ap checked (enum-told .given .1) in
     let r = ready (a .p) (disk s) (memory s) (a .address .0) (a .block .now) none! in (
       r .ranged,
       (
@@ -118,7 +126,7 @@ open-requires c κs =
           (
             λ e.
                 subst (λ (x : Front). x .serial .0 < lastCount) (sym (f .ensures))
-                (lt-of-le-ne (serial-fits s) (r .serial-left (ap (λ (x : Aim). x .opens) (sym (aimed (at))) ∙ e))),
+                (lt-of-le-ne (serial-fits s) (r .serial-left (ap (λ (x : Aim). x .opens) (sym (aimed (at-10))) ∙ e))),
             λ e. r .empties,
           ),
         ),
@@ -147,19 +155,18 @@ returns-2 : tie.Need-returns-2
 returns-2 c =
     let q = c .before .before .before .before .cut in
     let if1 = c .before .before .before .before .before .before .before .if1 in
-    let at = c .before .before .before .before .before .before .before .before .before .before .before .before in
+    let at-12 = c .before .before .before .before .before .before .before .before .before .before .before .before in
     let enum-told = c .before .before .before .before .before .before .before .before .before .before .before .before .before .before .before .enum-told in
     let at-17 = c .before .before .before .before .before .before .before .before .before .before .before .before .before .before .before .before .before in
-    let checks = c .before .before .before .before .before .before .before .before .before .before .before .before .before .before .before .before .before .checks in
     let s =
     at-17
-    .before .before .before .before .before .before .before .before .before .before .before .before .before .before in
+    .before .before .before .before .before .before .before .before .before .before .before .before .before .before .before in
     let front-of =
     at-17
     .before .before .before .before .before .before .before .front-of in
     let a = s .args in
-    let none! : refusal (a .p) (disk s) (memory s) (a .address .0) (a .block .now) ≡ none = sym (checks .ensures) ∙ ap checked (enum-told .given .1) in
-    let o = at .«open» in
+    let none! : refusal (a .p) (disk s) (memory s) (a .address .0) (a .block .now) ≡ none = sym (checked-is (at-17)) ∙ ap checked (enum-told .given .1) in
+    let o = at-12 .«open» in
     let k′ : Disk = mkDisk (o .last .1 .0) (o .last .1 .1 .0) in
     let h : Opening (a .p) (a .state) (a .count) (disk s) (o .result) k′ =
     opening-front (a .p) (a .state) (a .count) (disk s) (o .result) k′
@@ -167,33 +174,47 @@ returns-2 c =
     ends-cut (a .p) (disk s) (memory s) (a .address .0) (a .block .now) (a .count) none! (o .result) k′ h (if1 .taken) (q .result) (q .last .0) (q .last .1 .0)
     (ap (λ (x : Change). x .answer) (q .ensures .0)) (q .ensures .1 .0) (q .ensures .1 .1)
 
-row-of-requires : tie.Need-row-of-requires
-row-of-requires c κs =
+row-at-requires : tie.Need-row-at-requires
+row-at-requires c κs =
     let enum-told = c .before .before .before .before .before .before .before .before .enum-told in
-    let checks = c .before .before .before .before .before .before .before .before .before .before .checks in
-    let at = c .before .before .before .before .before .before .before .before .before .before .before .before .before .before .before .before in
+    let at-10 = c .before .before .before .before .before .before .before .before .before .before in
+    let at-16 = c .before .before .before .before .before .before .before .before .before .before .before .before .before .before .before .before in
     let at-17 = c .before .before .before .before .before .before .before .before .before .before .before .before .before .before .before .before .before in
     let s =
     at-17
-    .before .before .before .before .before .before .before in
+    .before .before .before .before .before .before .before .before in
     let a = s .args in
-    let none! : refusal (a .p) (disk s) (memory s) (a .address .0) (a .block .now) ≡ none = sym (checks .ensures) ∙ ap checked (enum-told .given .1) in
-    subst (λ (x : Aim). x .slot < 8) (sym (aimed (at))) (slot-lt (a .p) (a .state) (ready (a .p) (disk s) (memory s) (a .address .0) (a .block .now) none! .waits))
+    let none! : refusal (a .p) (disk s) (memory s) (a .address .0) (a .block .now) ≡ none = sym (checked-is (at-10)) ∙ ap checked (enum-told .given .1) in
+    (s .pre .1, subst (λ (x : Aim). x .slot < 8) (sym (aimed (at-16))) (slot-lt (a .p) (a .state) (ready (a .p) (disk s) (memory s) (a .address .0) (a .block .now) none! .waits)))
+
+-- the row is the state's
+row-is :
+    (c : tie.After-row-at)
+    → c .row-at .result ≡ rowOf (c .before .before .before .before .before .before .before .before .before .before .before .before .before .before
+    .before .before .before .before .before .before .before .before .before .before .before .before .args .state)
+    (c .before .before .before .before .before .before .before .before .before .before .before .before .before .before .before .before .before .aim-of .result .slot)
+row-is c =
+    let at′ = c .before .before .before .before .before .before .before .before .before .before .before .before .before .before .before .before .before in
+    let aim-of = c .before .before .before .before .before .before .before .before .before .before .before .before .before .before .before .before .before .aim-of in
+    let s =
+    at′
+    .before .before .before .before .before .before .before .before .before in
+    subst (λ (x : State). c .row-at .result ≡ rowOf x (aim-of .result .slot)) (sym (s .pre .0)) (c .row-at .ensures)
 
 plan-requires : tie.Need-plan-requires
 plan-requires c κs =
     let at-7 = c .before .before .before .before .before .before .before in
     let enum-told = c .before .before .before .before .before .before .before .before .before .before .enum-told in
-    let checks = c .before .before .before .before .before .before .before .before .before .before .before .before .checks in
+    let at-12 = c .before .before .before .before .before .before .before .before .before .before .before .before in
     let at-17 = c .before .before .before .before .before .before .before .before .before .before .before .before .before .before .before .before .before in
     let at-18 = c .before .before .before .before .before .before .before .before .before .before .before .before .before .before .before .before .before .before in
     let aim-of = c .before .before .before .before .before .before .before .before .before .before .before .before .before .before .before .before .before .before .aim-of in
     let f = c .before .before .before .before .before .before .before .before .before .before .before .before .before .before .before .before .before .before .before .front-of in
     let s =
     at-17
-    .before .before .before .before .before .before .before .before .before in
+    .before .before .before .before .before .before .before .before .before .before in
     let a = s .args in
-    let none! : refusal (a .p) (disk s) (memory s) (a .address .0) (a .block .now) ≡ none = sym (checks .ensures) ∙ ap checked (enum-told .given .1) in
+    let none! : refusal (a .p) (disk s) (memory s) (a .address .0) (a .block .now) ≡ none = sym (checked-is (at-12)) ∙ ap checked (enum-told .given .1) in
     let r = ready (a .p) (disk s) (memory s) (a .address .0) (a .block .now) none! in
     let o = at-7 .«open» in
     let k′ : Disk = mkDisk (o .last .1 .0) (o .last .1 .1 .0) in
@@ -203,7 +224,7 @@ plan-requires c κs =
       r .ranged,
       (
         plan-asks (a .p) (disk s) (memory s) (a .address .0) (a .block .now) (a .count) none! (o .result) k′ h (f .result) (f .ensures) (aim-of .result) (aimed (at-18))
-            (c .before .row-of .result) (c .before .row-of .ensures) (stamp-fits s),
+            (c .before .row-at .result) (row-is (c .before)) (stamp-fits s),
         (r .inflight-long, r .block-long),
       ),
     )
@@ -226,11 +247,12 @@ same-length-15 c = search needs
 returns-3 : tie.Need-returns-3
 returns-3 c =
     let q = c .before .before .plan in
-    let row-of = c .before .before .before .before .row-of in
+    let at-4 = c .before .before .before .before in
+    let row-at = c .before .before .before .before .row-at in
     let if1 = c .before .before .before .before .before .if1 in
     let at-10 = c .before .before .before .before .before .before .before .before .before .before in
     let enum-told = c .before .before .before .before .before .before .before .before .before .before .before .before .before .enum-told in
-    let checks = c .before .before .before .before .before .before .before .before .before .before .before .before .before .before .before .checks in
+    let at-15 = c .before .before .before .before .before .before .before .before .before .before .before .before .before .before .before in
     let at-17 = c .before .before .before .before .before .before .before .before .before .before .before .before .before .before .before .before .before in
     let at-21 = c .before .before .before .before .before .before .before .before .before .before .before .before .before .before .before .before .before .before .before .before .before in
     let aim-of = c .before .before .before .before .before .before .before .before .before .before .before .before .before .before .before .before .before .before .before .before .before .aim-of in
@@ -238,16 +260,16 @@ returns-3 c =
     c .before .before .before .before .before .before .before .before .before .before .before .before .before .before .before .before .before .before .before .before .before .before .front-of in
     let s =
     at-17
-    .before .before .before .before .before .before .before .before .before .before .before .before in
+    .before .before .before .before .before .before .before .before .before .before .before .before .before in
     let a = s .args in
-    let none! : refusal (a .p) (disk s) (memory s) (a .address .0) (a .block .now) ≡ none = sym (checks .ensures) ∙ ap checked (enum-told .given .1) in
+    let none! : refusal (a .p) (disk s) (memory s) (a .address .0) (a .block .now) ≡ none = sym (checked-is (at-15)) ∙ ap checked (enum-told .given .1) in
     let o = at-10 .«open» in
     let k′ : Disk = mkDisk (o .last .1 .0) (o .last .1 .1 .0) in
     let h : Opening (a .p) (a .state) (a .count) (disk s) (o .result) k′ =
     opening-front (a .p) (a .state) (a .count) (disk s) (o .result) k′
     (subst (λ (x : Front). Opening (a .p) (behind x) (a .count) (disk s) (o .result) k′) (f .ensures) (o .ensures)) in
     ends-plan (a .p) (disk s) (memory s) (a .address .0) (a .block .now) (a .count) none! (o .result) k′ h (f .result) (f .ensures) (aim-of .result) (aimed (at-21))
-    (row-of .result) (row-of .ensures) (sized s) (if1 .left) (q .result) (q .last .1 .0) (q .ensures .0) (q .ensures .1)
+    (row-at .result) (row-is (at-4)) (sized s) (if1 .left) (q .result) (q .last .1 .0) (q .ensures .0) (q .ensures .1)
 
 pub write-spec : {M : Type 1} → statement M
 write-spec =
@@ -273,7 +295,7 @@ write-spec =
     same-length-9
     same-length-10
     returns-2
-    row-of-requires
+    row-at-requires
     plan-requires
     same-length-11
     same-length-12
