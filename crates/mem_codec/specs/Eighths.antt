@@ -7,7 +7,8 @@ use native.Mathlib.Nat.{mul-add}
 use native.Mathlib.Omega.{arith}
 use lib.ListN.{getD}
 use lib.Seq.{ext-getD}
-use Rattle.mem_codec.specs.Codec.{length-numbersAt, state-read}
+use Rattle.mem_codec.specs.Codec.{state-read}
+use Rattle.law_basic.specs.Sections.{length-numbersAt}
 use Rattle.spec.specs.Bytes.{leOf, part}
 use Rattle.spec.specs.Memory.{cell, numbersAt, stateOf, stripeIn, filledIn, landedIn}
 use Rattle.spec.specs.declared.State.{State}
