@@ -60,6 +60,9 @@ static uint64_t *some_addresses(void) {
 /* how often a figure is taken */
 static size_t turns(void) { return box.l < 100 ? 2000 : box.l < 20000 ? 30 : 6; }
 
+/* the small box has a target for a write alone */
+static int is_small(void) { return box.n == 3; }
+
 static void line(const char *name, double ours, double plain, double target) {
     printf("  %-44s %12.0f ns %12.0f ns   %.2f%s\n", name, ours, plain, plain / ours, target == 0 ? "" : plain / ours >= target ? "  (target met)" : "  (BELOW THE TARGET)");
     fflush(stdout);
@@ -88,7 +91,7 @@ static void writes(const char *name, const size_t v[6]) {
     }
     ours /= (double)count, plain /= (double)count;
     snprintf(text, sizeof text, "%s: write with its landings, a stripe", name);
-    line(text, ours, plain, 0.4);
+    line(text, ours, plain, is_small() ? 0.1 : 0.75);
     snprintf(text, sizeof text, "%s: without the state's bytes", name);
     line(text, ours - bytes, plain, 0);
     printf("  %-44s %12.0f ns\n", "the state's bytes, read and written, a call", bytes / (double)(2 * box.n - 1));
@@ -141,7 +144,7 @@ static void reads(const char *name, const size_t v[6]) {
     snprintf(text, sizeof text, "%s: healthy read (C: copy of a block)", name);
     line(text, healthy, copy, 0);
     snprintf(text, sizeof text, "%s: degraded read", name);
-    line(text, ours, plain, 0.5);
+    line(text, ours, plain, is_small() ? 0 : 0.9);
 }
 
 static void rebuilds(const char *name, const size_t v[6]) {
@@ -161,7 +164,7 @@ static void rebuilds(const char *name, const size_t v[6]) {
         must("rebuild", sorgizhed_rebuild(SORGIZHED_LENT(&box), 1, SORGIZHED_NO_LIMIT), SORGIZHED_REBUILT);
     }
     snprintf(text, sizeof text, "%s: rebuild", name);
-    line(text, ours, plain, 0.5);
+    line(text, ours, plain, is_small() ? 0 : 0.9);
 }
 
 static void restarts(const char *name, const size_t v[6]) {
@@ -179,7 +182,7 @@ static void restarts(const char *name, const size_t v[6]) {
         plain = least(plain, now() - t);
     }
     snprintf(text, sizeof text, "%s: restart, %zu blocks", name, blocks);
-    line(text, ours, plain, 0.4);
+    line(text, ours, plain, is_small() ? 0 : box.b == 64 ? 0.8 : 0.7);
     printf("  %-44s %12.1f ns a block\n", "", ours / (double)blocks);
 }
 
@@ -203,7 +206,7 @@ static void reclaims(const char *name, const size_t v[6]) {
     }
     free(state), free(pointers), free(inflight);
     snprintf(text, sizeof text, "%s: reclaim, a table of %zu%s", name, box.l, found == 1 ? " " : "");
-    line(text, ours, plain, 0.4);
+    line(text, ours, plain, 0);
 }
 
 /* what must not grow with Z, S or L */
