@@ -1,6 +1,6 @@
 -- What is so where no check of a landing holds (01, Landing; Refusals). Assumes nothing.
-use mathlib.Core.Path.{_≡_, refl, sym, ap, _∙_, subst}
-use mathlib.Core.List.{List, [], _∷_, _++_, map}
+use mathlib.Core.Path.{_≡_, sym, ap, _∙_, subst}
+use mathlib.Core.List.{List, [], _∷_, map}
 use mathlib.Core.Bool.{Bool, true, false, cond, not, _&&_, _||_}
 use Prim.Native.Nat.{ℕ, zero, suc, _+_, _-_, _^_, _≤_, _<_}
 use lib.Arith.{lt-of-le-ne}
@@ -13,23 +13,22 @@ use lib.Count.{ones}
 use Rattle.spec.specs.declared.Params.{Params}
 use Rattle.spec.specs.declared.State.{State}
 use Rattle.spec.specs.declared.Answer.{Answer}
-use Rattle.spec.specs.Calls.Check.{rule, zones}
-use Rattle.spec.specs.Calls.{Check, firstRefusal}
+use Rattle.spec.specs.Calls.{firstRefusal}
 use Rattle.spec.specs.Drives.{View, pointerAt, Disk, pointerOf, zoneOn}
 use Rattle.spec.specs.Engine.{lentOk}
 use Rattle.spec.specs.Landing.{slotOf, ready as isReady, waiting, completes, seals, misplaced, overfull, entryFaults, landFaults, landChecks}
 use Rattle.spec.specs.Layout.{group, Rec}
 use Rattle.spec.specs.Lists.{Opt, upFrom, below, all, any, consIf, flat, isIn}
 use Rattle.spec.specs.Lists.Opt.{none}
-use Rattle.spec.specs.Memory.{Memory, slotCount, slots, cell, stripeIn, filledIn, landedIn, entryIn, entriesIn, offsetIn, openSegment, slotOk, stateOk, stateFaults, markLanded, placeAt}
+use Rattle.spec.specs.Memory.{Memory, slotCount, slots, cell, stripeIn, filledIn, landedIn, entryIn, entriesIn, offsetIn, openSegment, slotOk, stateOk, markLanded, placeAt}
 use Rattle.spec.specs.Params.{between, dataCount, inRange, footers, capacity, addressesLen, compactLen, inflightLen, placeBlock, placeZone, placeDrive, drivesOf}
 use Rattle.spec.specs.Read.{placeFaults}
 use Rattle.law_basic.specs.Geometry.{between-low, between-high, ranged as rangedIn, zone-on-lt}
 use Rattle.law_basic.specs.Ranges.{Test, test, and-left, and-right, all-getD, all-in-below, or-false, any-false}
 use Rattle.law_basic.specs.Ranges.Test.{yes!, no! }
 use Rattle.law_views.specs.Views.{Whole, pointer-view, seen}
-use Rattle.law_calls.specs.Refusals.{rule-free, zones-free, state-free}
 use Rattle.law_drives.specs.Members.{if-none}
+use Rattle.law_checks.specs.Passed.{nil-both, land-passed}
 use Rattle.call_land_faults.specs.Lowest.{entry-placed}
 use Rattle.call_land_table.specs.Winners.{IsData, Sane, Sound}
 use Rattle.call_write.specs.Ready.{lent-long}
@@ -49,10 +48,6 @@ pub record Ready (p : Params) (k : Disk) (m : Memory) (d s : ℕ) : Type 0 where
   pub fine : stateOk p (m .state) ≡ true
   pub faultless : landFaults p (seen p k) m d s ≡ []
 
-append-none : (xs ys : List ℕ) → (xs ++ ys) ≡ [] → (xs ≡ []) × (ys ≡ [])
-append-none [] ys e = (refl, e)
-append-none (x ∷ xs) ys e = absurd (let z : _≡_ {A = ℕ} (suc (length (xs ++ ys))) 0 = ap length e in let w : ⊥ = omega arith in w)
-
 -- 01, Refusals, 5: what a chunk that waits says
 pub waits-low : (p : Params) (st : State) (d s : ℕ) → waiting p st d s ≡ true → (d < p .N) × (slotOf st s < 8)
 unfolding waiting slotCount
@@ -62,33 +57,20 @@ waits-low p st d s e =
     (ltb-true d (p .N) (and-left (ltb d (p .N)) (ltb i 8) w), ltb-true i 8 (and-right (ltb d (p .N)) (ltb i 8) w))
 
 pub ready : (p : Params) (k : Disk) (m : Memory) (d s : ℕ) → refusal p k m d s ≡ none → Ready p k m d s
-unfolding landChecks
 ready p k m d s e =
-    let st = m .state in
-    let long = lentOk p k m in
-    let zs = landFaults p (seen p k) m d s in
-    let r₉ : List Check = zones (stateFaults p st ++ zs) ∷ [] in
-    let r₅ : List Check = rule 5 (not (waiting p st d s)) ∷ r₉ in
-    let r₃ : List Check = rule 3 (not (eqb (st .missing) 0)) ∷ r₅ in
-    let r₂ : List Check = rule 2 (not long) ∷ r₃ in
-    let f₁ = rule-free 1 (not (inRange p)) r₂ e in
-    let f₂ = rule-free 2 (not long) r₃ (f₁ .1) in
-    let f₃ = rule-free 3 (not (eqb (st .missing) 0)) r₅ (f₂ .1) in
-    let f₅ = rule-free 5 (not (waiting p st d s)) r₉ (f₃ .1) in
-    let f₉ = zones-free (stateFaults p st ++ zs) [] (f₅ .1) in
-    let n = append-none (stateFaults p st) zs (f₉ .0) in
-    let l = lent-long p k m (not-false long (f₂ .0)) in
-    let w = waits-low p st d s (not-false (waiting p st d s) (f₅ .0)) in
+    let c = land-passed p (lentOk p k m) (seen p k) m d s e in
+    let l = lent-long p k m (c .lent) in
+    let w = waits-low p (m .state) d s (c .waits) in
     record {
-      ranged = not-false (inRange p) (f₁ .0);
+      ranged = c .in-range;
       whole = record { image-long = l .0; pointers-long = l .1 };
       addresses-long = l .2;
       compact-long = l .3;
       inflight-long = l .4;
       drive-low = w .0;
       slot-low = w .1;
-      fine = state-free p st (n .0);
-      faultless = n .1;
+      fine = c .state-fine;
+      faultless = c .chunk-fine;
     }
 
 -- ---- what a state in range says
@@ -147,7 +129,7 @@ flat-nothing : {A : Type 0} (f : A → List ℕ) (g : ℕ → A) (i n k : ℕ) �
 unfolding upFrom flat
 flat-nothing f g i zero k e h l = absurd (let w : ⊥ = omega arith in w)
 flat-nothing {A} f g i (suc n) k e h l =
-    let w = append-none (f (g i)) (flat f (map g (upFrom (suc i) n))) e in
+    let w = nil-both (f (g i)) (flat f (map g (upFrom (suc i) n))) e in
     go (ℕ-discrete i k) (w .0) (λ x. flat-nothing f g (suc i) n k (w .1) x (omega arith))
   where
     go : Dec (i ≡ k) → f (g i) ≡ [] → (suc i ≤ k → f (g k) ≡ []) → f (g k) ≡ []

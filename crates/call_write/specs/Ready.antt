@@ -1,13 +1,12 @@
 -- What is so where no check of a write holds (01, Write; Refusals). Assumes nothing.
 use Prim.Native.Nat.{ℕ, suc, _≤_, _<_}
-use Rattle.spec.specs.Calls.{Check, firstRefusal}
-use Rattle.spec.specs.Calls.Check.{rule, zones}
+use Rattle.spec.specs.Calls.{firstRefusal}
 use Rattle.spec.specs.Counts.{lastCount, aStamp}
 use Rattle.spec.specs.Drives.{View, Disk, emptyZones}
 use Rattle.spec.specs.Engine.{lentOk}
 use Rattle.spec.specs.Lists.{Opt}
 use Rattle.spec.specs.Lists.Opt.{none}
-use Rattle.spec.specs.Memory.{Memory, stateFaults}
+use Rattle.spec.specs.Memory.{Memory}
 use Rattle.spec.specs.Params.{inRange, imageLen, pointersLen, addressesLen, compactLen, inflightLen}
 use Rattle.spec.specs.Write.{opens, noStamp, noSerial, mustWait, scarce, writeChecks}
 use Rattle.spec.specs.declared.Answer.{Answer}
@@ -16,17 +15,18 @@ use Rattle.spec.specs.declared.Params.{Params}
 use Rattle.call_filling.specs.Entries.{SentRow, sentRow}
 use Rattle.call_filling.specs.declared.Aim.{Aim}
 use Rattle.call_filling.specs.declared.Opened.{Opened}
-use Rattle.law_basic.specs.Ranges.{and-left, and-right, and-both, not-both, or-false}
-use Rattle.law_calls.specs.Refusals.{rule-free, zones-free, state-free, next-low}
+use Rattle.law_calls.specs.Refusals.{next-low}
+use Rattle.law_basic.specs.Ranges.{and-left, and-right, and-both, not-both}
+use Rattle.law_checks.specs.Passed.{write-passed}
 use Rattle.mem_rows.specs.declared.Change.{Change}
 use Rattle.mem_rows.specs.declared.Front.{Front}
 use Rattle.mem_rows.specs.declared.Row.{Row}
 use Rattle.law_views.specs.Views.{Whole, seen}
-use borrow.Author.Tests.{leb-false, eqb-true, eqb-false, eq-eqb, not-false}
-use lib.Dec.{leb, eqb}
+use borrow.Author.Tests.{leb-false, eqb-true, eqb-false, eq-eqb}
+use lib.Dec.{eqb}
 use lib.ListN.{length}
-use mathlib.Core.Bool.{Bool, true, false, cond, not, _&&_, _||_}
-use mathlib.Core.List.{List, [], _∷_}
+use mathlib.Core.Bool.{Bool, true, false, cond, not, _&&_}
+use mathlib.Core.List.{List}
 use mathlib.Core.Path.{_≡_}
 use native.Mathlib.Omega.{arith}
 
@@ -78,44 +78,24 @@ reserve-low true = omega arith
 reserve-low false = omega arith
 
 pub ready : (p : Params) (k : Disk) (m : Memory) (a : ℕ) (b : List ℕ) → refusal p k m a b ≡ none → Ready p k m b
-unfolding writeChecks noStamp noSerial
+unfolding noStamp noSerial
 ready p k m a b e =
     let st = m .state in
-    let long = lentOk p k m in
     let v = seen p k in
-    let c₂ = not long || not (eqb (length b) (p .B)) in
-    let c₆ = noStamp st || noSerial p st in
-    let c₈ = scarce p v (cond (opens p st) 2 1) in
-    let r₉ : List Check = zones (stateFaults p st) ∷ [] in
-    let r₈ : List Check = rule 8 c₈ ∷ r₉ in
-    let r₇ : List Check = rule 7 (mustWait p st) ∷ r₈ in
-    let r₆ : List Check = rule 6 c₆ ∷ r₇ in
-    let r₄ : List Check = rule 4 (leb (p .L) a) ∷ r₆ in
-    let r₃ : List Check = rule 3 (not (eqb (st .missing) 0)) ∷ r₄ in
-    let r₂ : List Check = rule 2 c₂ ∷ r₃ in
-    let f₁ = rule-free 1 (not (inRange p)) r₂ e in
-    let f₂ = rule-free 2 c₂ r₃ (f₁ .1) in
-    let f₃ = rule-free 3 (not (eqb (st .missing) 0)) r₄ (f₂ .1) in
-    let f₄ = rule-free 4 (leb (p .L) a) r₆ (f₃ .1) in
-    let f₆ = rule-free 6 c₆ r₇ (f₄ .1) in
-    let f₇ = rule-free 7 (mustWait p st) r₈ (f₆ .1) in
-    let f₈ = rule-free 8 c₈ r₉ (f₇ .1) in
-    let f₉ = zones-free (stateFaults p st) [] (f₈ .1) in
-    let o₂ = or-false (not long) (not (eqb (length b) (p .B))) (f₂ .0) in
-    let o₆ = or-false (eqb (st .stamp .0) lastCount) (opens p st && eqb (st .serial .0) lastCount) (f₆ .0) in
-    let l = lent-long p k m (not-false long (o₂ .0)) in
+    let c = write-passed p (lentOk p k m) v m a b e in
+    let l = lent-long p k m (c .lent) in
     record {
-      ranged = not-false (inRange p) (f₁ .0);
+      ranged = c .in-range;
       whole = record { image-long = l .0; pointers-long = l .1 };
       addresses-long = l .2;
       compact-long = l .3;
       inflight-long = l .4;
-      block-long = eqb-true (length b) (p .B) (not-false (eqb (length b) (p .B)) (o₂ .1));
-      stamp-left = eqb-false (st .stamp .0) lastCount (o₆ .0);
-      serial-left = λ q s. not-both (opens p st && eqb (st .serial .0) lastCount) (and-both (opens p st) (eqb (st .serial .0) lastCount) q (eq-eqb (st .serial .0) lastCount s)) (o₆ .1);
-      waits = f₇ .0;
-      empties = enough p v (cond (opens p st) 2 1) (reserve-low (opens p st)) (f₈ .0);
-      next-high = next-low p st (state-free p st (f₉ .0));
+      block-long = c .block-long;
+      stamp-left = eqb-false (st .stamp .0) lastCount (c .stamp-left);
+      serial-left = λ q s. not-both (opens p st && eqb (st .serial .0) lastCount) (and-both (opens p st) (eqb (st .serial .0) lastCount) q (eq-eqb (st .serial .0) lastCount s)) (c .serial-left);
+      waits = c .no-wait;
+      empties = enough p v (cond (opens p st) 2 1) (reserve-low (opens p st)) (c .room);
+      next-high = next-low p st (c .state-fine);
     }
 
 -- 01, Write: the block sent with the next stamp

@@ -1,6 +1,6 @@
 -- What a restart's or rebuild's check of the drives gives.
 use mathlib.Core.Path.{_≡_, refl, sym, ap, ap₂, _∙_, subst}
-use mathlib.Core.List.{List, [], _∷_, _++_, map}
+use mathlib.Core.List.{List, [], _∷_, map}
 use mathlib.Core.Bool.{true, false, not, _&&_, _||_}
 use Prim.Native.Nat.{ℕ, zero, suc, _+_, _≤_, _<_}
 use native.Mathlib.Nat.{add-zero, zero-add}
@@ -9,34 +9,22 @@ use native.Mathlib.Omega.{arith}
 use lib.Dec.{leb, ltb, eqb}
 use lib.ListN.{length, getD}
 use Rattle.spec.specs.declared.Params.{Params}
-use Rattle.spec.specs.Calls.{Check}
 use Rattle.spec.specs.Drives.{View, zoneAt, pointerAt, sealedIn}
-use Rattle.spec.specs.Faults.{pointerFaults, headerFault, serialFault, outside, twice, stripeFault, addressFault, footerFault, clashes, segmentFault, segmentFaults, imageChecks, sameBlocks}
+use Rattle.spec.specs.Faults.{pointerFaults, headerFault, serialFault, outside, twice, stripeFault, addressFault, footerFault, clashes, segmentFault, segmentFaults, sameBlocks}
 use Rattle.spec.specs.Layout.{inGroupOf, Rec, mkRec}
-use Rattle.spec.specs.Lists.{below, any, keep, isNil, isIn, sameList}
+use Rattle.spec.specs.Lists.{below, any, keep, isIn, sameList}
 use Rattle.spec.specs.Params.{capacity, present}
 use Rattle.spec.specs.Segments.{remaining, Segment, recordsIn, segmentOf, segments, recsOn}
 use Rattle.law_basic.specs.Ranges.{and-both, and-left, and-right, sameList-true}
-use Rattle.law_drives.specs.Checks.{Passes}
 use Rattle.law_drives.specs.Members.{In, in-map, none-in, keep-nil-in, in-below}
 use Rattle.law_drives.specs.Segs.{in-present, length-records, record-at, recs-here, seg-is}
 use Rattle.law_drives.specs.Spots.{InGroups}
-use Rattle.law_drives.specs.Tests.{clash, or-left, or-right, cond-true, or-neither, false-true}
+use Rattle.law_drives.specs.Tests.{clash, or-left, or-right, or-neither, false-true}
 
 -- nothing is wrong on the drives
 pub record Accepted (p : Params) (v : View) (gone : ℕ) : Type 0 where
   pub pointers-ok : pointerFaults p v gone ≡ []
   pub segments-ok : segmentFaults p gone (segments p v gone) ≡ []
-
-pub accepted-of : (p : Params) (v : View) (gone : ℕ) (cs : List Check) → Passes (imageChecks p v gone (segments p v gone) ++ cs) → Accepted p v gone × Passes cs
-unfolding imageChecks isNil
-accepted-of p v gone cs (a, (b, c)) =
-    (record { pointers-ok = a; segments-ok = sym (cond-true (isNil (pointerFaults p v gone)) (segmentFaults p gone (segments p v gone)) [] (ap isNil a)) ∙ b }, c)
-
-pub checks-of : (p : Params) (v : View) (gone : ℕ) → Accepted p v gone → Passes (imageChecks p v gone (segments p v gone))
-unfolding imageChecks isNil
-checks-of p v gone a =
-    (a .pointers-ok, (cond-true (isNil (pointerFaults p v gone)) (segmentFaults p gone (segments p v gone)) [] (ap isNil (a .pointers-ok)) ∙ a .segments-ok, tt))
 
 pub map-nil : {A B : Type 0} (f : A → B) (l : List A) → map f l ≡ [] → l ≡ []
 map-nil f [] q = refl

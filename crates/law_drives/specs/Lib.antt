@@ -1,5 +1,4 @@
 pub mod Tests
-pub mod Checks
 pub mod Members
 pub mod Segs
 pub mod Range

@@ -1,55 +1,54 @@
 -- The NVMe zone rules: the stores that a call's verdict makes due have room, whatever the bytes; a cut call makes the first of them. Assumes nothing.
 use mathlib.Core.Path.{_≡_, refl, sym, ap, _∙_, subst}
-use mathlib.Core.List.{List, [], _∷_}
-use mathlib.Core.Bool.{Bool, true, false, cond, not, _&&_}
+use mathlib.Core.List.{List, []}
+use mathlib.Core.Bool.{Bool, true, false, cond, _&&_}
 use mathlib.Core.Logic.{_⊎_, inl, inr}
 use Prim.Native.Nat.{ℕ, suc, _-_, _≤_, _<_}
 use native.Mathlib.Decide.{decLe, ℕ-discrete}
-use borrow.Author.Tests.{ne-eqb, ltb-true, not-false}
+use borrow.Author.Tests.{ne-eqb}
 use native.Mathlib.Omega.{arith}
-use lib.Dec.{ltb, eqb}
+use lib.Dec.{eqb}
 use lib.ListN.{length, take}
+use Rattle.spec.specs.Lists.Opt.{none}
 use Rattle.spec.specs.declared.Params.{Params}
 use Rattle.spec.specs.declared.Answer.the-variants.{Rebuilt}
 use Rattle.spec.specs.Calls.{Check, firstRefusal, Plan, mkPlan, Verdict, decided}
-use Rattle.spec.specs.Calls.Check.{rule}
 use Rattle.spec.specs.Calls.Verdict.{refused, due}
-use Rattle.spec.specs.Counts.{lastCount}
 use Rattle.spec.specs.Drives.{View, zoneAt, chunkAt, Store, Disk, storeDisk, storeAll, placeSegment, recordAt}
 use Rattle.spec.specs.Engine.{Call, storeCount, verdict, lentOk, Lent, Left, lentDisk, lentMemory, lentAll, callBytes}
 use Rattle.spec.specs.Engine.Call.{write, land, close, reclaim, read, fill, restart, rebuild}
-use Rattle.spec.specs.Landing.{waiting, landFaults, landChecks, landPlan, landVerdict}
+use Rattle.spec.specs.Landing.{landChecks, landPlan, landVerdict}
 use Rattle.spec.specs.Lists.{Opt, isNil, firstOr}
-use Rattle.spec.specs.Memory.{Memory, stateLen, stateFaults}
+use Rattle.spec.specs.Memory.{Memory, stateLen}
 use Rattle.spec.specs.Params.{inRange, placeBlock, placeZone, placeDrive, named}
-use Rattle.spec.specs.Rebuild.{namesMissing, rebuildChecks, rebuildStores, rebuildVerdict}
+use Rattle.spec.specs.Rebuild.{rebuildChecks, rebuildStores, rebuildVerdict}
 use Rattle.spec.specs.Reclaim.{Victim, victim, isNone, victimSegment, victimLive, idle, reclaimChecks, resetPlan, copyPlan, reclaimVerdict}
-use Rattle.spec.specs.Restart.{freeZones, restartStores, namesDrive, rewrites, restartChecks, restartPlan, restartVerdict}
-use Rattle.spec.specs.Segments.{segments, greatestSerial}
+use Rattle.spec.specs.Restart.{freeZones, restartStores, rewrites, restartChecks, restartPlan, restartVerdict}
+use Rattle.spec.specs.Segments.{segments}
 use Rattle.spec.specs.Write.{opens, scarce, writeChecks, writePlan, writeVerdict}
 use Rattle.law_basic.specs.Geometry.{Ranged, ranged}
 use Rattle.law_basic.specs.Ranges.{Test, test, and-left}
 use Rattle.law_basic.specs.Ranges.Test.{yes!, no! }
 use Rattle.spec_demands.specs.Answering.{canStore, withCount, cutLeft}
 use Rattle.spec_demands.specs.Rules.{ObeyAll, ZoneRules}
-use Rattle.law_drives.specs.Accept.{Accepted, accepted-of}
-use Rattle.law_drives.specs.Checks.{Passes, Decided, decide}
-use Rattle.law_drives.specs.Checks.Decided.{stops, goes}
+use Rattle.law_drives.specs.Accept.{Accepted}
+use Rattle.law_checks.specs.Checks.{Decided, decide}
+use Rattle.law_checks.specs.Passed.{write-passed, land-passed, reclaim-passed, restart-passed, rebuild-passed}
+use Rattle.law_checks.specs.Checks.Decided.{stops, goes}
 use Rattle.law_drives.specs.Image.{sized-of}
 use Rattle.law_drives.specs.Lengths.{lengths-of, whole-of}
 use Rattle.law_drives.specs.Range.{capacity-word}
-use Rattle.law_drives.specs.Tests.{clash, or-left, or-right}
+use Rattle.law_drives.specs.Tests.{clash}
 use Rattle.law_drives.specs.Zones.{Sized}
 use Rattle.proof_tables.specs.Reclaiming.{taken}
 use Rattle.law_views.specs.Views.{Whole, seen}
-use Rattle.law_drives.specs.Members.{nil-left}
-use Rattle.proof_tables.specs.Sending.{plenty}
 use Rattle.proof_answers.specs.Answered.{dueOf, long, decidedBy, due-stores}
 use Rattle.proof_answers.specs.Lengths.{Fair, fair-of}
 use Rattle.proof_answers.specs.Rebuilt.{rebuild-able}
 use Rattle.proof_answers.specs.Restarted.{restart-able}
 use Rattle.proof_answers.specs.Rising.{Able, able-none, able-fits, obey-all, obey-take}
 use Rattle.proof_answers.specs.Sent.{resets-able, sending-able, land-able}
+use Rattle.proof_tables.specs.Sending.{plenty}
 use Rattle.proof_answers.specs.Verdicts.{Says, says, own-count}
 use Rattle.proof_answers.specs.Verdicts.Says.{says-no, says-yes}
 
@@ -88,17 +87,17 @@ module _ (p : Params) (l : Lent) (c : Call) where
     pub fair : (d z : ℕ) → d < p .N → z < p .Z → Fair p (zoneAt v d z)
     pub sized : Sized p v
 
-  ready : not (inRange p) ≡ false → not lo ≡ false → Ready
+  ready : inRange p ≡ true → lo ≡ true → Ready
   ready a b =
-      let e = and-left (lentOk p k m) (eqb (length (l .state)) stateLen) (not-false lo b) in
+      let e = and-left (lentOk p k m) (eqb (length (l .state)) stateLen) b in
       let w = whole-of p k m e in
-      record { in-range = ranged p (not-false (inRange p) a); lent-ok = e; whole = w; fair = fair-of p k w; sized = sized-of p k w }
+      record { in-range = ranged p a; lent-ok = e; whole = w; fair = fair-of p k w; sized = sized-of p k w }
 
   obeyed : Ready → (ss : List Store) → Able p v ss → ObeyAll p k ss
   obeyed h ss a = obey-all p k ss (capacity-word p (h .in-range)) (h .whole) (able-fits p v ss (h .sized) a)
 
   -- the stores of what is decided
-  obeys-of : (cs : List Check) (q : Plan) → (Passes cs → ObeyAll p k (q .stores)) → ObeyAll p k (dueOf (decided (firstRefusal cs) q))
+  obeys-of : (cs : List Check) (q : Plan) → (firstRefusal cs ≡ none → ObeyAll p k (q .stores)) → ObeyAll p k (dueOf (decided (firstRefusal cs) q))
   obeys-of cs q f = go (decide cs q)
     where
       go : Decided cs q (decided (firstRefusal cs) q) → ObeyAll p k (dueOf (decided (firstRefusal cs) q))
@@ -111,25 +110,24 @@ module _ (p : Params) (l : Lent) (c : Call) where
   unfolding writeVerdict
   write-obeys a b = obeys-of (writeChecks p lo v m a b) (writePlan p v m a b) go
     where
-      go : Passes (writeChecks p lo v m a b) → ObeyAll p k (writePlan p v m a b .stores)
-      go i = unfold writeChecks writePlan in
-          (let (c1, (c2, (c3, (c4, (c6, (c7, (c8, c9))))))) = i in
-          let h = ready c1 (or-left (not lo) (not (eqb (length b) (p .B))) c2) in
+      go : firstRefusal (writeChecks p lo v m a b) ≡ none → ObeyAll p k (writePlan p v m a b .stores)
+      go i = unfold writePlan in
+          (let c = write-passed p lo v m a b i in
+          let h = ready (c .in-range) (c .lent) in
           let st = m .state in
           obeyed h (writePlan p v m a b .stores)
-          (sending-able p (h .in-range) v st (m .inflight) a (suc (st .stamp .0)) 1 b (λ q. plenty p v (cond (opens p st) 2 1) c8)))
+          (sending-able p (h .in-range) v st (m .inflight) a (suc (st .stamp .0)) 1 b (λ q. plenty p v (cond (opens p st) 2 1) (c .room))))
 
   land-obeys : (d s : ℕ) → ObeyAll p k (dueOf (landVerdict p lo v m d s))
   unfolding landVerdict
   land-obeys d s = obeys-of (landChecks p lo v m d s) (landPlan p v m d s) go
     where
-      go : Passes (landChecks p lo v m d s) → ObeyAll p k (landPlan p v m d s .stores)
-      go i = unfold landChecks in
-          (let (c1, (c2, (c3, (c5, (c9, c))))) = i in
-          let h = ready c1 c2 in
+      go : firstRefusal (landChecks p lo v m d s) ≡ none → ObeyAll p k (landPlan p v m d s .stores)
+      go i =
+          let c = land-passed p lo v m d s i in
+          let h = ready (c .in-range) (c .lent) in
           obeyed h (landPlan p v m d s .stores)
-          (land-able p (h .in-range) v (h .sized) (h .fair) m (lengths-of p k m (h .lent-ok) .inflight-ok) d s (not-false (waiting p (m .state) d s) c5)
-          (nil-left (stateFaults p (m .state)) (landFaults p v m d s) c9 .1)))
+          (land-able p (h .in-range) v (h .sized) (h .fair) m (lengths-of p k m (h .lent-ok) .inflight-ok) d s (c .waits) (c .chunk-fine))
 
   abbrev taking : Opt Victim
   taking = victim p v (m .addresses)
@@ -147,52 +145,45 @@ module _ (p : Params) (l : Lent) (c : Call) where
       reset-able : Ready → isNone taking ≡ false → Able p v (resetting .stores)
       reset-able h q = unfold resetPlan in resets-able p (h .in-range) v (victimSegment taking) (taken p v (m .addresses) q .taken-low)
 
-      copy-able : Ready → opens p (m .state) && scarce p v 1 ≡ false → Able p v (copying .stores)
+      copy-able : Ready → (opens p (m .state) ≡ true → scarce p v 1 ≡ false) → Able p v (copying .stores)
       copy-able h c8 = unfold copyPlan in
           (let q = firstOr 0 (idle p v (m .state) taking) in
           let n = recordAt p v 0 (placeDrive p q) (placeSegment p q) (placeBlock p q - 1) in
           sending-able p (h .in-range) v (m .state) (m .inflight) (n .address) (n .stamp) 0 (chunkAt v (placeDrive p q) (placeZone p q) (placeBlock p q) .block)
-          (λ e. plenty p v 1 (sym (ap (λ (b : Bool). b && scarce p v 1) e) ∙ c8)))
+          (λ e. plenty p v 1 (c8 e)))
 
-      go : Passes (reclaimChecks p lo v m taking) → ObeyAll p k (cond (isNil (victimLive taking)) resetting copying .stores)
-      go i = unfold reclaimChecks in
-          (let (c1, (c2, (c3, (c5, (c6, (c7, (c8, c9))))))) = i in
-          let none = isNil (victimLive taking) in
-          let h = ready c1 c2 in
-          let q5 = or-left (isNone taking) (not none && isNil (idle p v (m .state) taking)) c5 in
-          obeyed h (cond none resetting copying .stores) (either h q5 (test none) c8))
+      go : firstRefusal (reclaimChecks p lo v m taking) ≡ none → ObeyAll p k (cond (isNil (victimLive taking)) resetting copying .stores)
+      go i =
+          let c = reclaim-passed p lo v m taking i in
+          let h = ready (c .in-range) (c .lent) in
+          obeyed h (cond (isNil (victimLive taking)) resetting copying .stores) (either h (c .taken) (test (isNil (victimLive taking))) (c .room))
         where
-          either : Ready → isNone taking ≡ false → Test (isNil (victimLive taking)) → not (isNil (victimLive taking)) && opens p (m .state) && scarce p v 1 ≡ false
+          either : Ready → isNone taking ≡ false → Test (isNil (victimLive taking)) → (isNil (victimLive taking) ≡ false → opens p (m .state) ≡ true → scarce p v 1 ≡ false)
               → Able p v (cond (isNil (victimLive taking)) resetting copying .stores)
           either h q5 (yes! e) c8 = rw e (reset-able h q5)
-          either h q5 (no! e) c8 = rw e (copy-able h (sym (ap (λ (b : Bool). not b && opens p (m .state) && scarce p v 1) e) ∙ c8))
+          either h q5 (no! e) c8 = rw e (copy-able h (c8 e))
 
   restart-obeys : (d : ℕ) → ObeyAll p k (dueOf (restartVerdict p lo v m d))
   unfolding restartVerdict
   restart-obeys d = obeys-of (restartChecks p lo v d (segments p v (named d))) (restartPlan p v d (segments p v (named d)) (m .inflight)) go
     where
-      go : Passes (restartChecks p lo v d (segments p v (named d))) → ObeyAll p k (restartPlan p v d (segments p v (named d)) (m .inflight) .stores)
-      go i = unfold restartChecks restartPlan in
-          (let (c1, (c2, rest)) = i in
-          let gs = segments p v (named d) in
-          let h = ready (or-left (not (inRange p)) (not (namesDrive p d)) c1) c2 in
-          let (acc, (c6, (c8, c))) = accepted-of p v (named d)
-          (rule 6 (rewrites p (named d) gs && eqb (greatestSerial gs) lastCount) ∷ rule 8 (rewrites p (named d) gs && isNil (freeZones p gs)) ∷ []) rest in
-          obeyed h (restartStores p (named d) gs) (restarting p (h .in-range) v (h .fair) (named d) acc c8))
+      go : firstRefusal (restartChecks p lo v d (segments p v (named d))) ≡ none → ObeyAll p k (restartPlan p v d (segments p v (named d)) (m .inflight) .stores)
+      go i = unfold restartPlan in
+          (let gs = segments p v (named d) in
+          let c = restart-passed p lo v d gs i in
+          let h = ready (c .in-range) (c .lent) in
+          let acc : Accepted p v (named d) = record { pointers-ok = c .pointers-fine; segments-ok = c .segments-fine } in
+          obeyed h (restartStores p (named d) gs) (restarting p (h .in-range) v (h .fair) (named d) acc (c .zone-left)))
 
   rebuild-obeys : (d : ℕ) → ObeyAll p k (dueOf (rebuildVerdict p lo v m d))
   unfolding rebuildVerdict
   rebuild-obeys d = obeys-of (rebuildChecks p lo v m d (segments p v (named d))) (mkPlan (rebuildStores p d (segments p v (named d))) Rebuilt m []) go
     where
-      low : namesMissing p (m .state) d ≡ true → d < p .N
-      low q = unfold namesMissing in ltb-true d (p .N) (and-left (ltb d (p .N)) (eqb (m .state .missing) (named d)) q)
-
-      go : Passes (rebuildChecks p lo v m d (segments p v (named d))) → ObeyAll p k (rebuildStores p d (segments p v (named d)))
-      go i = unfold rebuildChecks in
-          (let (c1, (c2, rest)) = i in
-          let h = ready (or-left (not (inRange p)) (not (namesMissing p (m .state) d)) c1) c2 in
-          let hd = low (not-false (namesMissing p (m .state) d) (or-right (not (inRange p)) (not (namesMissing p (m .state) d)) c1)) in
-          obeyed h (rebuildStores p d (segments p v (named d))) (rebuild-able p (h .in-range) v (h .fair) d hd))
+      go : firstRefusal (rebuildChecks p lo v m d (segments p v (named d))) ≡ none → ObeyAll p k (rebuildStores p d (segments p v (named d)))
+      go i =
+          let c = rebuild-passed p lo v m d (segments p v (named d)) i in
+          let h = ready (c .in-range) (c .lent) in
+          obeyed h (rebuildStores p d (segments p v (named d))) (rebuild-able p (h .in-range) v (h .fair) d (c .drive-low))
 
   -- 01, Store count: a call that cannot store
   still-obeys : canStore c ≡ false → ObeyAll p k (dueOf (decidedBy p l c))

@@ -35,8 +35,8 @@ use Rattle.spec.specs.Write.{writeChecks, writePlan, writeVerdict}
 use Rattle.law_basic.specs.Ranges.{and-left, and-right, member-all}
 use Rattle.law_basic.specs.Stores.{refused-same, done-all}
 use Rattle.spec_demands.specs.Answering.{refusalsOf, resultsOf, canStore, refusalNumber, withCount}
-use Rattle.law_drives.specs.Checks.{Decided, decide}
-use Rattle.law_drives.specs.Checks.Decided.{stops, goes}
+use Rattle.law_checks.specs.Checks.{Decided, decide}
+use Rattle.law_checks.specs.Checks.Decided.{stops, goes}
 use Rattle.law_views.specs.Views.{seen}
 use Rattle.law_calls.specs.Refusals.{refusal-kind}
 

@@ -4,11 +4,13 @@ use mathlib.Core.List.{List, [], _∷_, _++_, map}
 use mathlib.Core.Logic.{inl}
 use mathlib.Core.Bool.{Bool, true, false, cond, not, _&&_}
 use Prim.Native.Nat.{ℕ, zero, suc, _+_, _-_, _≤_, _<_}
-use borrow.Author.Tests.{not-false, leb-false, eqb-false}
+use borrow.Author.Tests.{not-false, eqb-false}
 use native.Mathlib.Decide.{decLt}
 use native.Mathlib.Omega.{arith}
 use lib.Dec.{eqb, lit<}
 use lib.ListN.{length, getD, replicate, List·getD-eq-default}
+use Rattle.spec.specs.Lists.Opt.{none}
+use Rattle.spec.specs.Calls.{firstRefusal}
 use Rattle.spec.specs.declared.Params.{Params}
 use Rattle.spec.specs.declared.State.{State}
 use Rattle.spec.specs.Closing.{padded, closeChecks, closePlan}
@@ -17,23 +19,22 @@ use Rattle.spec.specs.Drives.{View, pointerAt, storeView, storeAll, segmentNumb
 use Rattle.spec.specs.Landing.{slotOf, completes, seals, misplaced, overfull, entryFaults, landFaults, landChecks, landPlan}
 use Rattle.spec.specs.Layout.{group}
 use Rattle.spec.specs.Lists.{Opt, below, isNil, firstOr, consIf, flat}
-use Rattle.spec.specs.Memory.{Memory, stateSections, filledIn, freeSlot, fillingSlot, hasFilling, openSegment, entriesIn, stateFaults, setOpen, setClosed, beginStripe, addEntry, markLanded}
+use Rattle.spec.specs.Memory.{Memory, stateSections, filledIn, freeSlot, fillingSlot, hasFilling, openSegment, entriesIn, setOpen, setClosed, beginStripe, addEntry, markLanded}
 use Rattle.spec.specs.Memory.{freeStripe}
-use Rattle.spec.specs.Params.{between, inRange, dataCount, named}
-use Rattle.spec.specs.Reclaim.{Victim, victimSegment, victimLive, reclaimChecks, tableFaults, resetPlan, copyPlan}
+use Rattle.spec.specs.Params.{between, dataCount, named}
+use Rattle.spec.specs.Reclaim.{Victim, victimSegment, victimLive, reclaimChecks, resetPlan, copyPlan}
 use Rattle.spec.specs.Restart.{openOf, nextOf, restartMemory, restartStores, restartChecks, restartPlan}
 use Rattle.spec.specs.Segments.{remaining, Segment, segmentOf, segments, counts, counted, unsealed, candidates, greatestStamp, greatestSerial}
 use Rattle.spec.specs.Write.{opens, noStamp, noSerial, placed, openedBy, slotFor, begunBy, sending, writeChecks, writePlan}
 use Rattle.law_basic.specs.Geometry.{between-high, Ranged, ranged, addresses-all, data-count-high}
 use Rattle.law_basic.specs.Mask.{only-lt}
-use Rattle.law_basic.specs.Ranges.{Test, test, and-left, length-below, length-keep, right-nil}
+use Rattle.law_basic.specs.Ranges.{Test, test, and-left, length-below, length-keep}
 use Rattle.law_basic.specs.Ranges.Test.{yes!, no! }
-use Rattle.law_calls.specs.Refusals.{state-free}
-use Rattle.law_drives.specs.Checks.{Passes}
+use Rattle.law_checks.specs.Passed.{write-passed, land-passed, close-passed, ReclaimPassed, reclaim-passed, restart-passed}
 use Rattle.law_drives.specs.Members.{In, map-in, keep-in, below-in, first-in}
 use Rattle.law_drives.specs.Segs.{remaining-low, seg-is}
+use Rattle.law_drives.specs.Tests.{clash}
 use Rattle.law_drives.specs.States.{StateOk, state-of}
-use Rattle.law_drives.specs.Tests.{clash, or-left, or-right}
 use Rattle.proof_bytes.specs.Sections.{limit, limit-pos, Fits}
 use Rattle.proof_bytes.specs.Changes.{low-set, set-le, fits-stamp, fits-open, fits-closed, fits-begin, fits-add, fits-mark, fits-free, fits-idle}
 use Rattle.proof_bytes.specs.Reads.{Reads, stamps-low, serials-low}
@@ -142,17 +143,17 @@ module _ (p : Params) (long : Bool) (v : View) (m : Memory) (f : Fits (m .state)
       below-last : (x : ℕ) → (x ≡ lastCount → ⊥) → x < limit 3 → suc x < limit 3
       below-last x n b = omega arith
 
-  pub write-fits : (a : ℕ) (b : List ℕ) → Passes (writeChecks p long v m a b) → Fits (writePlan p v m a b .memory .state)
-  unfolding writeChecks writePlan stateSections
-  write-fits a b c =
-      let r = ranged p (not-false (inRange p) (c .0)) in
-      let so = state-of p r st (state-free p st (c .1 .1 .1 .1 .1 .1 .1 .0)) in
-      let six = c .1 .1 .1 .1 .0 in
-      let t = next-stamp (or-left (noStamp st) (noSerial p st) six) in
+  pub write-fits : (a : ℕ) (b : List ℕ) → firstRefusal (writeChecks p long v m a b) ≡ none → Fits (writePlan p v m a b .memory .state)
+  unfolding writePlan stateSections
+  write-fits a b e =
+      let c = write-passed p long v m a b e in
+      let r = ranged p (c .in-range) in
+      let so = state-of p r st (c .state-fine) in
+      let t = next-stamp (c .stamp-left) in
       let q = sending p v st (m .inflight) a (suc (st .stamp .0)) 1 b in
-      let ha : a < limit 10 = let x = leb-false (p .L) a (c .1 .1 .1 .0) in let y = addresses-all p r in omega arith in
+      let ha : a < limit 10 = let x = c .address-low in let y = addresses-all p r in omega arith in
       fits-stamp (q .state)
-      (sending-fits p r v st f (small p st f r so) (next-serial (or-right (noStamp st) (noSerial p st) six)) (m .inflight) a (suc (st .stamp .0)) 1 b ha t (omega arith))
+      (sending-fits p r v st f (small p st f r so) (next-serial (c .serial-left)) (m .inflight) a (suc (st .stamp .0)) 1 b ha t (omega arith))
       (suc (st .stamp .0)) t
 
   -- ---- landing
@@ -170,15 +171,16 @@ module _ (p : Params) (long : Bool) (v : View) (m : Memory) (f : Fits (m .state)
       let b = r .stripes-high in
       omega arith
 
-  pub land-fits : (d s : ℕ) → Passes (landChecks p long v m d s) → Fits (landPlan p v m d s .memory .state)
-  unfolding landChecks landPlan
-  land-fits d s c =
-      let r = ranged p (not-false (inRange p) (c .0)) in
+  pub land-fits : (d s : ℕ) → firstRefusal (landChecks p long v m d s) ≡ none → Fits (landPlan p v m d s .memory .state)
+  unfolding landPlan
+  land-fits d s e =
+      let c = land-passed p long v m d s e in
+      let r = ranged p (c .in-range) in
       let i = slotOf st s in
       let g = openSegment st in
       let o = pointerAt v d (zoneOn g d) - 1 in
       let st₁ = markLanded st i d o in
-      let f₁ = fits-mark st f i d o (placed-low d g s r (off (right-nil (stateFaults p st) (landFaults p v m d s) (c .1 .1 .1 .1 .0)))) in
+      let f₁ = fits-mark st f i d o (placed-low d g s r (off (c .chunk-fine))) in
       go (completes p st i d) (seals p st i d) st₁ i f₁
     where
       off : landFaults p v m d s ≡ [] → misplaced p v d (zoneOn (openSegment st) d) s ≡ false
@@ -208,11 +210,12 @@ module _ (p : Params) (long : Bool) (v : View) (m : Memory) (f : Fits (m .state)
       one-more : filledIn (addEntry x i paddingAddress 0 0) i ≤ suc (filledIn x i)
       one-more = unfold filledIn addEntry in set-le (x .filled) i (suc (getD (x .filled) i 0))
 
-  pub close-fits : Passes (closeChecks p long v m) → Fits (closePlan p m .memory .state)
-  unfolding closeChecks closePlan stateSections
-  close-fits c =
-      let r = ranged p (not-false (inRange p) (c .0)) in
-      let so = state-of p r st (state-free p st (nil-left (stateFaults p st) _ (c .1 .1 .1 .1 .0))) in
+  pub close-fits : firstRefusal (closeChecks p long v m) ≡ none → Fits (closePlan p m .memory .state)
+  unfolding closePlan stateSections
+  close-fits e =
+      let c = close-passed p long v m e in
+      let r = ranged p (c .in-range) in
+      let so = state-of p r st (c .state-fine) in
       let i = fillingSlot p st in
       padded-fits i (dataCount p - filledIn st i) st (m .inflight) f (let a = few (small p st f r so) i in let b = data-count-high p r in omega arith)
     where
@@ -221,22 +224,21 @@ module _ (p : Params) (long : Bool) (v : View) (m : Memory) (f : Fits (m .state)
 
   -- ---- reclaim
 
-  pub reclaim-fits : Reads p v → (w : Opt Victim) (q : ℕ) → Passes (reclaimChecks p long v m w)
+  pub reclaim-fits : Reads p v → (w : Opt Victim) (q : ℕ) → firstRefusal (reclaimChecks p long v m w) ≡ none
       → Fits (cond (isNil (victimLive w)) (resetPlan p m (victimSegment w)) (copyPlan p v m q) .memory .state)
-  unfolding reclaimChecks resetPlan copyPlan recordAt stateSections
-  reclaim-fits h w q c = go (test (isNil (victimLive w)))
+  unfolding resetPlan copyPlan recordAt stateSections
+  reclaim-fits h w q o = go (test (isNil (victimLive w)))
     where
-      serial : isNil (victimLive w) ≡ false → not (isNil (victimLive w)) && noSerial p st ≡ false → noSerial p st ≡ false
-      serial e q = ap (λ (b : Bool). not b && noSerial p st) (sym e) ∙ q
+      c : ReclaimPassed p long v m w
+      c = reclaim-passed p long v m w o
 
       go : Test (isNil (victimLive w)) → Fits (cond (isNil (victimLive w)) (resetPlan p m (victimSegment w)) (copyPlan p v m q) .memory .state)
       go (yes! e) = subst (λ (b : Bool). Fits (cond b (resetPlan p m (victimSegment w)) (copyPlan p v m q) .memory .state)) (sym e) f
       go (no! e) =
-          let r = ranged p (not-false (inRange p) (c .0)) in
-          let ts = tableFaults p (m .addresses) in
-          let so = state-of p r st (state-free p st (nil-left (stateFaults p st) ts (nil-left (stateFaults p st ++ ts) _ (c .1 .1 .1 .1 .1 .1 .1 .0)))) in
+          let r = ranged p (c .in-range) in
+          let so = state-of p r st (c .state-fine) in
           subst (λ (b : Bool). Fits (cond b (resetPlan p m (victimSegment w)) (copyPlan p v m q) .memory .state)) (sym e)
-          (sending-fits p r v st f (small p st f r so) (next-serial (serial e (c .1 .1 .1 .1 .0))) (m .inflight) _ _ 0 _ (h .records-low _ _ _ _ .0) (h .records-low _ _ _ _ .1) (omega arith))
+          (sending-fits p r v st f (small p st f r so) (next-serial (c .serial-left e)) (m .inflight) _ _ 0 _ (h .records-low _ _ _ _ .0) (h .records-low _ _ _ _ .1) (omega arith))
 
 -- ---- restart
 
@@ -281,8 +283,8 @@ idle-fits p r v d fl ht hs =
     low-next (g ∷ gs) = let a = counted-few p g in let b = r .stripes-high in omega arith
 
 pub restart-fits : (p : Params) (long : Bool) (v : View) (d : ℕ) (fl : List ℕ) → Reads p (storeAll storeView (restartStores p (named d) (segments p v (named d))) v)
-    → Passes (restartChecks p long v d (segments p v (named d))) → Fits (restartPlan p v d (segments p v (named d)) fl .memory .state)
-unfolding restartChecks restartPlan stateSections
-restart-fits p long v d fl h c =
+    → firstRefusal (restartChecks p long v d (segments p v (named d))) ≡ none → Fits (restartPlan p v d (segments p v (named d)) fl .memory .state)
+unfolding restartPlan stateSections
+restart-fits p long v d fl h e =
     let u = storeAll storeView (restartStores p (named d) (segments p v (named d))) v in
-    idle-fits p (ranged p (not-false (inRange p) (or-left (not (inRange p)) _ (c .0)))) u d fl (stamps-low p u h (named d)) (serials-low p u h (named d))
+    idle-fits p (ranged p (restart-passed p long v d (segments p v (named d)) e .in-range)) u d fl (stamps-low p u h (named d)) (serials-low p u h (named d))

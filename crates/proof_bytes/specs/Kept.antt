@@ -6,6 +6,7 @@ use Prim.Native.Nat.{ℕ, suc}
 use borrow.Author.Tests.{lt-ltb}
 use lib.Dec.{leb, ltb, eqb}
 use lib.ListN.{length, take}
+use Rattle.spec.specs.Lists.Opt.{none}
 use Rattle.spec.specs.declared.Params.{Params}
 use Rattle.spec.specs.declared.State.{State}
 use Rattle.spec.specs.declared.Answer.{Answer}
@@ -32,8 +33,8 @@ use Rattle.law_calls.specs.Refusals.{refusal-kind, refused-unfinished}
 use Rattle.law_lent.specs.Hosts.{bytes-long}
 use Rattle.law_lent.specs.Shorts.{write-keeps, land-keeps, close-keeps, reclaim-keeps, read-keeps, fill-keeps, restart-keeps, rebuild-keeps}
 use Rattle.proof_crash_calls.specs.Refusals.{Decides, decides}
-use Rattle.law_drives.specs.Checks.{Passes, Decided, decide}
-use Rattle.law_drives.specs.Checks.Decided.{stops, goes}
+use Rattle.law_checks.specs.Checks.{Decided, decide}
+use Rattle.law_checks.specs.Checks.Decided.{stops, goes}
 use Rattle.law_drives.specs.Image.{bytes-of}
 use Rattle.law_drives.specs.Laid.{in-take}
 use Rattle.law_drives.specs.Tests.{clash}
@@ -55,9 +56,9 @@ module _ (p : Params) (long : Bool) (k : Disk) (m : Memory) (c : Call) where
   -- refused, done, or cut
   pub data Ends : Type 0 where
     ends-refused : (a : Answer) → isRefused a ≡ true → callOn p long k m c ≡ mkAfter a k m (lentBlock c) → Ends
-    ends-done : Passes (due! .checks)
+    ends-done : firstRefusal (due! .checks) ≡ none
         → callOn p long k m c ≡ mkAfter (due! .plan .answer) (storeAll (storeDisk p) (due! .plan .stores) k) (due! .plan .memory) (due! .plan .block) → Ends
-    ends-cut : Passes (due! .checks) → callOn p long k m c ≡ mkAfter Cut (storeAll (storeDisk p) (take (storeCount c) (due! .plan .stores)) k) (cutMemory p m) (lentBlock c) → Ends
+    ends-cut : firstRefusal (due! .checks) ≡ none → callOn p long k m c ≡ mkAfter Cut (storeAll (storeDisk p) (take (storeCount c) (due! .plan .stores)) k) (cutMemory p m) (lentBlock c) → Ends
 
   pub ends : Ends
   unfolding callOn
@@ -66,7 +67,7 @@ module _ (p : Params) (long : Bool) (k : Disk) (m : Memory) (c : Call) where
       run : Verdict → After Disk
       run w = outcome p (storeDisk p) (storeCount c) k m (lentBlock c) w
 
-      limits : (t : Bool) → leb (length (due! .plan .stores)) (storeCount c) ≡ t → Passes (due! .checks) → callOn p long k m c ≡ run (due (due! .plan)) → Ends
+      limits : (t : Bool) → leb (length (due! .plan .stores)) (storeCount c) ≡ t → firstRefusal (due! .checks) ≡ none → callOn p long k m c ≡ run (due (due! .plan)) → Ends
       limits true e q r = ends-done q (r ∙ all! e)
         where
           all! : leb (length (due! .plan .stores)) (storeCount c) ≡ true
@@ -93,11 +94,11 @@ RestartFits p long v m (reclaim n) = Unit {0}
 RestartFits p long v m (read a) = Unit {0}
 RestartFits p long v m (fill a b) = Unit {0}
 RestartFits p long v m (restart d n) =
-    Passes (restartChecks p long v d (segments p v (named d))) → Fits (restartPlan p v d (segments p v (named d)) (m .inflight) .memory .state)
+    firstRefusal (restartChecks p long v d (segments p v (named d))) ≡ none → Fits (restartPlan p v d (segments p v (named d)) (m .inflight) .memory .state)
 RestartFits p long v m (rebuild d n) = Unit {0}
 
 plan-fits : (p : Params) (long : Bool) (v : View) (m : Memory) (c : Call) → Fits (m .state) → Reads p v → RestartFits p long v m c
-    → Passes (decides p long v m c .checks) → Fits (decides p long v m c .plan .memory .state)
+    → firstRefusal (decides p long v m c .checks) ≡ none → Fits (decides p long v m c .plan .memory .state)
 unfolding decides
 plan-fits p long v m (write a b n) f r h q = write-fits p long v m f a b q
 plan-fits p long v m (land d s n) f r h q = land-fits p long v m f d s q

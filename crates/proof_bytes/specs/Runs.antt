@@ -5,6 +5,8 @@ use mathlib.Core.Bool.{false}
 use mathlib.Core.Logic.{⊎-elim}
 use Prim.Native.Nat.{ℕ, _^_, _<_}
 use lib.Dec.{eqb}
+use Rattle.spec.specs.Lists.Opt.{none}
+use Rattle.spec.specs.Calls.{firstRefusal}
 use Rattle.spec.specs.declared.Params.{Params}
 use Rattle.spec.specs.Drives.{View, Store, storeView, Disk, storeDisk, storeAll}
 use Rattle.spec.specs.Engine.{Call, lentOk}
@@ -16,7 +18,6 @@ use Rattle.spec.specs.Restart.{dropStores, mendStores, restartStores, restartMe
 use Rattle.spec.specs.Segments.{segments, unsealed, candidates, greatestStamp, greatestSerial}
 use Rattle.law_basic.specs.Geometry.{Ranged, ranged}
 use Rattle.law_views.specs.Views.{Whole, seen}
-use Rattle.law_drives.specs.Checks.{Passes}
 use Rattle.law_drives.specs.Lengths.{whole-of}
 use Rattle.law_drives.specs.Masks.{named-some}
 use Rattle.law_drives.specs.Tests.{cond-false}
@@ -66,7 +67,7 @@ module _ (p : Params) (k : Disk) (m : Memory) (d : ℕ) where
       serial! x = unfold restartMemory idleState in x
 
   -- on drives whose headers, records and footers hold bytes
-  pub restart-shaped : (Whole p k → Shaped p v) → Passes (startChecks p k m d) → Fits (startPlan p k m d .memory .state)
+  pub restart-shaped : (Whole p k → Shaped p v) → firstRefusal (startChecks p k m d) ≡ none → Fits (startPlan p k m d .memory .state)
   unfolding restartPlan
   restart-shaped sh c =
       let b = begins p k m d c in

@@ -1,7 +1,7 @@
 -- A restart in order isn't refused, but for 6: what it comes to on bytes. Assumes nothing.
-use mathlib.Core.Path.{_≡_, refl, ap, ap₂, _∙_}
-use mathlib.Core.List.{List, [], _∷_, _++_}
-use mathlib.Core.Bool.{Bool, true, false, not, _&&_, _||_}
+use mathlib.Core.Path.{_≡_, refl, ap, _∙_}
+use mathlib.Core.List.{List, []}
+use mathlib.Core.Bool.{Bool, true, false, _&&_}
 use Prim.Native.Nat.{ℕ, _<_}
 use borrow.Author.Tests.{eqb-true}
 use lib.Dec.{leb, eqb}
@@ -10,29 +10,27 @@ use Rattle.spec.specs.declared.Params.{Params}
 use Rattle.spec.specs.declared.Answer.{Answer}
 use Rattle.spec.specs.declared.Answer.the-variants.{Refused}
 use Rattle.spec.specs.Answers.{kind, values, isRefused, isRefusedAs}
-use Rattle.spec.specs.Calls.Check.{rule}
-use Rattle.spec.specs.Calls.{ruled, firstRefusal, decided, After, limited, outcome}
+use Rattle.spec.specs.Calls.{firstRefusal, decided, After, limited, outcome}
 use Rattle.spec.specs.Counts.{lastCount}
 use Rattle.spec.specs.Drives.{View, Disk, storeDisk}
 use Rattle.spec.specs.Engine.Call.{restart}
 use Rattle.spec.specs.Engine.{storeCount, lentBlock, verdict, lentOk, callOn, callDisk}
-use Rattle.spec.specs.Faults.{imageChecks}
 use Rattle.spec.specs.History.{mkWorld, inOrder}
-use Rattle.spec.specs.Lists.{Opt, isNil}
+use Rattle.spec.specs.Lists.{Opt}
 use Rattle.spec.specs.Lists.Opt.{none, some}
 use Rattle.spec.specs.Memory.{Memory}
 use Rattle.spec.specs.Params.{inRange, imageLen, pointersLen, addressesLen, compactLen, inflightLen, named}
-use Rattle.spec.specs.Restart.{freeZones, restartStores, namesDrive, rewrites, restartChecks, restartPlan, restartVerdict}
+use Rattle.spec.specs.Restart.{restartStores, namesDrive, rewrites, restartChecks, restartPlan, restartVerdict}
 use Rattle.spec.specs.Segments.{Segment, segments, greatestSerial}
+use Rattle.law_checks.specs.Passed.{restart-sixth}
 use Rattle.law_basic.specs.Geometry.{Ranged}
 use Rattle.law_basic.specs.Ranges.{and-left, and-right}
 use Rattle.law_views.specs.Views.{seen}
 use Rattle.law_drives.specs.Tests.{clash, not-so}
 use Rattle.proof_crash_machine.specs.Facts.{Ghost, InV, Choice}
 use Rattle.proof_crash_machine.specs.Val.{Val}
-use Rattle.proof_crash_items.specs.Member.{or-false}
 use Rattle.proof_crash_items.specs.Ranges.{parOf}
-use Rattle.proof_crash_items.specs.Refuse.{image-passes, not-refused}
+use Rattle.proof_crash_items.specs.Refuse.{pointers-fine, segments-fine, not-refused}
 use Rattle.proof_crash_items.specs.Segs.{OnDrives}
 use Rattle.proof_crash_calls.specs.Refusals.{decides, refused-after}
 
@@ -46,15 +44,7 @@ module _ (p : Params) (h : Ranged p) (g : Ghost) (v : View) (k : OnDrives p h g 
   -- too many serials: 6
   sixth : (long : Bool) → long ≡ true → (rewrites p (named d) (segments p v (named d)) && eqb (greatestSerial (segments p v (named d))) lastCount) ≡ true
       → firstRefusal (restartChecks p long v d (segments p v (named d))) ≡ some (Refused 6)
-  unfolding restartChecks firstRefusal ruled
-  sixth long h₃ h₆ =
-      let a₁ : (not (inRange p) || not (namesDrive p d)) ≡ false = or-false (not (inRange p)) (not (namesDrive p d)) (ap not h₁) (ap not h₂) in
-      let a₂ : not long ≡ false = ap not h₃ in
-      ap₂ (λ (x y : Bool). ruled 1 x (ruled 2 y (firstRefusal
-      (imageChecks p v (named d) gs₀ ++ (rule 6 (rewrites p (named d) gs₀ && eqb (greatestSerial gs₀) lastCount) ∷ rule 8
-      (rewrites p (named d) gs₀ && isNil (freeZones p gs₀)) ∷ []))))) a₁ a₂
-      ∙ image-passes p h g v k known d ch (rule 6 (rewrites p (named d) gs₀ && eqb (greatestSerial gs₀) lastCount) ∷ rule 8 (rewrites p (named d) gs₀ && isNil (freeZones p gs₀)) ∷ [])
-      ∙ ap (λ (x : Bool). ruled 6 x (ruled 8 (rewrites p (named d) gs₀ && isNil (freeZones p gs₀)) none)) h₆
+  sixth long h₃ h₆ = restart-sixth p long v d gs₀ h₁ h₂ h₃ (pointers-fine p h g v k known d ch) (segments-fine p h g v k known d ch) h₆
 
 -- the call, on bytes
 module _ (p : Params) (h : Ranged p) (k : Disk) (m : Memory) (d n : ℕ) (g : Ghost) (on : OnDrives p h g (seen p k))

@@ -1,10 +1,10 @@
 -- Demand 3. Assumes nothing.
 use mathlib.Core.Path.{_≡_, refl, sym, ap, _∙_, subst}
 use mathlib.Core.List.{List, [], _∷_}
-use mathlib.Core.Bool.{Bool, true, false, not, _&&_, _||_}
+use mathlib.Core.Bool.{Bool, true, false, not, _&&_}
 use mathlib.Core.Logic.{inl, ⊎-elim, _≢_}
 use Prim.Native.Nat.{ℕ, _≤_, _<_}
-use borrow.Author.Tests.{not-true, not-false}
+use borrow.Author.Tests.{not-true}
 use native.Mathlib.Omega.{arith}
 use lib.ListN.{length}
 use Rattle.spec.specs.declared.Params.{Params}
@@ -23,7 +23,7 @@ use Rattle.spec.specs.Params.{inRange, noDrive, named}
 use Rattle.spec.specs.Restart.{namesDrive, restartChecks}
 use Rattle.spec.specs.Segments.{segments}
 use Rattle.law_basic.specs.Geometry.{Ranged, ranged}
-use Rattle.law_basic.specs.Ranges.{Test, test, and-left, and-right, and-both, or-left}
+use Rattle.law_basic.specs.Ranges.{Test, test, and-left, and-right, and-both}
 use Rattle.law_basic.specs.Ranges.Test.{yes!, no! }
 use Rattle.law_views.specs.Views.{Whole, seen}
 use Rattle.law_drives.specs.Tests.{cond-true, cond-false, clash}
@@ -37,7 +37,7 @@ use Rattle.proof_crash_items.specs.Items.{itemsIn}
 use Rattle.proof_crash_items.specs.Ranges.{parOf}
 use Rattle.proof_crash_items.specs.RestMem.{names-cases}
 use Rattle.proof_crash_items.specs.Start.{empty-whole, empty-items, start-on}
-use Rattle.proof_crash_calls.specs.Base.{or-r, passes}
+use Rattle.law_checks.specs.Passed.{restart-passed}
 use Rattle.proof_crash_calls.specs.Go.{mst, Go, go-none, go-view, go-start}
 use Rattle.proof_crash_calls.specs.Others.{refused-any}
 use Rattle.proof_crash_calls.specs.Refusals.{decides, boot-step}
@@ -162,17 +162,9 @@ module _ (p : Params) (h : Ranged p) (s : Hist) (H : Holds p h s) where
               firstRefusal (restartChecks p (lentOk p (s .world .disk) (s .world .memory)) (seen p (s .world .disk)) d
               (segments p (seen p (s .world .disk)) (named d))) ≡ none
               → inOrder p (s .world) d ≡ true
-          passed f = unfold inOrder in and-both (inRange p && namesDrive p d) (lentOk p (s .world .disk) (s .world .memory))
-              (and-both (inRange p) (namesDrive p d) (not-false (inRange p) (or-left (not (inRange p)) (not (namesDrive p d)) (two f .0)))
-              (not-false (namesDrive p d) (or-r (not (inRange p)) (not (namesDrive p d)) (two f .0))))
-              (not-false (lentOk p (s .world .disk) (s .world .memory)) (two f .1))
-            where
-              two : firstRefusal (restartChecks p (lentOk p (s .world .disk) (s .world .memory)) (seen p (s .world .disk)) d (segments p (seen p (s .world .disk)) (named d))) ≡ none
-                  → ((not (inRange p) || not (namesDrive p d)) ≡ false) × (not (lentOk p (s .world .disk) (s .world .memory)) ≡ false)
-              two f = unfold restartChecks in (
-                passes (restartChecks p (lentOk p (s .world .disk) (s .world .memory)) (seen p (s .world .disk)) d (segments p (seen p (s .world .disk)) (named d))) f .0,
-                passes (restartChecks p (lentOk p (s .world .disk) (s .world .memory)) (seen p (s .world .disk)) d (segments p (seen p (s .world .disk)) (named d))) f .1 .0,
-              )
+          passed f = unfold inOrder in
+              let c = restart-passed p (lentOk p (s .world .disk) (s .world .memory)) (seen p (s .world .disk)) d (segments p (seen p (s .world .disk)) (named d)) f in
+              and-both (inRange p && namesDrive p d) (lentOk p (s .world .disk) (s .world .memory)) (and-both (inRange p) (namesDrive p d) (c .in-range) (c .names)) (c .lent)
 
   -- a restart with other memory, and any bytes on the drive that it names
   boot-event : (d c : ℕ) (m : Memory) (im ps : List ℕ) → allowed p s (boots d c m im ps) ≡ true → Both (boots d c m im ps)

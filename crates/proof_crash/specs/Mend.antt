@@ -1,31 +1,27 @@
 -- While a history rests, calls that are no restart leave it at rest; a rebuild of the missing drive, cut or finished, too. Assumes nothing.
 use mathlib.Core.Path.{_≡_, refl, sym, ap, _∙_, subst}
-use mathlib.Core.List.{List, [], _∷_, map}
-use mathlib.Core.Bool.{Bool, true, false, not, _&&_, _||_}
+use mathlib.Core.List.{List, [], map}
+use mathlib.Core.Bool.{Bool, true, false}
 use mathlib.Core.Logic.{_⊎_, inl, inr, _≢_}
 use Prim.Native.Nat.{ℕ, _≤_, _<_}
-use borrow.Author.Tests.{eqb-true, not-false}
 use native.Mathlib.Omega.{arith}
-use lib.Dec.{leb, ltb, eqb}
+use lib.Dec.{leb}
 use lib.ListN.{length, take}
 use Rattle.spec.specs.declared.Params.{Params}
 use Rattle.spec.specs.declared.Answer.{Answer}
 use Rattle.spec.specs.declared.Answer.the-variants.{Rebuilt}
-use Rattle.spec.specs.Calls.Check.{rule}
 use Rattle.spec.specs.Calls.{firstRefusal, Plan, mkPlan, decided, After, cutMemory, limited, outcome}
 use Rattle.spec.specs.Drives.{View, Store, Disk, storeDisk, storeAll}
 use Rattle.spec.specs.Engine.{Call, storeCount, lentBlock, verdict, lentOk, callOn, callDisk}
 use Rattle.spec.specs.Engine.Call.{write, land, close, reclaim, read, fill, restart, rebuild}
-use Rattle.spec.specs.Faults.{imageChecks}
 use Rattle.spec.specs.History.{mkWorld, callOf, restartOf, before, happens, worldAfter, forget, Hist, step}
 use Rattle.spec.specs.History.Event.{calls}
 use Rattle.spec.specs.Lists.{Opt}
 use Rattle.spec.specs.Lists.Opt.{none, some}
-use Rattle.spec.specs.Params.{inRange, named}
-use Rattle.spec.specs.Rebuild.{namesMissing, rebuildChecks, rebuildStores, rebuildVerdict}
+use Rattle.spec.specs.Params.{named}
+use Rattle.spec.specs.Rebuild.{rebuildChecks, rebuildStores, rebuildVerdict}
 use Rattle.spec.specs.Segments.{segments}
 use Rattle.law_basic.specs.Geometry.{Ranged}
-use Rattle.law_basic.specs.Ranges.{and-right}
 use Rattle.law_views.specs.Views.{Whole, seen}
 use Rattle.law_drives.specs.Tests.{clash}
 use Rattle.proof_crash_machine.specs.Example.{reached}
@@ -37,7 +33,7 @@ use Rattle.proof_crash_items.specs.Seen.{seen-stores, seen-cut, whole-all, whol
 use Rattle.proof_crash_items.specs.Sound.{AllSound}
 use Rattle.proof_crash_restarts.specs.Link.{Linked}
 use Rattle.proof_crash_rebuilds.specs.Drive.{rebuild-follows, rebuild-cut, rebuild-end}
-use Rattle.proof_crash_calls.specs.Base.{or-r, passes}
+use Rattle.law_checks.specs.Passed.{rebuild-passed}
 use Rattle.proof_crash.specs.Stand.Holds.{goes, rests}
 use Rattle.proof_crash_calls.specs.Live.{Reached}
 use Rattle.proof_crash_calls.specs.Others.{off-step, missing-step}
@@ -173,13 +169,7 @@ module _ (p : Params) (h : Ranged p) (s : Hist) (n : ℕ) (x : Stands p h s n) w
                   firstRefusal (rebuildChecks p long (seen p (s .world .disk)) (s .world .memory) e (segments p (seen p (s .world .disk)) (named e)))
                   ≡ none
                   → s .world .memory .state .missing ≡ named e
-              same f = unfold rebuildChecks namesMissing in
-                  let q : (ltb e (p .N) && eqb (s .world .memory .state .missing) (named e))
-                  ≡ true = not-false (ltb e (p .N) && eqb (s .world .memory .state .missing) (named e)) (or-r (not (inRange p))
-                  (not (ltb e (p .N) && eqb (s .world .memory .state .missing) (named e)))
-                  (passes (rule 1 (not (inRange p) || not (ltb e (p .N) && eqb (s .world .memory .state .missing) (named e))) ∷ rule 2 (not long) ∷
-                  imageChecks p (seen p (s .world .disk)) (named e) (segments p (seen p (s .world .disk)) (named e))) f .0)) in
-                  eqb-true (s .world .memory .state .missing) (named e) (and-right (ltb e (p .N)) (eqb (s .world .memory .state .missing) (named e)) q)
+              same f = rebuild-passed p long (seen p (s .world .disk)) (s .world .memory) e (segments p (seen p (s .world .disk)) (named e)) f .names
 
   pub rest-step : Quiet p (x .g .un) (s .world .memory .state) → (c : Call) → restartOf c ≡ none → Holds p h (step p s (calls c))
   rest-step (inl z) c r = as-it-was (inl z) c (off-step p s c r z)

@@ -1,4 +1,4 @@
--- Small laws: tests, the eighths, lists of checks, counting. Assumes nothing.
+-- Small laws: tests, the eighths, counting. Assumes nothing.
 use mathlib.Core.Path.{_≡_, refl, sym, ap, _∙_}
 use mathlib.Core.List.{List, [], _∷_}
 use mathlib.Core.Bool.{Bool, true, false, not, _&&_, _||_}
@@ -9,14 +9,11 @@ use borrow.Author.Tests.{lt-ltb, eq-eqb, ne-eqb, eqb-false, not-true}
 use native.Mathlib.Omega.{arith}
 use lib.Dec.{eqb}
 use lib.ListN.{length}
-use Rattle.spec.specs.Calls.{Check, ninth, ruled, firstRefusal}
-use Rattle.spec.specs.Calls.Check.{rule, zones}
 use Rattle.spec.specs.Lists.Opt.{none}
 use Rattle.spec.specs.Lists.{upFrom, below, any, consIf, keep, indexOf}
 use Rattle.spec.specs.Memory.{slotCount, slots}
 use Rattle.law_basic.specs.Ranges.{Test, test, length-below, indexOf-any, and-fails, or-left}
 use Rattle.law_basic.specs.Ranges.Test.{yes!, no! }
-use Rattle.law_drives.specs.Checks.{some-none}
 use Rattle.law_drives.specs.Tests.{clash}
 use Rattle.proof_crash_items.specs.Member.{Has, has-keep, keep-nil, upFrom-has, below-has, has-below, any-has, any-false}
 use Rattle.proof_crash_machine.specs.Exec.{true≢false, and-1, and-2}
@@ -30,22 +27,6 @@ or-r false b e = e
 
 pub eqb-self : (n : ℕ) → eqb n n ≡ true
 eqb-self n = eq-eqb n n refl
-
--- ---- lists of checks
-
--- no check holds
-abbrev pub Passes : List Check → Type 0
-Passes [] = Unit {0}
-Passes (rule n b ∷ cs) = (b ≡ false) × Passes cs
-Passes (zones zs ∷ cs) = (zs ≡ []) × Passes cs
-
-pub passes : (cs : List Check) → firstRefusal cs ≡ none → Passes cs
-unfolding firstRefusal ruled ninth
-passes [] q = tt
-passes (rule n true ∷ cs) q = some-none q
-passes (rule n false ∷ cs) q = (refl, passes cs q)
-passes (zones [] ∷ cs) q = (refl, passes cs q)
-passes (zones (z ∷ zs) ∷ cs) q = some-none q
 
 -- ---- the first index
 

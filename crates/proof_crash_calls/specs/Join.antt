@@ -1,10 +1,11 @@
 -- Every call of a healthy run but a restart, refused, uncut or cut, keeps it or ends it. Assumes nothing.
+use Rattle.law_drives.specs.Tests.{clash}
 use mathlib.Core.Path.{_≡_, refl, sym, ap, _∙_, subst}
 use mathlib.Core.List.{List, [], _∷_, _++_, map, append-nil}
-use mathlib.Core.Bool.{Bool, true, false, cond, not, _&&_, _||_}
+use mathlib.Core.Bool.{Bool, true, false, cond, _&&_}
 use mathlib.Core.Logic.{_≢_}
-use Prim.Native.Nat.{ℕ, _≤_, _<_}
-use borrow.Author.Tests.{eq-eqb, ne-eqb, leb-true, ltb-true, eqb-true, not-false}
+use Prim.Native.Nat.{ℕ, _≤_}
+use borrow.Author.Tests.{eq-eqb, ne-eqb, leb-true, eqb-true}
 use native.Mathlib.Omega.{arith}
 use lib.Dec.{leb, ltb, eqb}
 use lib.ListN.{length, getD, take}
@@ -13,35 +14,34 @@ use Rattle.spec.specs.declared.Answer.{Answer}
 use Rattle.spec.specs.declared.Answer.the-variants.{Cut, Filled, Rebuilt}
 use Rattle.spec.specs.Answers.{kind, values, isRefused, isCut, finished}
 use Rattle.spec.specs.Calls.{Check, firstRefusal, Plan, mkPlan, decided, After, mkAfter, cutMemory, limited, outcome}
-use Rattle.spec.specs.Calls.Check.{rule, zones}
+use Rattle.spec.specs.Calls.Check.{zones}
 use Rattle.spec.specs.Calls.Verdict.{due}
 use Rattle.spec.specs.Closing.{closeChecks, closePlan, closeVerdict}
 use Rattle.spec.specs.Drives.{View, Disk, storeDisk, storeAll}
 use Rattle.spec.specs.Engine.{Call, storeCount, lentBlock, verdict, lentOk, callOn, callDisk}
 use Rattle.spec.specs.Engine.Call.{write, land, close, reclaim, read, fill, restart, rebuild}
-use Rattle.spec.specs.Faults.{imageChecks}
 use Rattle.spec.specs.History.{restartOf, Send, mkSend, acknowledge, forget, sentBy, ackedBy, endsRun, sentAfter}
-use Rattle.spec.specs.Landing.{slotOf, waiting, completes, landFaults, landChecks, writesIn, landPlan, landVerdict}
-use Rattle.spec.specs.Lists.{Opt, consIf, keep, isNil, firstOr}
+use Rattle.spec.specs.Landing.{slotOf, completes, landChecks, writesIn, landPlan, landVerdict}
+use Rattle.spec.specs.Lists.{Opt, consIf, isNil, firstOr}
 use Rattle.spec.specs.Lists.Opt.{none, some}
-use Rattle.spec.specs.Memory.{Memory, zeroState, hasFilling, stateFaults}
-use Rattle.spec.specs.Params.{between, inRange, imageLen, pointersLen, addressesLen, compactLen, inflightLen, placeBlock, named}
+use Rattle.spec.specs.Memory.{Memory, zeroState, stateFaults}
+use Rattle.spec.specs.Params.{imageLen, pointersLen, addressesLen, compactLen, inflightLen, named}
 use Rattle.spec.specs.Read.{Found, lookup, foundFaults, decodeFaults, readPiece, readAnswer, readChecks, readVerdict, fillVerdict}
 use Rattle.spec.specs.Read.Found.{nowhere, here, away}
-use Rattle.spec.specs.Rebuild.{namesMissing, rebuildChecks, rebuildStores, rebuildVerdict}
-use Rattle.spec.specs.Reclaim.{tableFaults, Victim, victim, isNone, victimSegment, victimLive, idle, reclaimChecks, resetPlan, copyPlan, reclaimVerdict}
+use Rattle.spec.specs.Rebuild.{rebuildChecks, rebuildStores, rebuildVerdict}
+use Rattle.spec.specs.Reclaim.{Victim, victim, victimSegment, victimLive, idle, reclaimChecks, resetPlan, copyPlan, reclaimVerdict}
 use Rattle.spec.specs.Segments.{segments}
-use Rattle.spec.specs.Write.{opens, noStamp, noSerial, mustWait, scarce, sending, writeChecks, writePlan, writeVerdict}
+use Rattle.spec.specs.Write.{sending, writeChecks, writePlan, writeVerdict}
 use Rattle.law_basic.specs.Geometry.{Ranged}
-use Rattle.law_basic.specs.Ranges.{and-left, and-right, or-left}
+use Rattle.law_basic.specs.Ranges.{and-left, and-right}
 use Rattle.law_views.specs.Views.{Whole, seen}
 use Rattle.law_calls.specs.Refusals.{refusal-kind, refused-unfinished}
-use Rattle.law_drives.specs.Tests.{cond-false, clash}
+use Rattle.law_drives.specs.Tests.{cond-false}
 use Rattle.proof_crash_items.specs.Member.{or-false}
 use Rattle.proof_crash_items.specs.Named.{named-some}
 use Rattle.proof_crash_items.specs.Seen.{seen-stores, seen-cut, whole-all, whole-cut}
 use Rattle.proof_crash_machine.specs.Facts.{Ghost}
-use Rattle.proof_crash_calls.specs.Base.{or-r, passes}
+use Rattle.law_checks.specs.Passed.{write-passed, land-passed, close-passed, reclaim-passed, rebuild-passed}
 use Rattle.proof_crash_calls.specs.Go.{Later, later-same}
 use Rattle.proof_crash_calls.specs.Land.{landCount, landSends, land-ok}
 use Rattle.proof_crash_calls.specs.Landed.{land-asked}
@@ -193,13 +193,6 @@ module _ (p : Params) (h : Ranged p) (k : Disk) (m : Memory) (ss : List Send) (n
   abbrev long : Bool
   long = lentOk p k m
 
-  -- rule 2 comes second in every list of checks
-  lent-ok : (i : Bool) (t : Bool) (cs : List Check) → firstRefusal (rule 1 i ∷ rule 2 (not long || t) ∷ cs) ≡ none → long ≡ true
-  lent-ok i t cs e = not-false long (or-left (not long) t (passes (rule 1 i ∷ rule 2 (not long || t) ∷ cs) e .1 .0))
-
-  lent-ok₂ : (i : Bool) (cs : List Check) → firstRefusal (rule 1 i ∷ rule 2 (not long) ∷ cs) ≡ none → long ≡ true
-  lent-ok₂ i cs e = not-false long (passes (rule 1 i ∷ rule 2 (not long) ∷ cs) e .1 .0)
-
   abbrev after : Call → After Disk
   after c = callDisk p k m c
 
@@ -212,8 +205,7 @@ module _ (p : Params) (h : Ranged p) (k : Disk) (m : Memory) (ss : List Send) (n
       (λ e. write-ok p h v m ss n (x .live) (lent-inflight (fits e)) a b (write-asked p long v m a b e)) uncut open? sent
     where
       fits : firstRefusal (writeChecks p long v m a b) ≡ none → long ≡ true
-      fits e = unfold writeChecks in lent-ok (not (inRange p)) (not (eqb (length b) (p .B))) (rule 3 (not (eqb (m .state .missing) 0)) ∷ rule 4 (leb (p .L) a)
-          ∷ rule 6 (noStamp (m .state) || noSerial p (m .state)) ∷ rule 7 (mustWait p (m .state)) ∷ rule 8 (scarce p v (cond (opens p (m .state)) 2 1)) ∷ zones (stateFaults p (m .state)) ∷ []) e
+      fits e = write-passed p long v m a b e .lent
 
       uncut : isCut (writePlan p v m a b .answer) ≡ false
       uncut = unfold writePlan isCut kind in refl
@@ -230,10 +222,7 @@ module _ (p : Params) (h : Ranged p) (k : Disk) (m : Memory) (ss : List Send) (n
       (λ e. land-ok p h v m ss n (x .live) (lent-inflight (fits e)) (lent-table (fits e)) d s (land-asked p long v m d s e)) uncut open? sent
     where
       fits : firstRefusal (landChecks p long v m d s) ≡ none → long ≡ true
-      fits e =
-          unfold landChecks in lent-ok₂ (not (inRange p))
-          (rule 3 (not (eqb (m .state .missing) 0)) ∷ rule 5 (not (waiting p (m .state) d s)) ∷ zones
-          (stateFaults p (m .state) ++ landFaults p v m d s) ∷ []) e
+      fits e = land-passed p long v m d s e .lent
 
       uncut : isCut (landPlan p v m d s .answer) ≡ false
       uncut = unfold landPlan isCut kind in refl
@@ -252,10 +241,7 @@ module _ (p : Params) (h : Ranged p) (k : Disk) (m : Memory) (ss : List Send) (n
   close-next count = decided-next (close count) count [] (closeChecks p long v m) (closePlan p m) ss (λ e. close-ok p h v m ss n (x .live) (lent-inflight (fits e)) long e) uncut open? sent
     where
       fits : firstRefusal (closeChecks p long v m) ≡ none → long ≡ true
-      fits e =
-          unfold closeChecks in lent-ok₂ (not (inRange p)) (rule 3 (not (eqb (m .state .missing) 0)) ∷ rule 5
-          (not (hasFilling p (m .state)) || (scarce p v 1 && not (isNil (idle p v (m .state) (victim p v (m .addresses))))))
-          ∷ zones (stateFaults p (m .state) ++ cond (scarce p v 1) (tableFaults p (m .addresses)) []) ∷ []) e
+      fits e = close-passed p long v m e .lent
 
       uncut : isCut (closePlan p m .answer) ≡ false
       uncut = unfold closePlan isCut kind in refl
@@ -276,10 +262,7 @@ module _ (p : Params) (h : Ranged p) (k : Disk) (m : Memory) (ss : List Send) (n
       w = victim p v (m .addresses)
 
       fits : firstRefusal (reclaimChecks p long v m (victim p v (m .addresses))) ≡ none → long ≡ true
-      fits e = unfold reclaimChecks in lent-ok₂ (not (inRange p)) (rule 3 (not (eqb (m .state .missing) 0)) ∷ rule 5 (isNone w || (not (isNil (victimLive w)) && isNil (idle p v (m .state) w)))
-          ∷ rule 6 (not (isNil (victimLive w)) && noSerial p (m .state)) ∷ rule 7 (not (isNil (victimLive w)) && mustWait p (m .state)) ∷ rule 8
-          (not (isNil (victimLive w)) && opens p (m .state) && scarce p v 1)
-          ∷ zones (stateFaults p (m .state) ++ tableFaults p (m .addresses) ++ map (λ q. victimSegment w) (keep (λ q. not (between 1 (p .S) (placeBlock p q))) (victimLive w))) ∷ []) e
+      fits e = reclaim-passed p long v m (victim p v (m .addresses)) e .lent
 
       uncut : isCut (reclaimPlan p v m .answer) ≡ false
       uncut = go (isNil (victimLive w))
@@ -348,15 +331,10 @@ module _ (p : Params) (h : Ranged p) (k : Disk) (m : Memory) (ss : List Send) (n
 
   -- a rebuild is refused: no drive is missing
   no-rebuild : (d : ℕ) → firstRefusal (rebuildChecks p long v m d (segments p v (named d))) ≡ none → ⊥
-  unfolding rebuildChecks namesMissing
   no-rebuild d e =
-      let q : (ltb d (p .N) && eqb (m .state .missing) (named d))
-      ≡ true = not-false (ltb d (p .N) && eqb (m .state .missing) (named d)) (or-r (not (inRange p))
-      (not (ltb d (p .N) && eqb (m .state .missing) (named d)))
-      (passes (rule 1 (not (inRange p) || not (ltb d (p .N) && eqb (m .state .missing) (named d))) ∷ rule 2 (not long) ∷ imageChecks p v (named d) (segments p v (named d))) e .0)) in
-      let dl : d < p .N = ltb-true d (p .N) (and-left (ltb d (p .N)) (eqb (m .state .missing) (named d)) q) in
-      let f : named d ≡ 0 = sym (eqb-true (m .state .missing) (named d) (and-right (ltb d (p .N)) (eqb (m .state .missing) (named d)) q)) ∙ x .live .rel .healthy in
-      clash (eq-eqb (named d) 0 f) (named-some d (omega (arith, dl, h .drives-high)))
+      let c = rebuild-passed p long v m d (segments p v (named d)) e in
+      let f : named d ≡ 0 = sym (c .names) ∙ x .live .rel .healthy in
+      clash {b = eqb (named d) 0} (eq-eqb (named d) 0 f) (named-some d (omega (arith, c .drive-low, h .drives-high)))
 
   pub rebuild-refused : (d count : ℕ) → isRefused (callDisk p k m (rebuild d count) .answer) ≡ true
   unfolding callDisk callOn verdict rebuildVerdict

@@ -1,6 +1,6 @@
 -- A landing: its checks, and its chunk as the machine's step. Assumes nothing.
 use mathlib.Core.Path.{_≡_, refl, sym, ap, ap₂, _∙_, subst}
-use mathlib.Core.List.{List, [], _++_, map}
+use mathlib.Core.List.{List, [], map}
 use mathlib.Core.Bool.{Bool, true, false, cond, not, _&&_}
 use mathlib.Core.Logic.{⊎-elim}
 use Prim.Native.Nat.{ℕ, suc, _+_, _-_, _^_, _≤_, _<_}
@@ -18,14 +18,12 @@ use Rattle.spec.specs.Landing.{slotOf, ready, waiting, completes, seals, flight
 use Rattle.spec.specs.Layout.{parityDrive, dataDrive, dataPosition, isData, group, Rec, recordBytes}
 use Rattle.spec.specs.Lists.Opt.{none}
 use Rattle.spec.specs.Lists.{below, consIf, indexOf, flat, isIn}
-use Rattle.spec.specs.Memory.{Memory, slotCount, slots, stripeIn, filledIn, landedIn, entryIn, entriesIn, offsetIn, openSegment, isFree, isFull, stateOk, stateFaults, slotBlock}
-use Rattle.spec.specs.Params.{between, dataCount, inRange, footers, capacity, inflightLen, drivesOf}
+use Rattle.spec.specs.Memory.{Memory, slotCount, slots, stripeIn, filledIn, landedIn, entryIn, entriesIn, offsetIn, openSegment, isFree, isFull, stateOk, slotBlock}
+use Rattle.spec.specs.Params.{between, dataCount, footers, capacity, inflightLen, drivesOf}
 use Rattle.spec.specs.Parity.{parityRec}
 use Rattle.law_basic.specs.Geometry.{between-low, between-high, Ranged, position-drive, drive-is-data, data-drive-lt, data-not-parity}
 use Rattle.law_basic.specs.Ranges.{and-left, and-right, and-fails}
-use Rattle.law_calls.specs.Refusals.{state-free}
-use Rattle.law_drives.specs.Members.{nil-left, if-none}
-use Rattle.law_drives.specs.Slots.{slot-found}
+use Rattle.law_drives.specs.Members.{if-none}
 use Rattle.law_drives.specs.Tests.{cond-true, cond-false}
 use Rattle.proof_crash_items.specs.Codec.{Wide}
 use Rattle.proof_crash_items.specs.Items.{valueOf, itemsIn, storeItem, items-store}
@@ -44,7 +42,8 @@ use Rattle.proof_crash_machine.specs.Val.{Val}
 use Rattle.proof_crash_machine.specs.View.Item.{chunk}
 use Rattle.proof_crash_machine.specs.View.Store.{put as m-put}
 use Rattle.proof_crash_machine.specs.View.{after, apply, In}
-use Rattle.proof_crash_calls.specs.Base.{eqb-self, passes, slot-any}
+use Rattle.proof_crash_calls.specs.Base.{eqb-self, slot-any}
+use Rattle.law_drives.specs.Slots.{slot-found}
 use Rattle.proof_crash_calls.specs.Go.{mst, Go, go-step, go-view}
 use Rattle.proof_crash_calls.specs.Live.{Live, live-inv, live-len}
 use Rattle.proof_crash_calls.specs.Placed.{ready-data, ready-parity, drive-cases}
@@ -52,6 +51,7 @@ use Rattle.proof_crash_calls.specs.Rel.{readyAt, SlotOf, inUse}
 use Rattle.proof_crash_calls.specs.Sending.{opened-low, slots-ok}
 use Rattle.proof_crash_calls.specs.Sends.{value-addr, value-stamp}
 use Rattle.proof_crash_calls.specs.Slots.{slot-long}
+use Rattle.law_checks.specs.Passed.{land-passed}
 use Rattle.proof_crash_calls.specs.Xored.{parity-is, Fits8, good-fits, parity-wide}
 
 -- what a landing's checks say
@@ -101,21 +101,15 @@ room-of p v d z q e l =
     (any-false (λ e. ltb (capacity p) (pointerAt v e z + cond (eqb e d) 1 0 + footers p)) (below (p .N)) q e (has-below e (p .N) l))
 
 pub land-asked : (p : Params) (long : Bool) (v : View) (m : Memory) (d s : ℕ) → firstRefusal (landChecks p long v m d s) ≡ none → LandAsked p v (m .state) d s
-unfolding landChecks
 land-asked p long v m d s e =
     let st : State = m .state in
-    let q : (not (inRange p) ≡ false)
-    × ((not long ≡ false)
-    × ((not (eqb (st .missing) 0) ≡ false) × ((not (waiting p st d s) ≡ false) × ((stateFaults p st ++ landFaults p v m d s ≡ []) × Unit {0}))))
-    =
-    passes (landChecks p long v m d s) e in
-    let w : ((ltb d (p .N) && ltb (slotOf st s) 8) && ready p st (slotOf st s) d) ≡ true = waits (not-false (waiting p st d s) (q .1 .1 .1 .0)) in
+    let c = land-passed p long v m d s e in
+    let w : ((ltb d (p .N) && ltb (slotOf st s) 8) && ready p st (slotOf st s) d) ≡ true = waits (c .waits) in
     let x : (ltb d (p .N) && ltb (slotOf st s) 8) ≡ true = and-left (ltb d (p .N) && ltb (slotOf st s) 8) (ready p st (slotOf st s) d) w in
     let i : slotOf st s < 8 = ltb-true (slotOf st s) 8 (and-right (ltb d (p .N)) (ltb (slotOf st s) 8) x) in
     let r : (isIn (landedIn st (slotOf st s)) d ≡ false) × (readyAt p (stripeIn st (slotOf st s)) (filledIn st (slotOf st s)) d ≡ true) =
     ready-parts p st (slotOf st s) d (and-right (ltb d (p .N) && ltb (slotOf st s) 8) (ready p st (slotOf st s) d) w) in
-    let f : (stateFaults p st ≡ []) × (landFaults p v m d s ≡ []) = nil-left (stateFaults p st) (landFaults p v m d s) (q .1 .1 .1 .1 .0) in
-    let g : (misplaced p v d (openSegment st) s ≡ false) × ((seals p st (slotOf st s) d && overfull p v d (openSegment st)) ≡ false) = faults (f .1) in
+    let g : (misplaced p v d (openSegment st) s ≡ false) × ((seals p st (slotOf st s) d && overfull p v d (openSegment st)) ≡ false) = faults (c .chunk-fine) in
     let z : (1 ≤ pointerAt v d (openSegment st)) × (pointerAt v d (openSegment st) ≤ p .S) × (group p (pointerAt v d (openSegment st) - 1) ≡ group p s) = placed-well p v d (openSegment st) s (g .0) in
     let o : (inUse st (slotOf st s) ≡ true) × (stripeIn st (slotOf st s) ≡ s) = slot-of st s i in
     record {
@@ -125,7 +119,7 @@ land-asked p long v m d s e =
       number = o .1;
       fresh = r .0;
       may = subst (λ (k : ℕ). readyAt p k (filledIn st (slotOf st s)) d ≡ true) (o .1) (r .1);
-      ok = state-free p st (f .0);
+      ok = c .state-fine;
       from = z .0;
       to = z .1;
       group? = z .2;

@@ -1,10 +1,11 @@
 -- Calls that change nothing: reads at any time, every call but restart while the power is off, and writes, landings, closings and reclaims while a drive is missing. Assumes nothing.
+use Rattle.law_drives.specs.Tests.{clash}
 use mathlib.Core.Path.{_≡_, refl, sym, ap, _∙_}
-use mathlib.Core.List.{List, [], _∷_, _++_, map, append-nil}
-use mathlib.Core.Bool.{Bool, true, false, cond, not, _&&_, _||_}
+use mathlib.Core.List.{List, [], append-nil}
+use mathlib.Core.Bool.{Bool, true, false, _&&_}
 use mathlib.Core.Logic.{_≢_}
 use Prim.Native.Nat.{ℕ, _^_, _<_}
-use borrow.Author.Tests.{le-leb, eq-eqb, ltb-true, eqb-true, not-false}
+use borrow.Author.Tests.{le-leb, eq-eqb}
 use native.Mathlib.Omega.{arith}
 use lib.Dec.{leb, ltb, eqb}
 use lib.ListN.{length, replicate}
@@ -14,37 +15,31 @@ use Rattle.spec.specs.declared.State.{State}
 use Rattle.spec.specs.declared.Answer.{Answer}
 use Rattle.spec.specs.declared.Answer.the-variants.{Filled}
 use Rattle.spec.specs.Answers.{kind, isCut, finished}
-use Rattle.spec.specs.Calls.Check.{rule, zones}
 use Rattle.spec.specs.Calls.{firstRefusal, mkPlan, decided, After, mkAfter, limited, outcome}
 use Rattle.spec.specs.Calls.Verdict.{due}
 use Rattle.spec.specs.Closing.{closeChecks}
 use Rattle.spec.specs.Drives.{View, Disk, storeDisk, storeAll}
 use Rattle.spec.specs.Engine.{Call, storeCount, lentBlock, lentOk, callOn, callDisk}
 use Rattle.spec.specs.Engine.Call.{write, land, close, reclaim, read, fill, restart, rebuild}
-use Rattle.spec.specs.Faults.{imageChecks}
 use Rattle.spec.specs.History.{World, mkWorld, callOf, restartOf, before, happens, worldAfter, sentBy, ackedBy, endsRun, sentAfter, untrustedAfter, Mark, Hist, marked, step}
 use Rattle.spec.specs.History.Event.{calls}
-use Rattle.spec.specs.Landing.{landFaults, landChecks}
-use Rattle.spec.specs.Lists.{Opt, all, keep}
+use Rattle.spec.specs.Landing.{landChecks}
+use Rattle.spec.specs.Lists.{Opt, all}
 use Rattle.spec.specs.Lists.Opt.{none, some}
-use Rattle.spec.specs.Memory.{Memory, slots, idleState, zeroState, slotOk, stateOk, stateFaults}
-use Rattle.spec.specs.Params.{between, inRange, placeBlock, named}
-use Rattle.spec.specs.Read.{Found, lookup, foundFaults, decodeFaults, readAnswer, readChecks}
+use Rattle.spec.specs.Memory.{Memory, slots, idleState, zeroState, slotOk, stateOk}
+use Rattle.spec.specs.Params.{inRange, named}
+use Rattle.spec.specs.Read.{Found, lookup, readAnswer}
 use Rattle.spec.specs.Read.Found.{nowhere, here, away}
-use Rattle.spec.specs.Rebuild.{namesMissing, rebuildChecks}
-use Rattle.spec.specs.Reclaim.{tableFaults, victim, victimSegment, victimLive, reclaimChecks}
+use Rattle.spec.specs.Reclaim.{victim, reclaimChecks}
 use Rattle.spec.specs.Segments.{segments}
-use Rattle.spec.specs.Write.{scarce, writeChecks}
+use Rattle.spec.specs.Write.{writeChecks}
 use Rattle.law_basic.specs.Geometry.{ranged}
-use Rattle.law_basic.specs.Ranges.{and-left, and-right, or-left}
 use Rattle.law_views.specs.Views.{seen}
-use Rattle.law_calls.specs.Refusals.{state-free}
-use Rattle.law_drives.specs.Members.{nil-left}
-use Rattle.law_drives.specs.Tests.{clash, not-so}
+use Rattle.law_drives.specs.Tests.{not-so}
 use Rattle.proof_crash_items.specs.Named.{named-some}
 use Rattle.proof_crash_machine.specs.Exec.{true≢false}
 use Rattle.proof_crash_machine.specs.Untrusted.{untrusted}
-use Rattle.proof_crash_calls.specs.Base.{or-r, passes}
+use Rattle.law_checks.specs.Passed.{write-passed, land-passed, close-passed, reclaim-passed, read-passed, fill-passed, rebuild-passed}
 use Rattle.proof_crash_calls.specs.Refusals.{Decides, decides, refused-step}
 
 -- ---- refused calls, whatever their answer
@@ -158,57 +153,25 @@ zero-bad p = not-so (stateOk p zeroState) (λ q. out q)
     out q = unfold stateOk zeroState idleState in clash
         (live (eqb 0 1) (ltb 0 (2 ^ p .N)) (leb (ones 0) 1) (leb 0 (p .Z)) (leb 0 (p .S)) (all (slotOk p zeroState) slots) (all (λ o. ltb o (p .S)) (replicate 64 0)) q) refl
 
--- the state's numbers are out of range: a fault
-bad-fault : (p : Params) (st : State) → stateOk p st ≡ false → stateFaults p st ≡ [] → ⊥
-bad-fault p st e q = clash (state-free p st q) e
+-- the state's numbers are out of range
+off-bad : (p : Params) (m : Memory) → m .state ≡ zeroState → stateOk p (m .state) ≡ true → ⊥
+off-bad p m z q = clash {b = stateOk p (m .state)} q (ap (stateOk p) z ∙ zero-bad p)
 
 pub off-refused : (p : Params) (long : Bool) (v : View) (m : Memory) (c : Call) → restartOf c ≡ none → m .state ≡ zeroState → firstRefusal (decides p long v m c .checks) ≡ none → ⊥
 unfolding decides
-off-refused p long v m (write a b n) r z e = unfold writeChecks in bad (passes (writeChecks p long v m a b) e .1 .1 .1 .1 .1 .1 .1 .0)
-  where
-    bad : stateFaults p (m .state) ≡ [] → ⊥
-    bad q = bad-fault p (m .state) (ap (stateOk p) z ∙ zero-bad p) q
-off-refused p long v m (land d s n) r z e = unfold landChecks in bad (nil-left (stateFaults p (m .state)) (landFaults p v m d s) (passes (landChecks p long v m d s) e .1 .1 .1 .1 .0) .0)
-  where
-    bad : stateFaults p (m .state) ≡ [] → ⊥
-    bad q = bad-fault p (m .state) (ap (stateOk p) z ∙ zero-bad p) q
-off-refused p long v m (close n) r z e =
-    unfold closeChecks in bad (nil-left (stateFaults p (m .state)) (cond (scarce p v 1) (tableFaults p (m .addresses)) []) (passes (closeChecks p long v m) e .1 .1 .1 .1 .0) .0)
-  where
-    bad : stateFaults p (m .state) ≡ [] → ⊥
-    bad q = bad-fault p (m .state) (ap (stateOk p) z ∙ zero-bad p) q
-off-refused p long v m (reclaim n) r z e =
-    unfold reclaimChecks in bad (nil-left (stateFaults p (m .state)) (tableFaults p (m .addresses)) (nil-left (stateFaults p (m .state) ++ tableFaults p (m .addresses))
-    (map (λ q. victimSegment (victim p v (m .addresses)))
-    (keep (λ q. not (between 1 (p .S) (placeBlock p q))) (victimLive (victim p v (m .addresses)))))
-    (passes (reclaimChecks p long v m (victim p v (m .addresses))) e .1 .1 .1 .1 .1 .1 .1 .0) .0) .0)
-  where
-    bad : stateFaults p (m .state) ≡ [] → ⊥
-    bad q = bad-fault p (m .state) (ap (stateOk p) z ∙ zero-bad p) q
-off-refused p long v m (read a) r z e = unfold readChecks in bad (nil-left (stateFaults p (m .state)) (foundFaults p v (m .state .missing) (lookup p (m .state .missing) (m .addresses) a))
-    (passes (readChecks p long a ++ (zones (stateFaults p (m .state) ++ foundFaults p v (m .state .missing) (lookup p (m .state .missing) (m .addresses) a)) ∷ [])) e .1 .1 .1 .0) .0)
-  where
-    bad : stateFaults p (m .state) ≡ [] → ⊥
-    bad q = bad-fault p (m .state) (ap (stateOk p) z ∙ zero-bad p) q
-off-refused p long v m (fill a b) r z e = unfold readChecks in bad (nil-left (stateFaults p (m .state)) (foundFaults p v (m .state .missing) (lookup p (m .state .missing) (m .addresses) a))
-    (passes (readChecks p (long && eqb (length b) (p .B)) a ++ (zones (stateFaults p (m .state) ++ foundFaults p v (m .state .missing) (lookup p (m .state .missing) (m .addresses) a))
-    ∷ zones (decodeFaults p v (m .state .missing) (m .compact) (lookup p (m .state .missing) (m .addresses) a)) ∷ [])) e .1 .1 .1 .0) .0)
-  where
-    bad : stateFaults p (m .state) ≡ [] → ⊥
-    bad q = bad-fault p (m .state) (ap (stateOk p) z ∙ zero-bad p) q
+off-refused p long v m (write a b n) r z e = off-bad p m z (write-passed p long v m a b e .state-fine)
+off-refused p long v m (land d s n) r z e = off-bad p m z (land-passed p long v m d s e .state-fine)
+off-refused p long v m (close n) r z e = off-bad p m z (close-passed p long v m e .state-fine)
+off-refused p long v m (reclaim n) r z e = off-bad p m z (reclaim-passed p long v m (victim p v (m .addresses)) e .state-fine)
+off-refused p long v m (read a) r z e = off-bad p m z (read-passed p long v m a e .state-fine)
+off-refused p long v m (fill a b) r z e = off-bad p m z (fill-passed p long v m a b e .state-fine)
 off-refused p long v m (restart d n) r z e = absurd (let x : _≡_ {A = ℕ} 0 1 = boot r in let q : ⊥ = omega arith in q)
   where
     boot : restartOf (restart d n) ≡ none → _≡_ {A = ℕ} 0 1
     boot e = unfold restartOf in cc
-off-refused p long v m (rebuild d n) r z e = unfold rebuildChecks namesMissing in
-    let q : (ltb d (p .N) && eqb (m .state .missing) (named d))
-    ≡ true = not-false (ltb d (p .N) && eqb (m .state .missing) (named d)) (or-r (not (inRange p))
-    (not (ltb d (p .N) && eqb (m .state .missing) (named d)))
-    (passes (rule 1 (not (inRange p) || not (ltb d (p .N) && eqb (m .state .missing) (named d))) ∷ rule 2 (not long) ∷ imageChecks p v (named d) (segments p v (named d))) e .0)) in
-    named-nothing (not-false (inRange p) (or-left (not (inRange p)) (not (ltb d (p .N) && eqb (m .state .missing) (named d)))
-    (passes (rule 1 (not (inRange p) || not (ltb d (p .N) && eqb (m .state .missing) (named d))) ∷ rule 2 (not long) ∷ imageChecks p v (named d) (segments p v (named d))) e .0)))
-    (ltb-true d (p .N) (and-left (ltb d (p .N)) (eqb (m .state .missing) (named d)) q))
-    (sym (eqb-true (m .state .missing) (named d) (and-right (ltb d (p .N)) (eqb (m .state .missing) (named d)) q)) ∙ none-missing)
+off-refused p long v m (rebuild d n) r z e =
+    let c = rebuild-passed p long v m d (segments p v (named d)) e in
+    named-nothing (c .in-range) (c .drive-low) (sym (c .names) ∙ none-missing)
   where
     none-missing : m .state .missing ≡ 0
     none-missing = ap (λ (x : State). x .missing) z ∙ (unfold zeroState idleState in refl)
@@ -226,27 +189,24 @@ pub missing-step : (p : Params) (s : Hist) (c : Call) → restartOf c ≡ none �
 missing-step p s (write a b n) r nb z = refused-any p s (write a b n) (λ e. out (unfold decides in e))
   where
     out : firstRefusal (writeChecks p (lentOk p (s .world .disk) (s .world .memory)) (seen p (s .world .disk)) (s .world .memory) a b) ≡ none → ⊥
-    out e = z (eqb-true (s .world .memory .state .missing) 0 (not-false (eqb (s .world .memory .state .missing) 0) (unfold writeChecks in
-        (passes (writeChecks p (lentOk p (s .world .disk) (s .world .memory)) (seen p (s .world .disk)) (s .world .memory) a b) e .1 .1 .0))))
+    out e = z (write-passed p (lentOk p (s .world .disk) (s .world .memory)) (seen p (s .world .disk)) (s .world .memory) a b e .healthy)
 missing-step p s (land d t n) r nb z = refused-any p s (land d t n) (λ e. out (unfold decides in e))
   where
     out : firstRefusal (landChecks p (lentOk p (s .world .disk) (s .world .memory)) (seen p (s .world .disk)) (s .world .memory) d t) ≡ none → ⊥
-    out e = z (eqb-true (s .world .memory .state .missing) 0 (not-false (eqb (s .world .memory .state .missing) 0) (unfold landChecks in
-        (passes (landChecks p (lentOk p (s .world .disk) (s .world .memory)) (seen p (s .world .disk)) (s .world .memory) d t) e .1 .1 .0))))
+    out e = z (land-passed p (lentOk p (s .world .disk) (s .world .memory)) (seen p (s .world .disk)) (s .world .memory) d t e .healthy)
 missing-step p s (close n) r nb z = refused-any p s (close n) (λ e. out (unfold decides in e))
   where
     out : firstRefusal (closeChecks p (lentOk p (s .world .disk) (s .world .memory)) (seen p (s .world .disk)) (s .world .memory)) ≡ none → ⊥
-    out e = z (eqb-true (s .world .memory .state .missing) 0 (not-false (eqb (s .world .memory .state .missing) 0) (unfold closeChecks in
-        (passes (closeChecks p (lentOk p (s .world .disk) (s .world .memory)) (seen p (s .world .disk)) (s .world .memory)) e .1 .1 .0))))
+    out e = z (close-passed p (lentOk p (s .world .disk) (s .world .memory)) (seen p (s .world .disk)) (s .world .memory) e .healthy)
 missing-step p s (reclaim n) r nb z = refused-any p s (reclaim n) (λ e. out (unfold decides in e))
   where
     out :
         firstRefusal (reclaimChecks p (lentOk p (s .world .disk) (s .world .memory)) (seen p (s .world .disk)) (s .world .memory)
         (victim p (seen p (s .world .disk)) (s .world .memory .addresses))) ≡ none
         → ⊥
-    out e = z (eqb-true (s .world .memory .state .missing) 0 (not-false (eqb (s .world .memory .state .missing) 0) (unfold reclaimChecks in
-        (passes (reclaimChecks p (lentOk p (s .world .disk) (s .world .memory)) (seen p (s .world .disk)) (s .world .memory)
-        (victim p (seen p (s .world .disk)) (s .world .memory .addresses))) e .1 .1 .0))))
+    out e =
+        let v = seen p (s .world .disk) in
+        z (reclaim-passed p (lentOk p (s .world .disk) (s .world .memory)) v (s .world .memory) (victim p v (s .world .memory .addresses)) e .healthy)
 missing-step p s (read a) r nb z = read-step p s a
 missing-step p s (fill a b) r nb z = fill-step p s a b
 missing-step p s (restart d n) r nb z = absurd (let x : _≡_ {A = ℕ} 0 1 = boot r in let q : ⊥ = omega arith in q)

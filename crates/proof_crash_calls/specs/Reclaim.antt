@@ -1,12 +1,12 @@
 -- Reclaim: a reset, or a copy. Assumes nothing.
+use Rattle.law_basic.specs.Ranges.{nil-is}
 use mathlib.Core.Path.{_≡_, refl, sym, ap, _∙_, subst}
-use mathlib.Core.List.{List, [], _∷_, _++_, map}
-use mathlib.Core.Bool.{Bool, true, false, cond, not, _&&_, _||_}
+use mathlib.Core.List.{List, [], _∷_, map}
+use mathlib.Core.Bool.{Bool, true, false, cond, not}
 use mathlib.Core.Logic.{inl, ⊎-elim, _≢_}
 use Prim.Native.Nat.{ℕ, zero, suc, _+_, _-_, _≤_, _<_}
 use borrow.Author.Tests.{leb-false}
 use native.Mathlib.Omega.{arith}
-use lib.Dec.{eqb}
 use lib.ListN.{length, take}
 use Rattle.spec.specs.declared.Params.{Params}
 use Rattle.spec.specs.declared.State.{State}
@@ -17,24 +17,21 @@ use Rattle.spec.specs.Drives.{View, pointerAt, chunkAt, storeView, storeAll, zo
 use Rattle.spec.specs.Drives.Store.{reset}
 use Rattle.spec.specs.History.{Send}
 use Rattle.spec.specs.Layout.{Rec, mkRec}
-use Rattle.spec.specs.Lists.{Opt, upFrom, below, keep, isNil, firstOr}
+use Rattle.spec.specs.Lists.{Opt, upFrom, below, isNil, firstOr}
 use Rattle.spec.specs.Lists.Opt.{none, some}
-use Rattle.spec.specs.Memory.{Memory, stripeIn, filledIn, landedIn, entryIn, offsetIn, stateOk, stateFaults, placeAt, slotBlock}
-use Rattle.spec.specs.Params.{between, inRange, capacity, inflightLen, placeBlock, placeZone, placeDrive, drivesOf}
-use Rattle.spec.specs.Reclaim.{placesIn, tableFaults, liveIn, flying, Victim, victim, isNone, victimSegment, victimLive, idle, reclaimChecks, resetPlan, copyPlan}
+use Rattle.spec.specs.Memory.{Memory, stripeIn, filledIn, landedIn, entryIn, offsetIn, stateOk, placeAt, slotBlock}
+use Rattle.spec.specs.Params.{capacity, inflightLen, placeBlock, placeZone, placeDrive, drivesOf}
+use Rattle.spec.specs.Reclaim.{placesIn, liveIn, flying, Victim, victim, isNone, victimSegment, victimLive, idle, reclaimChecks, resetPlan, copyPlan}
 use Rattle.spec.specs.Write.{opens, noSerial, mustWait, scarce, placed, openedBy, slotFor, begunBy, sending}
 use Rattle.law_basic.specs.Geometry.{Ranged}
-use Rattle.law_basic.specs.Ranges.{Test, test, and-fails, or-left, nil-is}
+use Rattle.law_basic.specs.Ranges.{Test, test}
 use Rattle.law_basic.specs.Ranges.Test.{yes!, no! }
-use Rattle.law_calls.specs.Refusals.{state-free}
-use Rattle.law_drives.specs.Members.{nil-left}
-use Rattle.law_drives.specs.Tests.{cond-true, cond-false, clash}
+use Rattle.law_drives.specs.Tests.{clash, cond-true, cond-false}
 use Rattle.proof_crash_items.specs.Items.{valueOf, itemsIn, storeItem, storeItems}
 use Rattle.proof_crash_items.specs.Member.{Has, keep-has, firstOr-has}
 use Rattle.proof_crash_items.specs.Ranges.{parOf}
 use Rattle.proof_crash_items.specs.Segs.{OnDrives}
 use Rattle.proof_crash_items.specs.Sound.{Follows, follows-all, follows-cut}
-use Rattle.proof_crash_machine.specs.Exec.{true≢false}
 use Rattle.proof_crash_machine.specs.Facts.{Ghost, InV, Counted, Off, Facts}
 use Rattle.proof_crash_machine.specs.History.Mode.{off, run}
 use Rattle.proof_crash_machine.specs.History.{State as m-State, Inv}
@@ -47,7 +44,6 @@ use Rattle.proof_crash_machine.specs.Val.{Val}
 use Rattle.proof_crash_machine.specs.View.{Item, View as m-View, Store as m-Store, applyAll, In, resets}
 use Rattle.proof_crash_machine.specs.View.Item.{chunk}
 use Rattle.proof_crash_machine.specs.View.Store.{reset as m-reset}
-use Rattle.proof_crash_calls.specs.Base.{or-r, passes}
 use Rattle.proof_crash_calls.specs.Entries.{entry-value, entry-long}
 use Rattle.proof_crash_calls.specs.Go.{mst, later-same, go-step, go-then, go-view, go-inv}
 use Rattle.proof_crash_calls.specs.Held.{Entry, table-to}
@@ -56,6 +52,7 @@ use Rattle.proof_crash_calls.specs.Rel.{slot-keep, Rel, Waiting}
 use Rattle.proof_crash_calls.specs.Sending.{Asked, Target, sendStores, target, target-entries}
 use Rattle.proof_crash_calls.specs.Take.{takenMem, taken-rel, taken-waits, copied-go}
 use Rattle.proof_crash_calls.specs.Victim.{VictimIs, victim-is, place-has, live-has, open-unsealed, quiet, table-left}
+use Rattle.law_checks.specs.Passed.{ReclaimPassed, reclaim-passed}
 
 -- ---- the resets are the machine's
 
@@ -238,47 +235,26 @@ module _ (p : Params) (h : Ranged p) (v : View) (m : Memory) (ss : List Send) (n
   -- ---- the call
 
   -- the checks that a copy passes
-  copy-asked : mustWait p st ≡ false → noSerial p st ≡ false → (opens p st && scarce p v 1) ≡ false → stateOk p st ≡ true → Asked p v st
+  copy-asked : mustWait p st ≡ false → noSerial p st ≡ false → (opens p st ≡ true → scarce p v 1 ≡ false) → stateOk p st ≡ true → Asked p v st
   copy-asked w s o ok = record {
     ok = ok;
     waits = w;
     serial = s;
-    room = λ e. room (and-fails (opens p st) (scarce p v 1) o e);
+    room = λ e. room (o e);
   }
     where
       room : scarce p v 1 ≡ false → 2 ≤ length (emptyZones p v)
       room x = leb-false (length (emptyZones p v)) 1 (unfold scarce in x)
 
   pub reclaim-ok : length (m .inflight) ≡ inflightLen p → (long : Bool) → firstRefusal (reclaimChecks p long v m (victim p v (m .addresses))) ≡ none → CallOk p h (l .g) v (reclaimPlan p v m) ss ss n
-  unfolding reclaimChecks
-  reclaim-ok fits long e = go (victim p v (m .addresses)) refl (passes (reclaimChecks p long v m (victim p v (m .addresses))) e)
+  reclaim-ok fits long e = go (victim p v (m .addresses)) refl (reclaim-passed p long v m (victim p v (m .addresses)) e)
     where
-      live : Opt Victim → Bool
-      live w = not (isNil (victimLive w))
-
-      Q : Opt Victim → Type 0
-      Q w =
-          (not (inRange p) ≡ false)
-          × ((not long ≡ false)
-          × ((not (eqb (st .missing) 0) ≡ false)
-          × (((isNone w || (not (isNil (victimLive w)) && isNil (idle p v st w))) ≡ false)
-          × (((not (isNil (victimLive w)) && noSerial p st) ≡ false)
-          × (((not (isNil (victimLive w)) && mustWait p st) ≡ false) × (((not (isNil (victimLive w)) && opens p st && scarce p v 1) ≡ false)
-          × ((stateFaults p st ++ tableFaults p (m .addresses) ++ map (λ q. victimSegment w) (keep (λ q. not (between 1 (p .S) (placeBlock p q))) (victimLive w)) ≡ []) × Unit {0})))))))
-
       plan : Opt Victim → Plan
       plan w = cond (isNil (victimLive w)) (resetPlan p m (victimSegment w)) (copyPlan p v m (firstOr 0 (idle p v st w)))
 
-      some-victim : (w : Victim) → VictimIs p v (m .addresses) w → Q (some w) → CallOk p h (l .g) v (plan (some w)) ss ss n
+      some-victim : (w : Victim) → VictimIs p v (m .addresses) w → ReclaimPassed p long v m (some w) → CallOk p h (l .g) v (plan (some w)) ss ss n
       some-victim w vi q = pick? (test (isNil (victimLive (some w))))
         where
-          ok : stateOk p st ≡ true
-          ok =
-              state-free p st (nil-left (stateFaults p st) (tableFaults p (m .addresses))
-              (nil-left (stateFaults p st ++ tableFaults p (m .addresses))
-              (map (λ q. victimSegment (some w)) (keep (λ q. not (between 1 (p .S) (placeBlock p q))) (victimLive (some w))))
-              (q .1 .1 .1 .1 .1 .1 .1 .0) .0) .0)
-
           seg : victimSegment (some w) ≡ w .segment
           seg = unfold victimSegment in refl
 
@@ -291,27 +267,16 @@ module _ (p : Params) (h : Ranged p) (v : View) (m : Memory) (ss : List Send) (n
               (sym (cond-true (isNil (victimLive (some w))) (resetPlan p m (victimSegment (some w)))
               (copyPlan p v m (firstOr 0 (idle p v st (some w)))) t))
               (subst (λ (z : ℕ). CallOk p h (l .g) v (resetPlan p m z) ss ss n) (sym seg)
-              (reset-ok (w .segment) (vi .low) (vi .sealed) (sym (vi .live) ∙ sym alive ∙ nil-is (victimLive (some w)) t) ok))
+              (reset-ok (w .segment) (vi .low) (vi .sealed) (sym (vi .live) ∙ sym alive ∙ nil-is (victimLive (some w)) t) (q .state-fine)))
           pick? (no! t) =
               subst (λ (y : Plan). CallOk p h (l .g) v y ss ss n)
               (sym (cond-false (isNil (victimLive (some w))) (resetPlan p m (victimSegment (some w)))
               (copyPlan p v m (firstOr 0 (idle p v st (some w)))) t))
               (copy-ok fits (firstOr 0 (idle p v st (some w))) held?
-              (copy-asked (and-fails (live (some w)) (mustWait p st) (q .1 .1 .1 .1 .1 .0) on)
-              (and-fails (live (some w)) (noSerial p st) (q .1 .1 .1 .1 .0) on) room ok))
+              (copy-asked (q .no-wait t) (q .serial-left t) (q .room t) (q .state-fine)))
             where
-              on : live (some w) ≡ true
-              on = ap not t
-
-              room : (opens p st && scarce p v 1) ≡ false
-              room = spread (live (some w)) (opens p st) (scarce p v 1) (q .1 .1 .1 .1 .1 .1 .0) on
-                where
-                  spread : (a b c : Bool) → (a && b && c) ≡ false → a ≡ true → (b && c) ≡ false
-                  spread true b c e f = e
-                  spread false b c e f = true≢false f
-
               some-idle : isNil (idle p v st (some w)) ≡ false
-              some-idle = and-fails (live (some w)) (isNil (idle p v st (some w))) (or-r (isNone (some w)) (live (some w) && isNil (idle p v st (some w))) (q .1 .1 .1 .0)) on
+              some-idle = q .some-idle t
 
               held? : Has (firstOr 0 (idle p v st (some w))) (placesIn p (m .addresses))
               held? = live-has p (placesIn p (m .addresses)) (w .segment) (firstOr 0 (idle p v st (some w))) (subst (λ (y : List ℕ). Has (firstOr 0 (idle p v st (some w))) y) (alive ∙ vi .live)
@@ -320,15 +285,16 @@ module _ (p : Params) (h : Ranged p) (v : View) (m : Memory) (ss : List Send) (n
                   from-idle : (x : ℕ) → Has x (idle p v st (some w)) → Has x (victimLive (some w))
                   from-idle x i = unfold idle in keep-has (λ q. not (flying p v st q)) x (victimLive (some w)) i .0
 
-      none-taken : Q none → CallOk p h (l .g) v (plan none) ss ss n
-      none-taken q = clash {b = isNone none} (unfold isNone in refl) (or-left (isNone none) (not (isNil (victimLive none)) && isNil (idle p v st none)) (q .1 .1 .1 .0))
+      none-taken : ReclaimPassed p long v m none → CallOk p h (l .g) v (plan none) ss ss n
+      none-taken q = clash {b = isNone none} (unfold isNone in refl) (q .taken)
 
-      go : (w : Opt Victim) → victim p v (m .addresses) ≡ w → Q (victim p v (m .addresses)) → CallOk p h (l .g) v (reclaimPlan p v m) ss ss n
-      go none e q = subst (λ (y : Plan). CallOk p h (l .g) v y ss ss n) (sym (is ∙ ap plan e)) (none-taken (subst Q e q))
+      go : (w : Opt Victim) → victim p v (m .addresses) ≡ w → ReclaimPassed p long v m (victim p v (m .addresses)) → CallOk p h (l .g) v (reclaimPlan p v m) ss ss n
+      go none e q = subst (λ (y : Plan). CallOk p h (l .g) v y ss ss n) (sym (is ∙ ap plan e)) (none-taken (subst (λ (y : Opt Victim). ReclaimPassed p long v m y) e q))
         where
           is : reclaimPlan p v m ≡ plan (victim p v (m .addresses))
           is = unfold reclaimPlan in refl
-      go (some w) e q = subst (λ (y : Plan). CallOk p h (l .g) v y ss ss n) (sym (is ∙ ap plan e)) (some-victim w (victim-is p v (m .addresses) w e) (subst Q e q))
+      go (some w) e q = subst (λ (y : Plan). CallOk p h (l .g) v y ss ss n) (sym (is ∙ ap plan e))
+          (some-victim w (victim-is p v (m .addresses) w e) (subst (λ (y : Opt Victim). ReclaimPassed p long v m y) e q))
         where
           is : reclaimPlan p v m ≡ plan (victim p v (m .addresses))
           is = unfold reclaimPlan in refl

@@ -1,23 +1,22 @@
 -- A refused call, and a restart that isn't in order, leave a history as it is. Assumes nothing.
-use mathlib.Core.Path.{_≡_, refl, sym, ap, ap₂, _∙_}
+use Rattle.law_drives.specs.Tests.{clash}
+use mathlib.Core.Path.{_≡_, refl, sym, ap, _∙_}
 use mathlib.Core.List.{List, [], _∷_, _++_}
-use mathlib.Core.Bool.{Bool, true, false, cond, not, _&&_, _||_}
+use mathlib.Core.Bool.{Bool, true, false, cond, _&&_}
 use Prim.Native.Nat.{ℕ}
-use borrow.Author.Tests.{not-false}
 use lib.Dec.{eqb}
 use lib.ListN.{length}
+use Rattle.spec.specs.Lists.Opt.{none}
 use Rattle.spec.specs.declared.Params.{Params}
 use Rattle.spec.specs.declared.Answer.{Answer}
-use Rattle.spec.specs.declared.Answer.the-variants.{Refused, Filled, Rebuilt}
+use Rattle.spec.specs.declared.Answer.the-variants.{Filled, Rebuilt}
 use Rattle.spec.specs.Answers.{isRefused, isCut, finished}
-use Rattle.spec.specs.Calls.{Check, ruled, firstRefusal, Plan, mkPlan, decided, After, mkAfter, outcome}
-use Rattle.spec.specs.Calls.Check.{rule, zones}
+use Rattle.spec.specs.Calls.{Check, firstRefusal, Plan, mkPlan, decided, After, mkAfter, outcome}
+use Rattle.spec.specs.Calls.Check.{zones}
 use Rattle.spec.specs.Closing.{closeChecks, closePlan, closeVerdict}
-use Rattle.spec.specs.Counts.{lastCount}
 use Rattle.spec.specs.Drives.{View, Disk, storeDisk}
 use Rattle.spec.specs.Engine.{Call, storeCount, lentBlock, verdict, lentOk, callOn, callDisk}
 use Rattle.spec.specs.Engine.Call.{write, land, close, reclaim, read, fill, restart, rebuild}
-use Rattle.spec.specs.Faults.{imageChecks}
 use Rattle.spec.specs.History.{World, mkWorld, callOf, inOrder, swapped, before, happens, worldAfter, sentAfter, untrustedAfter, Mark, Hist, marked, step}
 use Rattle.spec.specs.History.Event.{calls, boots}
 use Rattle.spec.specs.Landing.{landChecks, landPlan, landVerdict}
@@ -28,17 +27,16 @@ use Rattle.spec.specs.Params.{inRange, named}
 use Rattle.spec.specs.Read.{lookup, foundFaults, decodeFaults, readPiece, readAnswer, readChecks, readVerdict, fillVerdict}
 use Rattle.spec.specs.Rebuild.{rebuildChecks, rebuildStores, rebuildVerdict}
 use Rattle.spec.specs.Reclaim.{victim, victimSegment, victimLive, idle, reclaimChecks, resetPlan, copyPlan, reclaimVerdict}
-use Rattle.spec.specs.Restart.{freeZones, namesDrive, rewrites, restartChecks, restartPlan, restartVerdict}
-use Rattle.spec.specs.Segments.{segments, greatestSerial}
+use Rattle.spec.specs.Restart.{namesDrive, restartChecks, restartPlan, restartVerdict}
+use Rattle.spec.specs.Segments.{segments}
 use Rattle.spec.specs.Write.{writeChecks, writePlan, writeVerdict}
-use Rattle.law_basic.specs.Ranges.{Test, test, and-both, or-left}
-use Rattle.law_basic.specs.Ranges.Test.{yes!, no! }
+use Rattle.law_basic.specs.Ranges.{and-both}
 use Rattle.law_views.specs.Views.{seen}
 use Rattle.law_calls.specs.Refusals.{refusal-kind, refused-unfinished}
-use Rattle.law_drives.specs.Tests.{cond-true, cond-false, clash}
+use Rattle.law_drives.specs.Tests.{cond-true, cond-false}
 use Rattle.proof_crash_machine.specs.Exec.{true≢false}
 use Rattle.proof_crash_machine.specs.Untrusted.{untrusted}
-use Rattle.proof_crash_calls.specs.Base.{or-r}
+use Rattle.law_checks.specs.Passed.{restart-passed}
 use Rattle.proof_crash_calls.specs.Join.{sent-refused}
 
 -- ---- every verdict is decided by checks
@@ -131,29 +129,17 @@ refused-step p s c a e = λ j. record {
 -- ---- a restart that isn't in order
 
 out-of-order : (p : Params) (k : Disk) (m : Memory) (d n : ℕ) → inOrder p (mkWorld k m) d ≡ false → (a : Answer) × (firstRefusal (decides p (lentOk p k m) (seen p k) m (restart d n) .checks) ≡ some a)
-unfolding inOrder decides restartChecks
-out-of-order p k m d n e = go (test (not (inRange p) || not (namesDrive p d))) (test (not (lentOk p k m)))
+out-of-order p k m d n e = go (firstRefusal (decides p (lentOk p k m) (seen p k) m (restart d n) .checks)) refl
   where
-    cs : List Check
-    cs =
-        imageChecks p (seen p k) (named d) (segments p (seen p k) (named d)) ++ (rule 6
-        (rewrites p (named d) (segments p (seen p k) (named d)) && eqb (greatestSerial (segments p (seen p k) (named d))) lastCount)
-        ∷ rule 8 (rewrites p (named d) (segments p (seen p k) (named d)) && isNil (freeZones p (segments p (seen p k) (named d)))) ∷ [])
+    passed : firstRefusal (decides p (lentOk p k m) (seen p k) m (restart d n) .checks) ≡ none → inOrder p (mkWorld k m) d ≡ true
+    passed f = unfold inOrder in
+        let c = restart-passed p (lentOk p k m) (seen p k) d (segments p (seen p k) (named d)) (unfold decides in f) in
+        and-both (inRange p && namesDrive p d) (lentOk p k m) (and-both (inRange p) (namesDrive p d) (c .in-range) (c .names)) (c .lent)
 
-    first : (b : Bool) → b ≡ true → (rest : List Check) → firstRefusal (rule 1 b ∷ rest) ≡ some (Refused 1)
-    first b q rest = unfold firstRefusal in (ap (λ (t : Bool). ruled 1 t (firstRefusal rest)) q ∙ (unfold ruled in refl))
-
-    second : (b c : Bool) → b ≡ false → c ≡ true → (rest : List Check) → firstRefusal (rule 1 b ∷ rule 2 c ∷ rest) ≡ some (Refused 2)
-    second b c q w rest = unfold firstRefusal in (ap₂ (λ (t u : Bool). ruled 1 t (ruled 2 u (firstRefusal rest))) q w ∙ (unfold ruled in refl))
-
-    go : Test (not (inRange p) || not (namesDrive p d)) → Test (not (lentOk p k m))
-        → (a : Answer) × (firstRefusal (rule 1 (not (inRange p) || not (namesDrive p d)) ∷ rule 2 (not (lentOk p k m)) ∷ cs) ≡ some a)
-    go (yes! x) y = (Refused 1, first (not (inRange p) || not (namesDrive p d)) x (rule 2 (not (lentOk p k m)) ∷ cs))
-    go (no! x) (yes! y) = (Refused 2, second (not (inRange p) || not (namesDrive p d)) (not (lentOk p k m)) x y cs)
-    go (no! x) (no! y) = clash
-        (and-both (inRange p && namesDrive p d) (lentOk p k m)
-        (and-both (inRange p) (namesDrive p d) (not-false (inRange p) (or-left (not (inRange p)) (not (namesDrive p d)) x))
-        (not-false (namesDrive p d) (or-r (not (inRange p)) (not (namesDrive p d)) x))) (not-false (lentOk p k m) y)) e
+    go : (o : Opt Answer) → firstRefusal (decides p (lentOk p k m) (seen p k) m (restart d n) .checks) ≡ o
+        → (a : Answer) × (firstRefusal (decides p (lentOk p k m) (seen p k) m (restart d n) .checks) ≡ some a)
+    go (some a) f = (a, f)
+    go none f = clash {b = inOrder p (mkWorld k m) d} (passed f) e
 
 -- it begins no run: the history is as it was
 pub boot-step : (p : Params) (s : Hist) (d n : ℕ) (m : Memory) (im ps : List ℕ) → inOrder p (mkWorld (s .world .disk) m) d ≡ false → step p s (boots d n m im ps) ≡ s

@@ -1,13 +1,13 @@
 -- Closing and write: what they do is what the machine does. Assumes nothing.
 use mathlib.Core.Path.{_≡_, refl, sym, ap, _∙_, subst}
 use mathlib.Core.List.{List, [], _∷_, _++_, map}
-use mathlib.Core.Bool.{Bool, true, false, cond, not, _&&_, _||_}
+use mathlib.Core.Bool.{Bool, true, false, cond}
 use mathlib.Core.Logic.{inl, inr, _≢_}
 use Prim.Native.Nat.{ℕ, suc, _-_, _≤_, _<_}
 use native.Mathlib.Decide.{decLt}
-use borrow.Author.Tests.{leb-false, eqb-true, eqb-false, not-false}
+use borrow.Author.Tests.{leb-false, eqb-false}
 use native.Mathlib.Omega.{arith}
-use lib.Dec.{leb, eqb}
+use lib.Dec.{leb}
 use lib.ListN.{length, take}
 use lib.Seq.{take-nil}
 use Rattle.spec.specs.declared.Params.{Params}
@@ -20,14 +20,10 @@ use Rattle.spec.specs.Drives.{View, Store, storeView, storeAll, emptyZones}
 use Rattle.spec.specs.History.{Send, mkSend, forget}
 use Rattle.spec.specs.Layout.{mkRec}
 use Rattle.spec.specs.Lists.Opt.{none}
-use Rattle.spec.specs.Lists.{isNil}
-use Rattle.spec.specs.Memory.{Memory, stripeIn, filledIn, fillingSlot, hasFilling, stateFaults, setStamp}
-use Rattle.spec.specs.Params.{dataCount, inRange, inflightLen}
-use Rattle.spec.specs.Reclaim.{tableFaults, victim, idle}
-use Rattle.spec.specs.Write.{opens, noStamp, noSerial, mustWait, scarce, placed, openedBy, slotFor, begunBy, sending, writeChecks, writePlan}
+use Rattle.spec.specs.Memory.{Memory, stripeIn, filledIn, fillingSlot, hasFilling, setStamp}
+use Rattle.spec.specs.Params.{dataCount, inflightLen}
+use Rattle.spec.specs.Write.{opens, noStamp, scarce, placed, openedBy, slotFor, begunBy, sending, writeChecks, writePlan}
 use Rattle.law_basic.specs.Geometry.{Ranged}
-use Rattle.law_basic.specs.Ranges.{or-left}
-use Rattle.law_calls.specs.Refusals.{state-free}
 use Rattle.proof_crash_items.specs.Items.{valueOf, itemsIn}
 use Rattle.proof_crash_items.specs.Ranges.{parOf}
 use Rattle.proof_crash_machine.specs.Facts.{Ghost, InV}
@@ -38,7 +34,7 @@ use Rattle.proof_crash_machine.specs.History.Step.{lose}
 use Rattle.proof_crash_machine.specs.Memory.{Mem}
 use Rattle.proof_crash_machine.specs.Order.{sentTo, noTrack}
 use Rattle.proof_crash_machine.specs.Val.{Val}
-use Rattle.proof_crash_calls.specs.Base.{or-r, passes}
+use Rattle.law_checks.specs.Passed.{close-passed, write-passed}
 use Rattle.proof_crash_calls.specs.Fill.{pad-all}
 use Rattle.proof_crash_calls.specs.Go.{mst, Later, later-same, Go, go-step, go-then, go-view, go-inv}
 use Rattle.proof_crash_calls.specs.Held.{TableOk, entry-sent, table-to}
@@ -64,14 +60,9 @@ module _ (p : Params) (h : Ranged p) (v : View) (m : Memory) (ss : List Send) (n
   same-ok r b = record { sound = tt; done = (l, later-same (l .g)); cut = no-store }
 
   pub close-ok : length (m .inflight) ≡ inflightLen p → (long : Bool) → firstRefusal (closeChecks p long v m) ≡ none → CallOk p h (l .g) v (closePlan p m) ss ss n
-  unfolding closePlan storeAll closeChecks
+  unfolding closePlan storeAll
   close-ok fits long e =
-      let q : (not (inRange p) ≡ false) × ((not long ≡ false) × ((not (eqb (m .state .missing) 0) ≡ false)
-      × (((not (hasFilling p (m .state)) || (scarce p v 1 && not (isNil (idle p v (m .state) (victim p v (m .addresses)))))) ≡ false)
-      × ((stateFaults p (m .state) ++ cond (scarce p v 1) (tableFaults p (m .addresses)) [] ≡ []) × Unit {0})))) = passes (closeChecks p long v m) e in
-      let f : hasFilling p (m .state) ≡ true =
-      not-false (hasFilling p (m .state))
-      (or-left (not (hasFilling p (m .state))) (scarce p v 1 && not (isNil (idle p v (m .state) (victim p v (m .addresses))))) (q .1 .1 .1 .0)) in
+      let f : hasFilling p (m .state) ≡ true = close-passed p long v m e .filling in
       let s : (fillingSlot p (m .state) < 8) × (inUse (m .state) (fillingSlot p (m .state)) ≡ true) × (filledIn (m .state) (fillingSlot p (m .state)) < dataCount p) = filling-slot p (m .state) f in
       record {
         sound = tt;
@@ -93,24 +84,17 @@ pub record WriteAsked (p : Params) (v : View) (st : State) (ad : ℕ) (b : List 
   pub asked : Asked p v st
 
 pub write-asked : (p : Params) (long : Bool) (v : View) (m : Memory) (ad : ℕ) (b : List ℕ) → firstRefusal (writeChecks p long v m ad b) ≡ none → WriteAsked p v (m .state) ad b
-unfolding writeChecks
 write-asked p long v m ad b e =
-    let st : State = m .state in
-    let q : (not (inRange p) ≡ false)
-    × (((not long || not (eqb (length b) (p .B))) ≡ false)
-    × ((not (eqb (st .missing) 0) ≡ false)
-    × ((leb (p .L) ad ≡ false)
-    × (((noStamp st || noSerial p st) ≡ false)
-    × ((mustWait p st ≡ false) × ((scarce p v (cond (opens p st) 2 1) ≡ false) × ((stateFaults p st ≡ []) × Unit {0}))))))) = passes (writeChecks p long v m ad b) e in
+    let c = write-passed p long v m ad b e in
     record {
-      block = eqb-true (length b) (p .B) (not-false (eqb (length b) (p .B)) (or-r (not long) (not (eqb (length b) (p .B))) (q .1 .0)));
-      address = leb-false (p .L) ad (q .1 .1 .1 .0);
-      stamp = last (or-left (noStamp st) (noSerial p st) (q .1 .1 .1 .1 .0));
+      block = c .block-long;
+      address = c .address-low;
+      stamp = last (c .stamp-left);
       asked = record {
-        ok = state-free p st (q .1 .1 .1 .1 .1 .1 .1 .0);
-        waits = q .1 .1 .1 .1 .1 .0;
-        serial = or-r (noStamp st) (noSerial p st) (q .1 .1 .1 .1 .0);
-        room = λ o. room o (q .1 .1 .1 .1 .1 .1 .0);
+        ok = c .state-fine;
+        waits = c .no-wait;
+        serial = c .serial-left;
+        room = λ o. room o (c .room);
       };
     }
   where

@@ -1,6 +1,6 @@
 -- What the read calls give on memory whose tables are a restart's: the block of the greatest counted stamp. Assumes nothing.
 use mathlib.Core.Path.{_≡_, refl, sym, ap, ap₂, _∙_, subst}
-use mathlib.Core.List.{List, [], _∷_, _++_, map}
+use mathlib.Core.List.{List, [], _∷_, map}
 use mathlib.Core.Bool.{Bool, true, false, cond, not, _&&_, _||_}
 use mathlib.Core.Logic.{_⊎_, inl, inr, ⊎-elim, _≢_}
 use Prim.Native.Nat.{ℕ, suc, _+_, _-_, _*_, _^_, _≤_, _<_}
@@ -15,8 +15,7 @@ use Rattle.spec.specs.declared.Answer.{Answer}
 use Rattle.spec.specs.declared.Answer.the-variants.{Filled}
 use Rattle.spec.specs.Answers.{kind}
 use Rattle.spec.specs.Bytes.{parity}
-use Rattle.spec.specs.Calls.{Check, ninth, ruled, firstRefusal, mkPlan, decided, limited, outcome}
-use Rattle.spec.specs.Calls.Check.{zones}
+use Rattle.spec.specs.Calls.{mkPlan, decided, limited, outcome}
 use Rattle.spec.specs.Counts.{neverPlace}
 use Rattle.spec.specs.Drives.{noChunk, View, zoneAt, pointerAt, chunkAt, Disk, storeDisk, zoneOn}
 use Rattle.spec.specs.Engine.Call.{read, fill}
@@ -25,15 +24,16 @@ use Rattle.spec.specs.History.{mkWorld, seenFilled, seenAt}
 use Rattle.spec.specs.History.Seen.{unwritten, got}
 use Rattle.spec.specs.Lists.{Opt, any, consIf, isNil, firstOr, isIn}
 use Rattle.spec.specs.Lists.Opt.{none, some}
-use Rattle.spec.specs.Memory.{Memory, stateOk, stateFaults, placeAt, shownAt}
+use Rattle.spec.specs.Memory.{Memory, stateOk, placeAt, shownAt}
 use Rattle.spec.specs.Params.{between, inRange, capacity, placeOf, placeBlock, placeZone, placeDrive, named, present}
 use Rattle.spec.specs.Parity.{Piece, parityPiece}
 use Rattle.spec.specs.Rank.{Cand, best, placeOr, candsOf}
-use Rattle.spec.specs.Read.{placeFaults, Found, lookup, foundFaults, shown, decodeFaults, storedAt, decodedAt, readPiece, readAnswer, readChecks, readVerdict, fillVerdict}
+use Rattle.spec.specs.Read.{placeFaults, Found, lookup, foundFaults, shown, decodeFaults, storedAt, decodedAt, readPiece, readAnswer, readVerdict, fillVerdict}
 use Rattle.spec.specs.Read.Found.{nowhere, here, away}
 use Rattle.spec.specs.Segments.{Segment, segmentOf, segments, offsetOn, hasChunk, counts, storedPiece, pieceOf, offsetOf, candOf, candidates, addressTable, compactTable}
+use Rattle.law_checks.specs.Passed.{read-goes, fill-goes}
 use Rattle.law_basic.specs.Geometry.{between-of, Ranged, capacity-high, zones-all, addresses-all, place-block, place-zone, place-drive, place-lt}
-use Rattle.law_basic.specs.Ranges.{and-both, and-false}
+use Rattle.law_basic.specs.Ranges.{and-false}
 use Rattle.law_basic.specs.Xor.{length-parity}
 use Rattle.law_views.specs.Views.{Whole, seen}
 use Rattle.law_calls.specs.Refusals.{state-fine}
@@ -68,36 +68,28 @@ module _ (p : Params) (dk : Disk) (mem : Memory) (a : ℕ) (h₁ : inRange p ≡
   abbrev f : Found
   f = lookup p (mem .state .missing) (mem .addresses) a
 
-  abbrev cs : List Check
-  cs = readChecks p (lentOk p dk mem) a
-
-  passes : (long : Bool) → long ≡ true → (ds : List Check) → firstRefusal (readChecks p long a ++ ds) ≡ firstRefusal ds
-  unfolding readChecks firstRefusal ruled
-  passes long e ds =
-      ap (λ (b : Bool). ruled 1 (not b) (ruled 2 (not long) (ruled 4 (leb (p .L) a) (firstRefusal ds)))) h₁
-      ∙ ap₂ (λ (b c : Bool). ruled 2 (not b) (ruled 4 c (firstRefusal ds))) e (lt-leb (p .L) a h₄)
-
   module _ (fine : foundFaults p (seen p dk) (mem .state .missing) f ≡ []) where
     pub read-call : callDisk p dk mem (read a) .answer ≡ readAnswer p f
-    unfolding callDisk callOn verdict readVerdict storeCount outcome limited decided firstRefusal ninth
+    unfolding callDisk callOn verdict readVerdict storeCount outcome limited decided
     read-call =
         ap (λ (x : Opt Answer). outcome p (storeDisk p) 0 dk mem (lentBlock (read a)) (decided x (mkPlan [] (readAnswer p f) mem [])) .answer)
-        (passes (lentOk p dk mem) h₂ (zones (stateFaults p (mem .state) ++ foundFaults p (seen p dk) (mem .state .missing) f) ∷ [])
-        ∙ ap₂ (λ (x y : List ℕ). ninth (x ++ y) none) (state-fine p (mem .state) h₉) fine)
+        (read-goes p (lentOk p dk mem) (seen p dk) mem a (record { in-range = h₁; lent = h₂; address-low = h₄; state-fine = h₉; place-fine = fine }))
 
     module _ (decodes : decodeFaults p (seen p dk) (mem .state .missing) (mem .compact) f ≡ []) where
       pub fill-call : seenFilled (callDisk p dk mem (fill a (replicate (p .B) 0))) ≡ got (readPiece p (seen p dk) (mem .state .missing) (mem .compact) f .block)
-      unfolding callDisk callOn verdict fillVerdict storeCount outcome limited decided firstRefusal ninth seenFilled kind
+      unfolding callDisk callOn verdict fillVerdict storeCount outcome limited decided seenFilled kind
       fill-call =
-          let b : List ℕ = replicate (p .B) 0 in
-          let e : (lentOk p dk mem && eqb (length (replicate {A = ℕ} (p .B) 0)) (p .B)) ≡ true =
-          and-both (lentOk p dk mem) (eqb (length (replicate {A = ℕ} (p .B) 0)) (p .B)) h₂ (eq-eqb (length (replicate {A = ℕ} (p .B) 0)) (p .B) (length-replicate {A = ℕ} (p .B) 0)) in
           ap (λ (x : Opt Answer). seenFilled (outcome p (storeDisk p) 0 dk mem (lentBlock (fill a (replicate (p .B) 0)))
           (decided x (mkPlan [] Filled mem (readPiece p (seen p dk) (mem .state .missing) (mem .compact) f .block)))))
-          (passes (lentOk p dk mem && eqb (length (replicate {A = ℕ} (p .B) 0)) (p .B)) e
-          (zones (stateFaults p (mem .state) ++ foundFaults p (seen p dk) (mem .state .missing) f) ∷ zones (decodeFaults p (seen p dk) (mem .state .missing) (mem .compact) f) ∷ [])
-          ∙ ap₂ (λ (x y : List ℕ). ninth (x ++ y) (ninth (decodeFaults p (seen p dk) (mem .state .missing) (mem .compact) f) none)) (state-fine p (mem .state) h₉) fine
-          ∙ ap (λ (y : List ℕ). ninth y none) decodes)
+          (fill-goes p (lentOk p dk mem) (seen p dk) mem a (replicate (p .B) 0) (record {
+            in-range = h₁;
+            lent = h₂;
+            block-long = length-replicate {A = ℕ} (p .B) 0;
+            address-low = h₄;
+            state-fine = h₉;
+            place-fine = fine;
+            decodes = decodes;
+          }))
 
   -- never written
   pub seen-never : lookup p (mem .state .missing) (mem .addresses) a ≡ nowhere → seenAt p (mkWorld dk mem) a ≡ unwritten

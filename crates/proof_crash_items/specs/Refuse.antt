@@ -1,7 +1,7 @@
 -- No restart that names an allowed drive, or none, is refused 9 or 8 on drives with the facts. Assumes nothing.
 use mathlib.Core.Path.{_≡_, refl, sym, ap, ap₂, _∙_, subst}
-use mathlib.Core.List.{List, [], _∷_, _++_, map}
-use mathlib.Core.Bool.{Bool, true, false, cond, not, _&&_, _||_}
+use mathlib.Core.List.{List, [], _∷_, map}
+use mathlib.Core.Bool.{Bool, true, false, not, _&&_, _||_}
 use mathlib.Core.Logic.{inl, inr, _≢_}
 use Prim.Native.Nat.{ℕ, zero, suc, _+_, _≤_, _<_}
 use native.Mathlib.Decide.{ℕ-discrete}
@@ -11,18 +11,18 @@ use lib.Dec.{leb, ltb, eqb}
 use lib.ListN.{length, getD, take, drop, length-drop, length-map}
 use lib.Seq.{getD-take, getD-drop, ext-getD, length-take-le}
 use Rattle.spec.specs.declared.Params.{Params}
-use Rattle.spec.specs.Calls.{Check, ninth, ruled, firstRefusal}
-use Rattle.spec.specs.Calls.Check.{rule}
+use Rattle.spec.specs.Calls.{firstRefusal}
 use Rattle.spec.specs.Counts.{paddingAddress, lastCount}
 use Rattle.spec.specs.Drives.{Chunk, mkChunk, noChunk, Zone, noZone, View, zoneAt, pointerAt, chunkAt, segmentNumbers, zoneOn, dataStored, blocksOf, footersOf, zeroSpare}
 use Rattle.spec.specs.Faults.{pointerFaults, sameChunk, headerFault, serialFault, outside, twice, stripeFault, badRec, storedBad, decodedBad, addressFault}
-use Rattle.spec.specs.Faults.{footersStored, sameBlocks, footerFaultIn, footerFault, clashes, segmentFault, segmentFaults, imageChecks}
+use Rattle.spec.specs.Faults.{footersStored, sameBlocks, footerFaultIn, footerFault, clashes, segmentFault, segmentFaults}
 use Rattle.spec.specs.Layout.{parityDrive, isData, group, inGroupOf, headerBlock, headerSerial, headerCopied, Rec, mkRec, recordOf, footerBlock}
 use Rattle.spec.specs.Lists.Opt.{none}
 use Rattle.spec.specs.Lists.{upFrom, below, all, any, consIf, keep, isNil, sameList}
 use Rattle.spec.specs.Params.{inRange, footers, capacity, named, present, absent}
 use Rattle.spec.specs.Restart.{freeZones, namesDrive, rewrites, restartChecks}
 use Rattle.spec.specs.Segments.{lowDrive, headerAt, leftBy1, isCopy, remaining, Segment, segmentOf, segments, recsOn, counted, pieceOf, recOf, greatestSerial, unsealed}
+use Rattle.law_checks.specs.Passed.{restart-goes}
 use Rattle.law_basic.specs.Geometry.{Ranged, addresses-all}
 use Rattle.law_basic.specs.Ranges.{and-both, length-upFrom, getD-upFrom, getD-map, sameList-refl, and-false}
 use Rattle.law_drives.specs.Accept.{outside-none}
@@ -157,7 +157,7 @@ module _ (p : Params) (r : Ranged p) (g : Ghost) (v : View) (k : OnDrives p r g 
   G z = segmentOf p v (named m) z
 
   -- ---- pointers
-  pointers-fine : pointerFaults p v (named m) ≡ []
+  pub pointers-fine : pointerFaults p v (named m) ≡ []
   unfolding pointerFaults
   pointers-fine = keep-nil (λ z. any (λ d. ltb (capacity p) (pointerAt v d z)) (present p (named m))) (below (p .Z)) (λ z i.
       none-present p r m (λ d. ltb (capacity p) (pointerAt v d z)) (λ d l n.
@@ -370,7 +370,7 @@ module _ (p : Params) (r : Ranged p) (g : Ghost) (v : View) (k : OnDrives p r g 
       || footerFault p (named m) (G z)) (not (G z .full) && leb 2 (length (unsealed gs))) h₄
       (and-false (not (G z .full)) (leb 2 (length (unsealed gs))) (lt-leb 2 (length (unsealed gs)) (omega (arith, one-unsealed))))
 
-  segments-fine : segmentFaults p (named m) (segments p v (named m)) ≡ []
+  pub segments-fine : segmentFaults p (named m) (segments p v (named m)) ≡ []
   unfolding segmentFaults
   segments-fine = ap (map (λ (g : Segment). g .seg)) (keep-nil (segmentFault p (named m) (segments p v (named m))) (segments p v (named m)) (λ h j. one h (each h j)))
     where
@@ -395,25 +395,18 @@ module _ (p : Params) (r : Ranged p) (g : Ghost) (v : View) (k : OnDrives p r g 
       one : (z : ℕ) → (R (parOf p r) (g .hd) (itemsIn p v) m z → ⊥) → (h : Segment) → (y : ℕ) × Has y (remaining p v (named m)) × (h ≡ G y) → eqb (h .seg) z ≡ false
       one z n h (y, i, e) = rw e (ne-eqb (G y .seg) z (λ w. n (subst (λ (x : ℕ). R (parOf p r) (g .hd) (itemsIn p v) m x) (sym (segment-fields p r g v k m c y .0) ∙ w) (R? y i))))
 
-  -- ---- the image passes, and with it the restart (but for 6)
-  pub image-passes : (cs : List Check) → firstRefusal (imageChecks p v (named m) (segments p v (named m)) ++ cs) ≡ firstRefusal cs
-  unfolding imageChecks firstRefusal ninth isNil
-  image-passes cs =
-      let e₁ : pointerFaults p v (named m) ≡ [] = pointers-fine in
-      let e₂ : segmentFaults p (named m) (segments p v (named m)) ≡ [] = segments-fine in
-      ap₂ (λ (ps ss : List ℕ). ninth ps (ninth (cond (isNil ps) ss []) (firstRefusal cs))) e₁ e₂
-
+  -- ---- nothing refuses the restart (but for 6)
   pub not-refused : inRange p ≡ true → namesDrive p m ≡ true → (long : Bool) → long ≡ true
       → (rewrites p (named m) (segments p v (named m)) && eqb (greatestSerial (segments p v (named m))) lastCount) ≡ false
       → firstRefusal (restartChecks p long v m (segments p v (named m))) ≡ none
-  unfolding restartChecks firstRefusal ruled
   not-refused h₁ h₂ long h₃ h₆ =
       let gs : List Segment = segments p v (named m) in
-      let a₁ : (not (inRange p) || not (namesDrive p m)) ≡ false = or-false (not (inRange p)) (not (namesDrive p m)) (ap not h₁) (ap not h₂) in
-      let a₂ : not long ≡ false = ap not h₃ in
-      let a₈ : (rewrites p (named m) gs && isNil (freeZones p gs)) ≡ false = and-false (rewrites p (named m) gs) (isNil (freeZones p gs)) free-zone in
-      ap₂ (λ (x y : Bool). ruled 1 x (ruled 2 y (firstRefusal
-      (imageChecks p v (named m) gs ++ (rule 6 (rewrites p (named m) gs && eqb (greatestSerial gs) lastCount) ∷ rule 8
-      (rewrites p (named m) gs && isNil (freeZones p gs)) ∷ []))))) a₁ a₂
-      ∙ image-passes (rule 6 (rewrites p (named m) gs && eqb (greatestSerial gs) lastCount) ∷ rule 8 (rewrites p (named m) gs && isNil (freeZones p gs)) ∷ [])
-      ∙ ap₂ (λ (x y : Bool). ruled 6 x (ruled 8 y none)) h₆ a₈
+      restart-goes p long v m gs (record {
+        in-range = h₁;
+        names = h₂;
+        lent = h₃;
+        pointers-fine = pointers-fine;
+        segments-fine = segments-fine;
+        serial-left = h₆;
+        zone-left = and-false (rewrites p (named m) gs) (isNil (freeZones p gs)) free-zone;
+      })

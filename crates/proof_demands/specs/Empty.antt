@@ -1,7 +1,7 @@
 -- Empty drives are accepted: no segment remains, so nothing is wrong with one, and none is rewritten. Assumes nothing.
-use mathlib.Core.Path.{_≡_, refl, sym, ap, ap₂, _∙_}
-use mathlib.Core.List.{List, [], _∷_, _++_, map}
-use mathlib.Core.Bool.{Bool, true, false, not, _&&_, _||_, and-false}
+use mathlib.Core.Path.{_≡_, refl, sym, ap, _∙_}
+use mathlib.Core.List.{List, [], map}
+use mathlib.Core.Bool.{Bool, true, false, not, _&&_, and-false}
 use Prim.Native.Nat.{ℕ, _<_}
 use borrow.Author.Tests.{eq-eqb, ne-eqb, le-ltb, eqb-true}
 use native.Mathlib.Decide.{ℕ-discrete}
@@ -11,19 +11,18 @@ use lib.ListN.{length}
 use Rattle.spec.specs.declared.Params.{Params}
 use Rattle.spec.specs.declared.Answer.{Answer}
 use Rattle.spec.specs.Answers.{kind, isRefused}
-use Rattle.spec.specs.Calls.{Check, After}
-use Rattle.spec.specs.Calls.Check.{rule}
+use Rattle.spec.specs.Calls.{After, firstRefusal}
 use Rattle.spec.specs.Counts.{lastCount}
 use Rattle.spec.specs.Lists.Opt.{none, some}
 use Rattle.spec.specs.Drives.{View, pointerAt, Disk, zoneOn, segmentNumbers}
 use Rattle.spec.specs.Engine.{lentOk, callDisk, Lent, Left, lentDisk, lentMemory, leftBy, callBytes}
 use Rattle.spec.specs.Engine.Call.{restart}
-use Rattle.spec.specs.Faults.{pointerFaults, segmentFault, segmentFaults, imageChecks}
+use Rattle.spec.specs.Faults.{pointerFaults, segmentFault, segmentFaults}
 use Rattle.spec.specs.History.{emptyDisk}
 use Rattle.spec.specs.Lists.{below, all, any, keep, isNil, isIn}
 use Rattle.spec.specs.Memory.{Memory, stateLen}
 use Rattle.spec.specs.Params.{inRange, capacity, named, present}
-use Rattle.spec.specs.Restart.{freeZones, isRagged, namesDrive, rewrites, restartChecks, restartPlan}
+use Rattle.spec.specs.Restart.{freeZones, isRagged, namesDrive, rewrites, restartPlan}
 use Rattle.spec.specs.Segments.{lowDrive, leftBy1, isCopy, remaining, Segment, segmentOf, segments, greatestSerial, unsealed}
 use Rattle.law_basic.specs.Geometry.{Ranged, ranged}
 use Rattle.law_basic.specs.Ranges.{and-left, and-right}
@@ -32,8 +31,7 @@ use Rattle.law_lent.specs.Hosts.{bytes-long}
 use Rattle.spec_demands.specs.Histories.{lentInOrder}
 use Rattle.proof_crash_items.specs.Named.{is-named}
 use Rattle.proof_crash_items.specs.Start.{empty-pointer}
-use Rattle.law_drives.specs.Accept.{checks-of}
-use Rattle.law_drives.specs.Checks.{Passes, passed}
+use Rattle.law_checks.specs.Passed.{restart-goes}
 use Rattle.law_drives.specs.Members.{keep-nothing, in-none, below-in, all-in}
 use Rattle.law_drives.specs.Segs.{in-present, present-in}
 use Rattle.proof_tables.specs.Outcomes.{Ended}
@@ -89,18 +87,18 @@ module _ (p : Params) (rg : inRange p ≡ true) (k : Disk) (e : emptyDisk p k �
   unfolding rewrites unsealed keep any
   no-rewrite gs q b = ap (λ (l : List Segment). (eqb (named d) 0 && any (isRagged p) (unsealed l)) && b) q ∙ ap (λ (x : Bool). x && b) (and-false (eqb (named d) 0))
 
-  checks-pass : (m : Memory) → namesDrive p d ≡ true → lentOk p k m ≡ true → Passes (startChecks p k m d)
-  unfolding restartChecks
+  checks-pass : (m : Memory) → namesDrive p d ≡ true → lentOk p k m ≡ true → firstRefusal (startChecks p k m d) ≡ none
   checks-pass m nm lo =
       let gs = segments p v (named d) in
-      let a = checks-of p v (named d) (record { pointers-ok = no-pointer; segments-ok = no-segment gs none-remains }) in
-      let six = no-rewrite gs none-remains (eqb (greatestSerial gs) lastCount) in
-      let eight = no-rewrite gs none-remains (isNil (freeZones p gs)) in
-      let cs = rule 6 (rewrites p (named d) gs && eqb (greatestSerial gs) lastCount) ∷ rule 8 (rewrites p (named d) gs && isNil (freeZones p gs)) ∷ [] in
-      (ap₂ (λ (x : Bool) (y : Bool). not x || not y) rg nm, (ap not lo, image-passes gs cs a (six, (eight, tt))))
-    where
-      image-passes : (gs : List Segment) (cs : List Check) → Passes (imageChecks p v (named d) gs) → Passes cs → Passes (imageChecks p v (named d) gs ++ cs)
-      image-passes gs cs = unfold imageChecks in (λ a c. (a .0, (a .1 .0, c)))
+      restart-goes p (lentOk p k m) v d gs (record {
+        in-range = rg;
+        names = nm;
+        lent = lo;
+        pointers-fine = no-pointer;
+        segments-fine = no-segment gs none-remains;
+        serial-left = no-rewrite gs none-remains (eqb (greatestSerial gs) lastCount);
+        zone-left = no-rewrite gs none-remains (isNil (freeZones p gs));
+      })
 
   some-not-none : {X : Type 0} {a : Answer} → some a ≡ none → X
   some-not-none q = absurd (let z : _≡_ {A = ℕ} 0 1 = cc in let y : ⊥ = omega arith in y)
@@ -109,7 +107,7 @@ module _ (p : Params) (rg : inRange p ≡ true) (k : Disk) (e : emptyDisk p k �
   empty-accepted m n nm lo = go (restart-ends p k m d n)
     where
       go : Ended p k m (startChecks p k m d) (startPlan p k m d) (callDisk p k m (restart d n)) → isRefused (callDisk p k m (restart d n) .answer) ≡ false
-      go (ended-refused a q f g h) = some-not-none (sym q ∙ passed (startChecks p k m d) (checks-pass m nm lo))
+      go (ended-refused a q f g h) = some-not-none (sym q ∙ checks-pass m nm lo)
       go (ended-done c f g h) = ap isRefused f ∙ (unfold isRefused kind restartPlan in refl)
       go (ended-cut c f) = ap isRefused f ∙ (unfold isRefused kind in refl)
 

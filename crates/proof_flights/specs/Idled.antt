@@ -1,31 +1,30 @@
 -- Calls that change nothing: the reads, and every call that is refused. Assumes nothing.
 use mathlib.Core.Path.{_≡_, refl, sym, ap, ap₂, _∙_, subst}
-use mathlib.Core.List.{List, [], _∷_, _++_, append-nil}
+use mathlib.Core.List.{List, [], _++_, append-nil}
 use mathlib.Core.Bool.{Bool, true, false, not, _&&_}
 use Prim.Native.Nat.{ℕ, _≤_}
 use native.Mathlib.Omega.{arith}
 use borrow.Author.Tests.{ne-eqb, leb-true}
 use lib.Dec.{leb, ltb, eqb}
-use lib.ListN.{length, getD}
+use lib.ListN.{getD}
+use Rattle.spec.specs.Lists.Opt.{none}
 use Rattle.spec.specs.declared.Params.{Params}
 use Rattle.spec.specs.declared.Answer.{Answer}
 use Rattle.spec.specs.declared.Answer.the-variants.{Filled}
 use Rattle.spec.specs.Answers.{kind, values, isRefused, isCut, finished}
-use Rattle.spec.specs.Calls.{Check, Plan, mkPlan, After}
-use Rattle.spec.specs.Calls.Check.{rule, zones}
+use Rattle.spec.specs.Calls.{Check, Plan, mkPlan, After, firstRefusal}
 use Rattle.spec.specs.Drives.{Disk, storeDisk, storeAll}
 use Rattle.spec.specs.Engine.{Call, storeCount, lentBlock, verdict, lentOk, callOn, callDisk}
 use Rattle.spec.specs.Engine.Call.{write, land, close, reclaim, read, fill, restart, rebuild}
 use Rattle.spec.specs.History.{endsRun}
 use Rattle.spec.specs.Lists.{consIf, keep}
-use Rattle.spec.specs.Memory.{Memory, stateFaults}
-use Rattle.spec.specs.Params.{inRange}
-use Rattle.spec.specs.Read.{Found, lookup, foundFaults, decodeFaults, readPiece, readAnswer, readChecks, readVerdict, fillVerdict}
+use Rattle.spec.specs.Memory.{Memory}
+use Rattle.spec.specs.Read.{Found, lookup, readPiece, readAnswer, readVerdict, fillVerdict}
 use Rattle.spec.specs.Read.Found.{nowhere, here, away}
 use Rattle.spec.specs.Segments.{Segment}
 use Rattle.law_lent.specs.Shorts.{write-keeps, land-keeps, close-keeps, reclaim-keeps, read-keeps, fill-keeps, restart-keeps, rebuild-keeps}
 use Rattle.spec_demands.specs.Tables.{Pending, pendingBy, stillPending, pendingAfter}
-use Rattle.law_drives.specs.Checks.{Passes}
+use Rattle.law_checks.specs.Passed.{readList, fillList}
 use Rattle.law_drives.specs.Tests.{clash, cond-false, and-false-left, or-neither}
 use Rattle.proof_tables.specs.Outcomes.{Ended, ended, cut-cut}
 use Rattle.proof_tables.specs.Outcomes.Ended.{ended-refused, ended-done, ended-cut}
@@ -104,7 +103,7 @@ flown-still p k m ws old f c r e g q = flown-as p k m (pendingAfter c (r .answer
 
 -- a call as it ends: what is left once all is done, else nothing changed
 pub flown-ended : (p : Params) (k : Disk) (m : Memory) (ws : List Pending) (old : List Segment) → Flown p k m ws old → (c : Call) (cs : List Check) (q : Plan) (r : After Disk)
-    → (Passes cs → Flown p (storeAll (storeDisk p) (q .stores) k) (q .memory) (pendingAfter c (q .answer) ws) old)
+    → (firstRefusal cs ≡ none → Flown p (storeAll (storeDisk p) (q .stores) k) (q .memory) (pendingAfter c (q .answer) ws) old)
     → isCut (r .answer) ≡ false → Ended p k m cs q r → Flown p (r .drives) (r .memory) (pendingAfter c (r .answer) ws) old
 flown-ended p k m ws old f c cs q r done nc (ended-refused a e x y z) =
     flown-still p k m ws old f c r y z (subst (λ (b : Answer). Quiet b) (sym x) (quiet-refused a (refusal-kind cs a e)))
@@ -151,23 +150,22 @@ module _ (p : Params) (k : Disk) (m : Memory) (u : Run p k m) (ws : List Pending
 
   pub flown-read : (a : ℕ) → isCut (callDisk p k m (read a) .answer) ≡ false
       → Flown p (callDisk p k m (read a) .drives) (callDisk p k m (read a) .memory) (pendingAfter (read a) (callDisk p k m (read a) .answer) ws) old
-  unfolding callDisk callOn verdict storeCount lentBlock readVerdict readChecks
+  unfolding callDisk callOn verdict storeCount lentBlock readVerdict
   flown-read a nc = flown-ended p k m ws old f (read a) cs q _ (λ h. same (read a) (readAnswer p (found a)) (quiet-read (found a))) nc (ended p k m cs q 0 [])
     where
       cs : List Check
-      cs = rule 1 (not (inRange p)) ∷ rule 2 (not (lentOk p k m)) ∷ rule 4 (leb (p .L) a) ∷ zones (stateFaults p (m .state) ++ foundFaults p (seen p k) (m .state .missing) (found a)) ∷ []
+      cs = readList p (lentOk p k m) (seen p k) m a
 
       q : Plan
       q = mkPlan [] (readAnswer p (found a)) m []
 
   pub flown-fill : (a : ℕ) (b : List ℕ) → isCut (callDisk p k m (fill a b) .answer) ≡ false
       → Flown p (callDisk p k m (fill a b) .drives) (callDisk p k m (fill a b) .memory) (pendingAfter (fill a b) (callDisk p k m (fill a b) .answer) ws) old
-  unfolding callDisk callOn verdict storeCount lentBlock fillVerdict readChecks
+  unfolding callDisk callOn verdict storeCount lentBlock fillVerdict
   flown-fill a b nc = flown-ended p k m ws old f (fill a b) cs q _ (λ h. same (fill a b) Filled quiet-filled) nc (ended p k m cs q 0 b)
     where
       cs : List Check
-      cs = rule 1 (not (inRange p)) ∷ rule 2 (not (lentOk p k m && eqb (length b) (p .B))) ∷ rule 4 (leb (p .L) a)
-          ∷ zones (stateFaults p (m .state) ++ foundFaults p (seen p k) (m .state .missing) (found a)) ∷ zones (decodeFaults p (seen p k) (m .state .missing) (m .compact) (found a)) ∷ []
+      cs = fillList p (lentOk p k m) (seen p k) m a b
 
       q : Plan
       q = mkPlan [] Filled m (readPiece p (seen p k) (m .state .missing) (m .compact) (found a) .block)

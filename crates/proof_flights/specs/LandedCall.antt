@@ -5,15 +5,16 @@ use mathlib.Core.Bool.{true, false, cond, not, _&&_, Bool}
 use mathlib.Core.Logic.{inl, inr}
 use Prim.Native.Nat.{ℕ, zero, suc, _+_, _-_, _<_}
 use native.Mathlib.Omega.{arith}
-use borrow.Author.Tests.{lt-ltb, eq-eqb, eqb-true, leb-true, not-false}
+use borrow.Author.Tests.{lt-ltb, eq-eqb, eqb-true, leb-true}
 use lib.Dec.{ltb, eqb}
 use lib.ListN.{length, length-map, getD}
+use Rattle.spec.specs.Lists.Opt.{none}
 use Rattle.spec.specs.declared.Params.{Params}
 use Rattle.spec.specs.declared.State.{State}
 use Rattle.spec.specs.declared.Answer.{Answer}
 use Rattle.spec.specs.declared.Answer.the-variants.{Landed, Cut}
 use Rattle.spec.specs.Answers.{kind, values, isRefused, isCut, finished}
-use Rattle.spec.specs.Calls.{Plan}
+use Rattle.spec.specs.Calls.{Plan, firstRefusal}
 use Rattle.spec.specs.Drives.{View, pointerAt, Store, storeView, Disk, storeDisk, storeAll, zoneOn, sealedIn}
 use Rattle.spec.specs.Drives.Store.{put}
 use Rattle.spec.specs.Engine.Call.{land}
@@ -33,7 +34,7 @@ use Rattle.law_calls.specs.Refusals.{refusal-kind}
 use Rattle.spec_demands.specs.Layouts.{ParityMade}
 use Rattle.spec_demands.specs.Tables.{Pending, pendingBy, stillPending, pendingAfter, noPending, pendingIn, openIn, landingStores, Lands}
 use Rattle.spec_demands.specs.Engines.{onValues, callWorld, viewIn}
-use Rattle.law_drives.specs.Checks.{Passes}
+use Rattle.law_checks.specs.Passed.{land-passed}
 use Rattle.law_drives.specs.Joins.{roomy-append, within-append}
 use Rattle.law_drives.specs.Members.{In, in-keep, map-in, in-getD}
 use Rattle.law_drives.specs.Slots.{block-long! }
@@ -84,17 +85,15 @@ module _ (p : Params) (k : Disk) (m : Memory) (u : Run p k m) (d s : ℕ) where
   unfolding callDisk callOn verdict storeCount lentBlock landVerdict
   land-ends n = ended p k m (landChecks p (lentOk p k m) v m d s) plan n []
 
-  passed-none : Passes (landChecks p (lentOk p k m) v m d s) → st .missing ≡ 0
-  unfolding landChecks
-  passed-none c = eqb-true (st .missing) 0 (not-false (eqb (st .missing) 0) (c .1 .1 .0))
+  passed-none : firstRefusal (landChecks p (lentOk p k m) v m d s) ≡ none → st .missing ≡ 0
+  passed-none c = land-passed p (lentOk p k m) v m d s c .healthy
 
-  passed-waits : Passes (landChecks p (lentOk p k m) v m d s) → waiting p st d s ≡ true
-  unfolding landChecks
-  passed-waits c = not-false (waiting p st d s) (c .1 .1 .1 .0)
+  passed-waits : firstRefusal (landChecks p (lentOk p k m) v m d s) ≡ none → waiting p st d s ≡ true
+  passed-waits c = land-passed p (lentOk p k m) v m d s c .waits
 
   module _ (none : st .missing ≡ 0) (wt : waiting p st d s ≡ true) where
     we : Well p k m
-    we = well-of p k m u (ap (λ (x : ℕ). not (eqb x 0)) none)
+    we = well-of p k m u none
 
     rg : Ranged p
     rg = ranged p (u .base .ranged)

@@ -1,28 +1,27 @@
 -- Reclaim: a copy is a block sent that nobody waits for, and a reset takes a sealed segment away, which no stripe in flight is in. Assumes nothing.
-use mathlib.Core.Path.{_≡_, refl, sym, ap, ap₂, _∙_, subst}
-use mathlib.Core.List.{List, [], _∷_, _++_, map}
-use mathlib.Core.Bool.{Bool, true, false, cond, not, _&&_, _||_}
+use mathlib.Core.Path.{_≡_, refl, sym, ap, _∙_, subst}
+use mathlib.Core.List.{List, []}
+use mathlib.Core.Bool.{Bool, true, false, cond, not}
 use mathlib.Core.Logic.{_⊎_, inl}
 use Prim.Native.Nat.{ℕ, zero, suc, _+_, _-_, _^_, _<_}
 use native.Mathlib.Omega.{arith}
-use lib.Dec.{eqb}
 use lib.ListN.{length, getD}
+use Rattle.spec.specs.Lists.Opt.{none}
 use Rattle.spec.specs.declared.Params.{Params}
 use Rattle.spec.specs.declared.State.{State}
 use Rattle.spec.specs.declared.Answer.{Answer}
 use Rattle.spec.specs.declared.Answer.the-variants.{Copied, Reset}
 use Rattle.spec.specs.Answers.{kind, isCut}
-use Rattle.spec.specs.Calls.{Check, Plan}
-use Rattle.spec.specs.Calls.Check.{rule, zones}
+use Rattle.spec.specs.Calls.{Check, Plan, firstRefusal}
 use Rattle.spec.specs.Counts.{aStamp}
 use Rattle.spec.specs.Drives.{noChunk, Zone, View, zoneAt, pointerAt, chunkAt, Store, storeView, Disk, storeDisk, storeAll, zoneOn, placeSegment, sealedIn, recordIn, recordAt, resetStores}
 use Rattle.spec.specs.Engine.{storeCount, lentBlock, verdict, lentOk, callOn, callDisk}
 use Rattle.spec.specs.Engine.Call.{reclaim}
 use Rattle.spec.specs.Layout.{Rec}
 use Rattle.spec.specs.Lists.{Opt, keep, isNil, firstOr}
-use Rattle.spec.specs.Memory.{Memory, mkMemory, openSegment, stateFaults}
-use Rattle.spec.specs.Params.{between, inRange, capacity, placeBlock, placeZone, placeDrive, drivesOf}
-use Rattle.spec.specs.Reclaim.{placesIn, tableFaults, liveIn, flying, Victim, victim, isNone, victimSegment, victimLive}
+use Rattle.spec.specs.Reclaim.{placesIn, liveIn, flying, Victim, victim, isNone, victimSegment, victimLive}
+use Rattle.spec.specs.Memory.{Memory, mkMemory, openSegment}
+use Rattle.spec.specs.Params.{capacity, placeBlock, placeZone, placeDrive, drivesOf}
 use Rattle.spec.specs.Reclaim.{idle, reclaimChecks, cleared, resetPlan, copyPlan, reclaimVerdict}
 use Rattle.spec.specs.Segments.{Segment, segmentOf, counts}
 use Rattle.spec.specs.Write.{opens, noSerial, mustWait, scarce, Sending, sending}
@@ -32,15 +31,16 @@ use Rattle.law_basic.specs.Ranges.Test.{yes!, no! }
 use Rattle.proof_crash_calls.specs.Cells.{SameSlot}
 use Rattle.spec_demands.specs.Layouts.{Remains, ParityMade}
 use Rattle.spec_demands.specs.Tables.{Pending, pendingAfter}
-use Rattle.law_drives.specs.Checks.{Passes}
 use Rattle.law_drives.specs.Members.{In, keep-in, first-in}
+use Rattle.law_checks.specs.Passed.{ReclaimPassed, reclaim-passed}
+use Rattle.law_drives.specs.Settled.{sealed-full}
 use Rattle.law_drives.specs.Range.{capacity-over}
 use Rattle.law_drives.specs.Records.{record-low}
 use Rattle.law_drives.specs.Resets.{reset-same, reset-roomy, reset-within, reset-was, reset-tidy}
 use Rattle.law_drives.specs.Segs.{remaining-low}
-use Rattle.law_drives.specs.Settled.{SameZones, sealed-full}
+use Rattle.law_drives.specs.Settled.{SameZones}
 use Rattle.law_drives.specs.Spots.{cand-zone, spot-block, spot-drive}
-use Rattle.law_drives.specs.Tests.{clash, or-left, or-right, cond-true, cond-false}
+use Rattle.law_drives.specs.Tests.{clash, cond-true, cond-false}
 use Rattle.law_drives.specs.Zones.{Shaped}
 use Rattle.proof_tables.specs.Bounds.{open-short}
 use Rattle.proof_tables.specs.Going.{address-table, buffer-long}
@@ -121,9 +121,7 @@ module _ (p : Params) (k : Disk) (m : Memory) (u : Run p k m) (ws : List Pending
   plan = cond (isNil (victimLive w)) (resetPlan p m (victimSegment w)) (copyPlan p v m (firstOr 0 (idle p v st w)))
 
   abbrev checks : List Check
-  checks = rule 1 (not (inRange p)) ∷ rule 2 (not (lentOk p k m)) ∷ rule 3 (not (eqb (st .missing) 0)) ∷ rule 5 (isNone w || (live && isNil (idle p v st w)))
-      ∷ rule 6 (live && noSerial p st) ∷ rule 7 (live && mustWait p st) ∷ rule 8 (live && opens p st && scarce p v 1)
-      ∷ zones (stateFaults p st ++ tableFaults p (m .addresses) ++ map (λ q. victimSegment w) (keep (λ q. not (between 1 (p .S) (placeBlock p q))) (victimLive w))) ∷ []
+  checks = reclaimChecks p (lentOk p k m) v m w
 
   rg : Ranged p
   rg = ranged p (u .base .ranged)
@@ -237,25 +235,22 @@ module _ (p : Params) (k : Disk) (m : Memory) (u : Run p k m) (ws : List Pending
       quiet-copied : (t s d : ℕ) → Quiet (Copied (aStamp t) s d)
       quiet-copied t s d = quiet-kind (Copied (aStamp t) s d) 6 (unfold kind in refl) refl refl refl refl
 
-  done : Passes checks → Left plan
-  done (c1, (c2, (c3, (c5, (c6, (c7, (c8, (c9, c)))))))) = go (test (isNil (victimLive w)))
+  done : firstRefusal checks ≡ none → Left plan
+  done e = go (test (isNil (victimLive w)))
     where
-      we : Well p k m
-      we = well-of p k m u c3
+      c : ReclaimPassed p (lentOk p k m) v m w
+      c = reclaim-passed p (lentOk p k m) v m w e
 
-      nn : isNone w ≡ false
-      nn = or-left (isNone w) (live && isNil (idle p v st w)) c5
+      we : Well p k m
+      we = well-of p k m u (c .healthy)
 
       go : Test (isNil (victimLive w)) → Left plan
-      go (yes! q) = subst (λ (y : Plan). Left y) (sym (cond-true (isNil (victimLive w)) (resetPlan p m (victimSegment w)) (copyPlan p v m (firstOr 0 (idle p v st w))) q)) (reset-left we nn)
+      go (yes! q) = subst (λ (y : Plan). Left y) (sym (cond-true (isNil (victimLive w)) (resetPlan p m (victimSegment w)) (copyPlan p v m (firstOr 0 (idle p v st w))) q)) (reset-left we (c .taken))
       go (no! q) =
-          let lv : live ≡ true = ap not q in
-          let drop! : (b : Bool) → live && b ≡ false → b ≡ false = λ b y. sym (ap (λ (c : Bool). c && b) lv) ∙ y in
           subst (λ (y : Plan). Left y) (sym (cond-false (isNil (victimLive w)) (resetPlan p m (victimSegment w)) (copyPlan p v m (firstOr 0 (idle p v st w))) q))
-          (copy-left we nn (drop! (isNil (idle p v st w)) (or-right (isNone w) (live && isNil (idle p v st w)) c5)) (drop! (noSerial p st) c6) (drop! (mustWait p st) c7)
-          (λ z. sym (ap₂ (λ (a b : Bool). a && b && scarce p v 1) lv z) ∙ c8))
+          (copy-left we (c .taken) (c .some-idle q) (c .serial-left q) (c .no-wait q) (c .room q))
 
   pub flown-reclaim : isCut (callDisk p k m (reclaim n) .answer) ≡ false
       → Flown p (callDisk p k m (reclaim n) .drives) (callDisk p k m (reclaim n) .memory) (pendingAfter (reclaim n) (callDisk p k m (reclaim n) .answer) ws) old
-  unfolding callDisk callOn verdict storeCount lentBlock reclaimVerdict reclaimChecks
+  unfolding callDisk callOn verdict storeCount lentBlock reclaimVerdict
   flown-reclaim nc = flown-ended p k m ws old f (reclaim n) checks plan _ done nc (ended p k m checks plan n [])

@@ -1,15 +1,16 @@
 -- The calls restart and rebuild: after a restart nothing flies, and the stripes are those found or moved; a rebuild stores on the missing drive alone. Assumes nothing.
 use mathlib.Core.Path.{_≡_, refl, sym, ap, _∙_, subst}
 use mathlib.Core.List.{List, [], _++_}
-use mathlib.Core.Bool.{true, false, not, _&&_, _||_}
+use mathlib.Core.Bool.{true, false, _&&_, _||_}
 use Prim.Native.Nat.{ℕ, _<_}
 use native.Mathlib.Omega.{arith}
-use borrow.Author.Tests.{eqb-true, eqb-false, ltb-true, not-false}
-use lib.Dec.{ltb, eqb}
+use borrow.Author.Tests.{eqb-true, eqb-false}
+use lib.Dec.{eqb}
+use Rattle.spec.specs.Lists.Opt.{none}
 use Rattle.spec.specs.declared.Params.{Params}
 use Rattle.spec.specs.declared.Answer.the-variants.{Rebuilt}
 use Rattle.spec.specs.Answers.{kind, isRefused, isCut, finished}
-use Rattle.spec.specs.Calls.{Plan, mkPlan, After}
+use Rattle.spec.specs.Calls.{Plan, mkPlan, After, firstRefusal}
 use Rattle.spec.specs.Counts.{lastCount}
 use Rattle.spec.specs.Drives.{View, Store, storeView, Disk, storeDisk, storeAll}
 use Rattle.spec.specs.Engine.Call.{restart, rebuild}
@@ -17,12 +18,12 @@ use Rattle.spec.specs.Engine.{storeCount, lentBlock, verdict, lentOk, callOn, c
 use Rattle.spec.specs.History.{endsRun}
 use Rattle.spec.specs.Lists.{isMember, isNil, flat}
 use Rattle.spec.specs.Memory.{Memory, idleState, filledIn}
-use Rattle.spec.specs.Params.{inRange, named, present}
-use Rattle.spec.specs.Rebuild.{namesMissing, rebuildChecks, rebuildStores, rebuildVerdict}
 use Rattle.spec.specs.Restart.{freeZones, dropStores, mendStores, restartStores, restartMemory, rewrites, restartPlan}
+use Rattle.spec.specs.Params.{named, present}
+use Rattle.spec.specs.Rebuild.{rebuildChecks, rebuildStores, rebuildVerdict}
 use Rattle.spec.specs.Segments.{lowDrive, remaining, Segment, segmentOf, segments, recsOn, hasChunk, counts, greatestSerial, unsealed}
 use Rattle.law_basic.specs.Geometry.{Ranged, ranged}
-use Rattle.law_basic.specs.Ranges.{Test, test, and-left, and-right}
+use Rattle.law_basic.specs.Ranges.{Test, test}
 use Rattle.law_basic.specs.Ranges.Test.{yes!, no! }
 use Rattle.law_basic.specs.Stores.{storeAll-append}
 use Rattle.law_views.specs.Views.{Whole, seen, view-stores}
@@ -30,7 +31,7 @@ use Rattle.law_calls.specs.Refusals.{refusal-kind, refused-unfinished}
 use Rattle.spec_demands.specs.Layouts.{Remains, foundCounted}
 use Rattle.spec_demands.specs.Tables.{Pending, pendingBy, stillPending, pendingAfter, foundAfter}
 use Rattle.law_drives.specs.Accept.{Accepted}
-use Rattle.law_drives.specs.Checks.{Passes}
+use Rattle.law_checks.specs.Passed.{rebuild-passed}
 use Rattle.law_drives.specs.Dropping.{drop-roomy, drop-within}
 use Rattle.law_drives.specs.Frame.{Agree, core, same-remaining, same-core}
 use Rattle.law_drives.specs.Joins.{roomy-append, within-append}
@@ -42,7 +43,7 @@ use Rattle.law_drives.specs.Range.{capacity-word}
 use Rattle.law_drives.specs.Rebuilding.{rebuild-roomy, rebuild-within, rebuild-agrees}
 use Rattle.law_drives.specs.Segs.{remaining-low}
 use Rattle.law_drives.specs.Tables.{zero-at}
-use Rattle.law_drives.specs.Tests.{clash, or-right, or-true-right, cond-true, cond-false}
+use Rattle.law_drives.specs.Tests.{clash, or-true-right, cond-true, cond-false}
 use Rattle.law_drives.specs.Zones.{Shaped, all-fit}
 use Rattle.proof_tables.specs.Outcomes.{Ended, ended, cut-unfinished, cut-cut}
 use Rattle.proof_tables.specs.Outcomes.Ended.{ended-refused, ended-done, ended-cut}
@@ -247,13 +248,8 @@ module _ (p : Params) (k : Disk) (m : Memory) (u : Run p k m) (d : ℕ) where
   rebuild-ends n = ended p k m (rebuildChecks p (lentOk p k m) (seen p k) m d (segments p (seen p k) (named d))) plan′ n []
 
   -- it is of the missing drive
-  names-it : Passes (rebuildChecks p (lentOk p k m) (seen p k) m d (segments p (seen p k) (named d))) → (d < p .N) × (m .state .missing ≡ named d)
-  unfolding rebuildChecks namesMissing
-  names-it c =
-      let x = ltb d (p .N) in
-      let y = eqb (m .state .missing) (named d) in
-      let t = not-false (x && y) (or-right (not (inRange p)) (not (x && y)) (c .0)) in
-      (ltb-true d (p .N) (and-left x y t), eqb-true (m .state .missing) (named d) (and-right x y t))
+  names-it : firstRefusal (rebuildChecks p (lentOk p k m) (seen p k) m d (segments p (seen p k) (named d))) ≡ none → (d < p .N) × (m .state .missing ≡ named d)
+  names-it e = let c = rebuild-passed p (lentOk p k m) (seen p k) m d (segments p (seen p k) (named d)) e in (c .drive-low, c .names)
 
   rebuilt-flown : d < p .N → m .state .missing ≡ named d → (ws qs : List Pending) (old : List Segment) → Flown p k m ws old → Flown p (storeAll (storeDisk p) (plan′ .stores) k) m qs old
   rebuilt-flown hd q ws qs old f =

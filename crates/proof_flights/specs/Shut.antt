@@ -1,35 +1,30 @@
 -- Closings: each open position of the filling stripe takes padding, as a position that fills. Assumes nothing.
 use mathlib.Core.Path.{_≡_, refl, sym, ap, _∙_, subst}
-use mathlib.Core.List.{List, [], _∷_, _++_}
-use mathlib.Core.Bool.{true, false, cond, not, _&&_, _||_}
+use mathlib.Core.List.{List, []}
+use mathlib.Core.Bool.{true, false}
 use mathlib.Core.Logic.{inl}
 use Prim.Native.Nat.{ℕ, zero, suc, _+_, _-_, _≤_, _<_}
 use native.Mathlib.Omega.{arith}
-use borrow.Author.Tests.{not-false}
-use lib.Dec.{eqb}
 use lib.ListN.{length, replicate, length-replicate}
+use Rattle.spec.specs.Lists.Opt.{none}
 use Rattle.spec.specs.declared.Params.{Params}
 use Rattle.spec.specs.declared.State.{State}
 use Rattle.spec.specs.declared.Answer.{Answer}
 use Rattle.spec.specs.declared.Answer.the-variants.{Closed}
 use Rattle.spec.specs.Answers.{kind, isCut}
-use Rattle.spec.specs.Calls.{Check}
-use Rattle.spec.specs.Calls.Check.{rule, zones}
+use Rattle.spec.specs.Calls.{Check, firstRefusal}
 use Rattle.spec.specs.Closing.{padded, closeChecks, closePlan, closeVerdict}
 use Rattle.spec.specs.Counts.{paddingAddress}
 use Rattle.spec.specs.Drives.{View, Disk, storeDisk, storeAll}
 use Rattle.spec.specs.Engine.{storeCount, lentBlock, verdict, lentOk, callOn, callDisk}
 use Rattle.spec.specs.Engine.Call.{close}
-use Rattle.spec.specs.Lists.{isNil}
-use Rattle.spec.specs.Memory.{Memory, mkMemory, stripeIn, filledIn, fillingSlot, hasFilling, stateFaults, addEntry}
-use Rattle.spec.specs.Params.{dataCount, inRange, inflightLen}
-use Rattle.spec.specs.Reclaim.{tableFaults, victim, idle}
+use Rattle.spec.specs.Memory.{Memory, mkMemory, stripeIn, filledIn, fillingSlot, addEntry}
+use Rattle.spec.specs.Params.{dataCount, inflightLen}
 use Rattle.spec.specs.Segments.{Segment}
-use Rattle.spec.specs.Write.{scarce, placed}
+use Rattle.spec.specs.Write.{placed}
 use Rattle.law_basic.specs.Geometry.{Ranged, ranged}
 use Rattle.spec_demands.specs.Tables.{Pending, pendingAfter}
-use Rattle.law_drives.specs.Checks.{Passes}
-use Rattle.law_drives.specs.Tests.{or-left}
+use Rattle.law_checks.specs.Passed.{close-passed}
 use Rattle.proof_tables.specs.Filling.{placed-long}
 use Rattle.proof_tables.specs.Going.{buffer-long}
 use Rattle.proof_tables.specs.Outcomes.{ended}
@@ -92,17 +87,16 @@ module _ (p : Params) (k : Disk) (m : Memory) (u : Run p k m) (ws : List Pending
   st = m .state
 
   abbrev checks : List Check
-  checks = rule 1 (not (inRange p)) ∷ rule 2 (not (lentOk p k m)) ∷ rule 3 (not (eqb (st .missing) 0))
-      ∷ rule 5 (not (hasFilling p st) || (scarce p v 1 && not (isNil (idle p v st (victim p v (m .addresses))))))
-      ∷ zones (stateFaults p st ++ cond (scarce p v 1) (tableFaults p (m .addresses)) []) ∷ []
+  checks = closeChecks p (lentOk p k m) v m
 
-  done : Passes checks → Flown p (storeAll (storeDisk p) (closePlan p m .stores) k) (closePlan p m .memory) (pendingAfter (close n) (closePlan p m .answer) ws) old
-  done (c1, (c2, (c3, (c5, (c9, c))))) =
+  done : firstRefusal checks ≡ none → Flown p (storeAll (storeDisk p) (closePlan p m .stores) k) (closePlan p m .memory) (pendingAfter (close n) (closePlan p m .answer) ws) old
+  done e =
+      let c = close-passed p (lentOk p k m) v m e in
       let rg = ranged p (u .base .ranged) in
-      let we = well-of p k m u c3 in
+      let we = well-of p k m u (c .healthy) in
       let so = state-of p rg st (u .base .state-ok) in
       let i = fillingSlot p st in
-      let (hi, fi, room) = filling-slot p st (not-false (hasFilling p st) (or-left (not (hasFilling p st)) (scarce p v 1 && not (isNil (idle p v st (victim p v (m .addresses))))) c5)) in
+      let (hi, fi, room) = filling-slot p st (c .filling) in
       let x = dataCount p - filledIn st i in
       let q = padded p i x st (m .inflight) in
       let h = we .healthy in
@@ -130,5 +124,5 @@ module _ (p : Params) (k : Disk) (m : Memory) (u : Run p k m) (ws : List Pending
 
   pub flown-close : isCut (callDisk p k m (close n) .answer) ≡ false
       → Flown p (callDisk p k m (close n) .drives) (callDisk p k m (close n) .memory) (pendingAfter (close n) (callDisk p k m (close n) .answer) ws) old
-  unfolding callDisk callOn verdict storeCount lentBlock closeVerdict closeChecks
+  unfolding callDisk callOn verdict storeCount lentBlock closeVerdict
   flown-close nc = flown-ended p k m ws old f (close n) checks (closePlan p m) _ done nc (ended p k m checks (closePlan p m) n [])

@@ -1,45 +1,44 @@
 -- Writes: the stripes in flight after one, whatever it answers. Assumes nothing.
 use mathlib.Core.Path.{_≡_, refl, sym, ap, _∙_, subst}
-use mathlib.Core.List.{List, [], _∷_}
-use mathlib.Core.Bool.{false, cond, not, _||_}
+use mathlib.Core.List.{List}
+use mathlib.Core.Bool.{false, cond}
 use mathlib.Core.Logic.{inr, ⊎-elim}
 use Prim.Native.Nat.{ℕ, suc, _^_, _<_}
 use native.Mathlib.Omega.{arith}
-use borrow.Author.Tests.{leb-false, eqb-true, eqb-false, not-false}
-use lib.Dec.{leb, eqb}
-use lib.ListN.{length}
+use borrow.Author.Tests.{eqb-false, eq-eqb}
+use lib.Dec.{eqb}
+use Rattle.proof_tables.specs.Sending.{plenty}
+use Rattle.spec.specs.Lists.Opt.{none}
 use Rattle.spec.specs.declared.Params.{Params}
 use Rattle.spec.specs.declared.State.{State}
 use Rattle.spec.specs.declared.Answer.{Answer}
 use Rattle.spec.specs.declared.Answer.the-variants.{Sent}
 use Rattle.spec.specs.Answers.{kind, values, isCut, finished}
-use Rattle.spec.specs.Calls.{Check}
-use Rattle.spec.specs.Calls.Check.{rule, zones}
+use Rattle.spec.specs.Calls.{Check, firstRefusal}
 use Rattle.spec.specs.Counts.{lastCount, aStamp}
 use Rattle.spec.specs.Drives.{View, chunkAt, Store, storeView, Disk, storeDisk, storeAll, zoneOn, emptyZones}
 use Rattle.spec.specs.Lists.{isNil}
 use Rattle.spec.specs.Engine.{storeCount, lentBlock, verdict, lentOk, callOn, callDisk}
 use Rattle.spec.specs.Engine.Call.{write}
 use Rattle.spec.specs.History.{endsRun}
-use Rattle.spec.specs.Memory.{Memory, mkMemory, openSegment, stateFaults, setStamp}
-use Rattle.spec.specs.Params.{inRange}
+use Rattle.spec.specs.Memory.{Memory, mkMemory, openSegment, setStamp}
 use Rattle.spec.specs.Segments.{Segment}
-use Rattle.spec.specs.Write.{opens, noStamp, noSerial, mustWait, scarce, Sending, sending, writeChecks, writePlan, writeVerdict}
+use Rattle.spec.specs.Write.{opens, noStamp, Sending, sending, writeChecks, writePlan, writeVerdict}
 use Rattle.law_basic.specs.Geometry.{Ranged, ranged}
 use Rattle.proof_crash_calls.specs.Cells.{stamp-same}
 use Rattle.spec_demands.specs.Layouts.{ParityMade}
 use Rattle.spec_demands.specs.Tables.{Pending, pendingBy, stillPending, pendingAfter}
-use Rattle.law_drives.specs.Checks.{Passes}
+use Rattle.law_checks.specs.Passed.{write-passed}
 use Rattle.law_drives.specs.Lengths.{whole-of}
 use Rattle.law_drives.specs.Masks.{named-some}
 use Rattle.law_drives.specs.Members.{In}
 use Rattle.law_drives.specs.Range.{capacity-word}
-use Rattle.law_drives.specs.Tests.{clash, or-left, or-right}
+use Rattle.law_drives.specs.Tests.{clash}
 use Rattle.law_drives.specs.Zones.{Within, Roomy, all-fit}
 use Rattle.proof_tables.specs.Going.{address-small, buffer-long}
 use Rattle.proof_tables.specs.Outcomes.{ended}
 use Rattle.proof_tables.specs.Run.{Healthy, Well, Run}
-use Rattle.proof_tables.specs.Sending.{sends, plenty}
+use Rattle.proof_tables.specs.Sending.{sends}
 use Rattle.law_views.specs.Views.{seen, view-stores}
 use Rattle.law_drives.specs.States.{StateOk, state-of}
 use Rattle.proof_flights.specs.Eighths.{plus}
@@ -51,9 +50,9 @@ use Rattle.proof_flights.specs.Sent.{leaves-sent}
 -- ---- what every call that stores shares
 
 -- a call that went on while the third check stood: no drive is missing
-pub well-of : (p : Params) (k : Disk) (m : Memory) → Run p k m → not (eqb (m .state .missing) 0) ≡ false → Well p k m
+pub well-of : (p : Params) (k : Disk) (m : Memory) → Run p k m → m .state .missing ≡ 0 → Well p k m
 well-of p k m u q = ⊎-elim
-    (λ lo. clash (not-false (eqb (m .state .missing) 0) q) (ap (λ (x : ℕ). eqb x 0) (lo .names-it) ∙ named-some p (ranged p (u .base .ranged)) (lo .which) (lo .which-low)))
+    (λ lo. clash (eq-eqb (m .state .missing) 0 q) (ap (λ (x : ℕ). eqb x 0) (lo .names-it) ∙ named-some p (ranged p (u .base .ranged)) (lo .which) (lo .which-low)))
     (λ we. we) (u .mode)
 
 -- the view after stores that have room
@@ -94,8 +93,7 @@ module _ (p : Params) (k : Disk) (m : Memory) (u : Run p k m) (ws : List Pending
 
   module _ (a : ℕ) (b : List ℕ) (n : ℕ) where
     abbrev checks : List Check
-    checks = rule 1 (not (inRange p)) ∷ rule 2 (not (lentOk p k m) || not (eqb (length b) (p .B))) ∷ rule 3 (not (eqb (st .missing) 0)) ∷ rule 4 (leb (p .L) a)
-        ∷ rule 6 (noStamp st || noSerial p st) ∷ rule 7 (mustWait p st) ∷ rule 8 (scarce p v (cond (opens p st) 2 1)) ∷ zones (stateFaults p st) ∷ []
+    checks = writeChecks p (lentOk p k m) v m a b
 
     abbrev t : ℕ
     t = suc (m .state .stamp .0)
@@ -112,23 +110,24 @@ module _ (p : Params) (k : Disk) (m : Memory) (u : Run p k m) (ws : List Pending
     abbrev v′ : View
     v′ = storeAll storeView (q .stores) v
 
-    done : Passes checks → Flown p (storeAll (storeDisk p) (writePlan p v m a b .stores) k) (writePlan p v m a b .memory) (pendingAfter (write a b n) (writePlan p v m a b .answer) ws) old
-    done (c1, (c2, (c3, (c4, (c6, (c7, (c8, (c9, c)))))))) =
+    done : firstRefusal checks ≡ none → Flown p (storeAll (storeDisk p) (writePlan p v m a b .stores) k) (writePlan p v m a b .memory) (pendingAfter (write a b n) (writePlan p v m a b .answer) ws) old
+    done e =
+        let c = write-passed p (lentOk p k m) v m a b e in
         let rg = ranged p (u .base .ranged) in
-        let we = well-of p k m u c3 in
+        let we = well-of p k m u (c .healthy) in
         let so = state-of p rg st (u .base .state-ok) in
-        let lb : length b ≡ p .B = eqb-true (length b) (p .B) (not-false (eqb (length b) (p .B)) (or-right (not (lentOk p k m)) (not (eqb (length b) (p .B))) c2)) in
-        let ha : a < 256 ^ 8 = address-small p (u .base .ranged) a (leb-false (p .L) a c4) in
-        let ht : t < 256 ^ 8 = (let nl = eqb-false (st .stamp .0) lastCount (stamp-left (or-left (noStamp st) (noSerial p st) c6)) in let g = we .healthy .stamp-fits in omega arith) in
-        let ns = or-right (noStamp st) (noSerial p st) c6 in
+        let lb = c .block-long in
+        let ha : a < 256 ^ 8 = address-small p (u .base .ranged) a (c .address-low) in
+        let ht : t < 256 ^ 8 = (let nl = eqb-false (st .stamp .0) lastCount (stamp-left (c .stamp-left)) in let g = we .healthy .stamp-fits in omega arith) in
+        let ns = c .serial-left in
         let fl = m .inflight in
         let bu = buffer-long p k m u we in
-        let ne : isNil (emptyZones p v) ≡ false = plenty p v (cond (opens p st) 2 1) c8 in
+        let ne : isNil (emptyZones p v) ≡ false = plenty p v (cond (opens p st) 2 1) (c .room) in
         let sh = u .base .shaped in
         let h = we .healthy in
         let no = we .none-missing in
-        let s = sends p rg v sh st h so fl bu a t 1 b ha ht (omega arith) lb c7 ns (λ x. ne) in
-        let le = leaves-sent p rg v sh st h so fl bu ws old (f .flights no) (parity-none p k m ws old f no) a t 1 b (inr refl) lb c7 ns (λ x. ne) in
+        let s = sends p rg v sh st h so fl bu a t 1 b ha ht (omega arith) lb (c .no-wait) ns (λ x. ne) in
+        let le = leaves-sent p rg v sh st h so fl bu ws old (f .flights no) (parity-none p k m ws old f no) a t 1 b (inr refl) lb (c .no-wait) ns (λ x. ne) in
         flown-as p k′ m′ _ _ old _ _ (ap (λ (l : List Store). storeAll (storeDisk p) l k) stores-is) memory-is
         (ap (λ (x : Answer). pendingAfter (write a b n) x ws) answer-is ∙ pending-sent (q .stripe) (q .drive))
         (flown-of p k′ m′ _ old v′ (seen-after p k m u (q .stores) (s .has-room) (s .all-within)) (missing-same (q .state) ∙ s .missing-after ∙ no)
@@ -154,5 +153,5 @@ module _ (p : Params) (k : Disk) (m : Memory) (u : Run p k m) (ws : List Pending
 
     pub flown-write : isCut (callDisk p k m (write a b n) .answer) ≡ false
         → Flown p (callDisk p k m (write a b n) .drives) (callDisk p k m (write a b n) .memory) (pendingAfter (write a b n) (callDisk p k m (write a b n) .answer) ws) old
-    unfolding callDisk callOn verdict storeCount lentBlock writeVerdict writeChecks
+    unfolding callDisk callOn verdict storeCount lentBlock writeVerdict
     flown-write nc = flown-ended p k m ws old f (write a b n) checks (writePlan p v m a b) _ done nc (ended p k m checks (writePlan p v m a b) n b)

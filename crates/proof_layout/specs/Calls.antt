@@ -1,19 +1,19 @@
 -- The layout is kept by every call that isn't a restart: refused ones leave all, the others store as the views say. Assumes nothing.
-use mathlib.Core.Path.{_≡_, refl, sym, ap, ap₂, _∙_, subst}
+use mathlib.Core.Path.{_≡_, refl, sym, ap, _∙_, subst}
 use mathlib.Core.List.{List, [], _∷_, _++_}
-use mathlib.Core.Bool.{Bool, true, false, cond, not, _&&_, _||_}
+use mathlib.Core.Bool.{Bool, true, false, cond, not, _&&_}
 use mathlib.Core.Logic.{inl, inr, ⊎-elim}
 use Prim.Native.Nat.{ℕ, zero, suc, _-_, _^_, _≤_, _<_}
-use borrow.Author.Tests.{ne-eqb, eq-eqb, leb-false, ltb-true, eqb-true, eqb-false, not-false}
+use borrow.Author.Tests.{ne-eqb, eq-eqb, leb-false, eqb-true, eqb-false}
 use native.Mathlib.Omega.{arith}
-use lib.Dec.{ltb, eqb}
+use lib.Dec.{eqb}
 use lib.ListN.{length, replicate}
+use Rattle.spec.specs.Lists.Opt.{none}
 use Rattle.spec.specs.declared.Params.{Params}
 use Rattle.spec.specs.declared.State.{State}
 use Rattle.spec.specs.declared.Answer.the-variants.{Rebuilt}
 use Rattle.spec.specs.Answers.{isCut}
-use Rattle.spec.specs.Calls.{Check, Plan, mkPlan, After}
-use Rattle.spec.specs.Calls.Check.{rule}
+use Rattle.spec.specs.Calls.{Check, Plan, mkPlan, After, firstRefusal}
 use Rattle.spec.specs.Closing.{padded, closeChecks, closePlan, closeVerdict}
 use Rattle.spec.specs.Counts.{paddingAddress, lastCount}
 use Rattle.spec.specs.Drives.{Zone, View, zoneAt, pointerAt, chunkAt, Store, storeView, Disk, storeDisk, storeAll}
@@ -26,15 +26,15 @@ use Rattle.spec.specs.Layout.{Rec, recordBytes}
 use Rattle.spec.specs.Lists.{Opt, below, isNil, firstOr}
 use Rattle.spec.specs.Memory.{Memory, filledIn, openSegment, freeSlot, fillingSlot, hasFilling, inFlight, setStamp, setOpen, setClosed, beginStripe, addEntry, markLanded, freeStripe, slotBlock}
 use Rattle.spec.specs.Params.{dataCount, inRange, placeBlock, placeZone, placeDrive, named, present}
-use Rattle.spec.specs.Rebuild.{namesMissing, rebuildChecks, rebuildStores, rebuildVerdict}
-use Rattle.spec.specs.Reclaim.{Victim, victim, isNone, victimSegment, victimLive, idle, reclaimChecks, resetPlan, copyPlan, reclaimVerdict}
+use Rattle.spec.specs.Rebuild.{rebuildChecks, rebuildStores, rebuildVerdict}
+use Rattle.spec.specs.Reclaim.{Victim, victim, victimSegment, victimLive, idle, reclaimChecks, resetPlan, copyPlan, reclaimVerdict}
 use Rattle.spec.specs.Segments.{lowDrive, remaining, Segment, segmentOf, segments}
-use Rattle.spec.specs.Write.{opens, noStamp, noSerial, scarce, placed, sending, openedBy, begunBy, writeChecks, writePlan, writeVerdict}
+use Rattle.spec.specs.Write.{opens, noSerial, scarce, placed, sending, openedBy, begunBy, writeChecks, writePlan, writeVerdict}
 use Rattle.law_basic.specs.Geometry.{Ranged, ranged}
 use Rattle.law_basic.specs.Ranges.{Test, test, and-left, and-right}
 use Rattle.law_basic.specs.Ranges.Test.{yes!, no! }
 use Rattle.law_basic.specs.Stores.{storeAll-append}
-use Rattle.law_drives.specs.Checks.{Passes}
+use Rattle.law_checks.specs.Passed.{write-passed, land-passed, close-passed, ReclaimPassed, reclaim-passed, rebuild-passed}
 use Rattle.law_drives.specs.Frame.{Agree, same-remaining, same-sealed, same-core, core}
 use Rattle.law_drives.specs.Headers.{header-roomy, header-within, empty-all}
 use Rattle.law_drives.specs.Joins.{roomy-append, within-append, roomy-none, stores-none}
@@ -45,13 +45,12 @@ use Rattle.law_drives.specs.Range.{capacity-word}
 use Rattle.law_drives.specs.Rebuilding.{rebuild-roomy, rebuild-within, rebuild-agrees}
 use Rattle.law_drives.specs.Resets.{reset-roomy, reset-within}
 use Rattle.law_drives.specs.Segs.{remaining-low}
-use Rattle.law_drives.specs.Tests.{clash, or-left, or-right, cond-true, cond-false}
+use Rattle.law_drives.specs.Tests.{clash, cond-true, cond-false}
 use Rattle.law_drives.specs.Tidy.{usedAt, Tidy}
 use Rattle.law_drives.specs.Zones.{Shaped, Within, Roomy, all-fit, shaped-after}
 use Rattle.proof_tables.specs.Chunks.{chunk-roomy, all-behind, open-after}
 use Rattle.proof_tables.specs.Going.{buffer-long}
 use Rattle.proof_tables.specs.Landings.{Waits, waits}
-use Rattle.proof_tables.specs.Losing.{named-same}
 use Rattle.proof_tables.specs.Outcomes.{Ended, ended, cut-cut}
 use Rattle.proof_tables.specs.Outcomes.Ended.{ended-refused, ended-done, ended-cut}
 use Rattle.proof_tables.specs.Reading.{read-idle, fill-idle}
@@ -96,12 +95,11 @@ done-keeps p k m old r ss u u2 e mz ro wi l =
 
 -- ---- a drive is missing: the third check refuses
 
--- a list of checks with the third one among the first three leaves all
-stopped : (p : Params) (k : Disk) (m : Memory) (c1 c2 : Bool) (cs : List Check) (q : Plan) (r : After Disk) (old : List Segment) → eqb (m .state .missing) 0 ≡ false
-    → Laid p (seen p k) (m .state .missing) old → Ended p k m (rule 1 c1 ∷ rule 2 c2 ∷ rule 3 (not (eqb (m .state .missing) 0)) ∷ cs) q r → isCut (r .answer) ≡ false → Keeps p old r
-stopped p k m c1 c2 cs q r old ms l (ended-refused a e f g h) nc = same-keeps p k m old r l g h
-stopped p k m c1 c2 cs q r old ms l (ended-done c f g h) nc = clash (ap not ms) (c .1 .1 .0)
-stopped p k m c1 c2 cs q r old ms l (ended-cut c f) nc = clash (ap isCut f ∙ cut-cut) nc
+stopped : (p : Params) (k : Disk) (m : Memory) (cs : List Check) (q : Plan) (r : After Disk) (old : List Segment) → eqb (m .state .missing) 0 ≡ false
+    → Laid p (seen p k) (m .state .missing) old → Ended p k m cs q r → (firstRefusal cs ≡ none → m .state .missing ≡ 0) → isCut (r .answer) ≡ false → Keeps p old r
+stopped p k m cs q r old ms l (ended-refused a e f g h) healthy nc = same-keeps p k m old r l g h
+stopped p k m cs q r old ms l (ended-done c f g h) healthy nc = clash (eq-eqb (m .state .missing) 0 (healthy c)) ms
+stopped p k m cs q r old ms l (ended-cut c f) healthy nc = clash (ap isCut f ∙ cut-cut) nc
 
 module _ (p : Params) (k : Disk) (m : Memory) (u : Run p k m) (old : List Segment) (l : Laid p (seen p k) (m .state .missing) old) where
   abbrev v : View
@@ -197,8 +195,8 @@ module _ (p : Params) (k : Disk) (m : Memory) (u : Run p k m) (old : List Segmen
     write-well : Well p k m → isCut (wr .answer) ≡ false → Keeps p old wr
     write-well we nc = go write-ends
       where
-        parts : Passes (writeChecks p (lentOk p k m) v m a b) → (noSerial p st ≡ false) × (opens p st ≡ true → isNil (emptyZones p v) ≡ false)
-        parts c = unfold writeChecks in (or-right (noStamp st) (noSerial p st) (c .1 .1 .1 .1 .0), λ q. zones-left (cond (opens p st) 2 1) (c .1 .1 .1 .1 .1 .1 .0))
+        parts : firstRefusal (writeChecks p (lentOk p k m) v m a b) ≡ none → (noSerial p st ≡ false) × (opens p st ≡ true → isNil (emptyZones p v) ≡ false)
+        parts e = let c = write-passed p (lentOk p k m) v m a b e in (c .serial-left, λ q. zones-left (cond (opens p st) 2 1) (c .room))
 
         missing-is : writePlan p v m a b .memory .state .missing ≡ sending p v st (m .inflight) a (suc (st .stamp .0)) 1 b .state .missing
         missing-is = unfold writePlan setStamp in refl
@@ -216,8 +214,7 @@ module _ (p : Params) (k : Disk) (m : Memory) (u : Run p k m) (old : List Segmen
         go (ended-cut c f) = clash (ap isCut f ∙ cut-cut) nc
 
     write-lost : Lost p k m → isCut (wr .answer) ≡ false → Keeps p old wr
-    unfolding writeChecks
-    write-lost lo nc = stopped p k m _ _ _ _ wr old (some-missing lo) l write-ends nc
+    write-lost lo nc = stopped p k m _ _ wr old (some-missing lo) l write-ends (λ e. write-passed p (lentOk p k m) v m a b e .healthy) nc
 
     -- 01, Write
     pub laid-write : isCut (wr .answer) ≡ false → Keeps p old wr
@@ -258,8 +255,7 @@ module _ (p : Params) (k : Disk) (m : Memory) (u : Run p k m) (old : List Segmen
         go (ended-cut c f) = clash (ap isCut f ∙ cut-cut) nc
 
     close-lost : Lost p k m → isCut (cl .answer) ≡ false → Keeps p old cl
-    unfolding closeChecks
-    close-lost lo nc = stopped p k m _ _ _ _ cl old (some-missing lo) l close-ends nc
+    close-lost lo nc = stopped p k m _ _ cl old (some-missing lo) l close-ends (λ e. close-passed p (lentOk p k m) v m e .healthy) nc
 
     -- 01, Closing
     pub laid-close : isCut (cl .answer) ≡ false → Keeps p old cl
@@ -298,8 +294,8 @@ module _ (p : Params) (k : Disk) (m : Memory) (u : Run p k m) (old : List Segmen
     reclaim-well : Well p k m → isCut (rc .answer) ≡ false → Keeps p old rc
     reclaim-well we nc = go reclaim-ends
       where
-        parts : Passes (reclaimChecks p (lentOk p k m) v m w) → (isNone w ≡ false) × (live && noSerial p st ≡ false) × (live && opens p st && scarce p v 1 ≡ false)
-        parts c = unfold reclaimChecks in (or-left (isNone w) (live && isNil (idle p v st w)) (c .1 .1 .1 .0), c .1 .1 .1 .1 .0, c .1 .1 .1 .1 .1 .1 .0)
+        parts : firstRefusal (reclaimChecks p (lentOk p k m) v m w) ≡ none → ReclaimPassed p (lentOk p k m) v m w
+        parts e = reclaim-passed p (lentOk p k m) v m w e
 
         reset-missing : (g : ℕ) → resetPlan p m g .memory .state .missing ≡ st .missing
         reset-missing g = unfold resetPlan in refl
@@ -319,10 +315,10 @@ module _ (p : Params) (k : Disk) (m : Memory) (u : Run p k m) (old : List Segmen
         copy-stores : (q : ℕ) → copyPlan p v m q .stores ≡ sending p v st (m .inflight) (copy-rec q .address) (copy-rec q .stamp) 0 (copy-block q) .stores
         copy-stores q = unfold copyPlan in refl
 
-        done : Test (isNil (victimLive w)) → Passes (reclaimChecks p (lentOk p k m) v m w) → rc .drives ≡ storeAll (storeDisk p) (rplan .stores) k → rc .memory ≡ rplan .memory → Keeps p old rc
+        done : Test (isNil (victimLive w)) → ReclaimPassed p (lentOk p k m) v m w → rc .drives ≡ storeAll (storeDisk p) (rplan .stores) k → rc .memory ≡ rplan .memory → Keeps p old rc
         done (yes! q) c g h =
             let e : rplan ≡ resetPlan p m (victimSegment w) = cond-true (isNil (victimLive w)) (resetPlan p m (victimSegment w)) (copyPlan p v m place) q in
-            let hg = taken p v (m .addresses) (parts c .0) .taken-low in
+            let hg = taken p v (m .addresses) (c .taken) .taken-low in
             let s = victimSegment w in
             done-keeps p k m old rc (resetStores p s) u (stepped p k m u (reclaim n) .1 nc)
             (g ∙ ap (λ (x : Plan). storeAll (storeDisk p) (x .stores) k) e ∙ ap (λ (x : List Store). storeAll (storeDisk p) x k) (reset-stores s))
@@ -330,11 +326,8 @@ module _ (p : Params) (k : Disk) (m : Memory) (u : Run p k m) (old : List Segmen
             (reset-roomy p rg v (u .base .shaped) s hg) (reset-within p rg v (u .base .shaped) s hg) (reset-laid p rg v (u .base .shaped) old s hg (well-laid we))
         done (no! q) c g h =
             let e : rplan ≡ copyPlan p v m place = cond-false (isNil (victimLive w)) (resetPlan p m (victimSegment w)) (copyPlan p v m place) q in
-            let lv : live ≡ true = ap not q in
-            let (nn, c6, c8) = parts c in
-            let ns : noSerial p st ≡ false = sym (ap (λ (x : Bool). x && noSerial p st) lv) ∙ c6 in
-            let ne : opens p st ≡ true → isNil (emptyZones p v) ≡ false = λ z. zones-left 1 (sym (ap₂ (λ (x y : Bool). x && y && scarce p v 1) lv z) ∙ c8) in
-            let (ro, wi, wl) = sent-laid we ns ne (copyPlan p v m place .stores)
+            let ne : opens p st ≡ true → isNil (emptyZones p v) ≡ false = λ z. zones-left 1 (c .room q z) in
+            let (ro, wi, wl) = sent-laid we (c .serial-left q) ne (copyPlan p v m place .stores)
             (copy-stores place ∙ sending-stores (m .inflight) (copy-rec place .address) (copy-rec place .stamp) 0 (copy-block place)) in
             done-keeps p k m old rc (copyPlan p v m place .stores) u (stepped p k m u (reclaim n) .1 nc) (g ∙ ap (λ (x : Plan). storeAll (storeDisk p) (x .stores) k) e)
             (ap (λ (x : Memory). x .state .missing) h ∙ ap (λ (x : Plan). x .memory .state .missing) e
@@ -343,12 +336,11 @@ module _ (p : Params) (k : Disk) (m : Memory) (u : Run p k m) (old : List Segmen
 
         go : Ended p k m (reclaimChecks p (lentOk p k m) v m w) rplan rc → Keeps p old rc
         go (ended-refused x e f g h) = same-keeps p k m old rc l g h
-        go (ended-done c f g h) = done (test (isNil (victimLive w))) c g h
+        go (ended-done c f g h) = done (test (isNil (victimLive w))) (parts c) g h
         go (ended-cut c f) = clash (ap isCut f ∙ cut-cut) nc
 
     reclaim-lost : Lost p k m → isCut (rc .answer) ≡ false → Keeps p old rc
-    unfolding reclaimChecks
-    reclaim-lost lo nc = stopped p k m _ _ _ _ rc old (some-missing lo) l reclaim-ends nc
+    reclaim-lost lo nc = stopped p k m _ _ rc old (some-missing lo) l reclaim-ends (λ e. reclaim-passed p (lentOk p k m) v m w e .healthy) nc
 
     -- 01, Reclaim
     pub laid-reclaim : isCut (rc .answer) ≡ false → Keeps p old rc
@@ -398,8 +390,8 @@ module _ (p : Params) (k : Disk) (m : Memory) (u : Run p k m) (old : List Segmen
         store : Store
         store = put d z b (recordBytes (flightRec p st i d))
 
-        parts : Passes (landChecks p (lentOk p k m) v m d s) → waiting p st d s ≡ true
-        parts c = unfold landChecks in not-false (waiting p st d s) (c .1 .1 .1 .0)
+        parts : firstRefusal (landChecks p (lentOk p k m) v m d s) ≡ none → waiting p st d s ≡ true
+        parts e = land-passed p (lentOk p k m) v m d s e .waits
 
         plain-stores : seals p st (slotOf st s) d ≡ false → landPlan p v m d s .stores ≡ store ∷ []
         plain-stores q = unfold landPlan landStore zoneOn in rw q
@@ -470,8 +462,7 @@ module _ (p : Params) (k : Disk) (m : Memory) (u : Run p k m) (old : List Segmen
         go (ended-cut c f) = clash (ap isCut f ∙ cut-cut) nc
 
     land-lost : Lost p k m → isCut (ld .answer) ≡ false → Keeps p old ld
-    unfolding landChecks
-    land-lost lo nc = stopped p k m _ _ _ _ ld old (some-missing lo) l land-ends nc
+    land-lost lo nc = stopped p k m _ _ ld old (some-missing lo) l land-ends (λ e. land-passed p (lentOk p k m) v m d s e .healthy) nc
 
     -- 01, Landing
     pub laid-land : isCut (ld .answer) ≡ false → Keeps p old ld
@@ -490,22 +481,14 @@ module _ (p : Params) (k : Disk) (m : Memory) (u : Run p k m) (old : List Segmen
     unfolding callDisk callOn verdict storeCount lentBlock rebuildVerdict
     rebuild-ends = ended p k m (rebuildChecks p (lentOk p k m) v m e (segments p v (named e))) bplan n []
 
-    names : Passes (rebuildChecks p (lentOk p k m) v m e (segments p v (named e))) → not (inRange p) || not (namesMissing p st e) ≡ false
-    names c = unfold rebuildChecks in c .0
+    names : firstRefusal (rebuildChecks p (lentOk p k m) v m e (segments p v (named e))) ≡ none → (e < p .N) × (st .missing ≡ named e)
+    names q = let c = rebuild-passed p (lentOk p k m) v m e (segments p v (named e)) q in (c .drive-low, c .names)
 
     rebuild-well : Well p k m → isCut (rb .answer) ≡ false → Keeps p old rb
     rebuild-well we nc = go rebuild-ends
       where
-        parts : namesMissing p st e ≡ true → (e < p .N) × (st .missing ≡ named e)
-        parts t = unfold namesMissing in (
-          ltb-true e (p .N) (and-left (ltb e (p .N)) (eqb (st .missing) (named e)) t),
-          eqb-true (st .missing) (named e) (and-right (ltb e (p .N)) (eqb (st .missing) (named e)) t),
-        )
-
-        never! : not (inRange p) || not (namesMissing p st e) ≡ false → Keeps p old rb
-        never! q =
-            let (he, x) = parts (not-false (namesMissing p st e) (or-right (not (inRange p)) (not (namesMissing p st e)) q)) in
-            clash (eq-eqb (named e) 0 (sym x ∙ we .none-missing)) (named-some p rg e he)
+        never! : (e < p .N) × (st .missing ≡ named e) → Keeps p old rb
+        never! (he, x) = clash (eq-eqb (named e) 0 (sym x ∙ we .none-missing)) (named-some p rg e he)
 
         go : Ended p k m (rebuildChecks p (lentOk p k m) v m e (segments p v (named e))) bplan rb → Keeps p old rb
         go (ended-refused x q f g h) = same-keeps p k m old rb l g h
@@ -534,9 +517,8 @@ module _ (p : Params) (k : Disk) (m : Memory) (u : Run p k m) (old : List Segmen
     rebuild-lost : Lost p k m → isCut (rb .answer) ≡ false → Keeps p old rb
     rebuild-lost lo nc = go rebuild-ends
       where
-        done : not (inRange p) || not (namesMissing p st e) ≡ false → rb .drives ≡ storeAll (storeDisk p) (bplan .stores) k → rb .memory ≡ m → Keeps p old rb
-        done c g h =
-            let (he, q) = named-same p k m u lo e n c in
+        done : (e < p .N) × (st .missing ≡ named e) → rb .drives ≡ storeAll (storeDisk p) (bplan .stores) k → rb .memory ≡ m → Keeps p old rb
+        done (he, q) g h =
             let gone = st .missing in
             let lost = named-in p rg e he in
             let sh = u .base .shaped in

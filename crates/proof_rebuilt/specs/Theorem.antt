@@ -1,44 +1,42 @@
 -- What demand 2 claims of a rebuild that finished, between the uncut calls after a restart: only the named drive's rebuild finishes, and then Accepted and Said apply. Assumes nothing.
 use mathlib.Core.Path.{_≡_, refl, sym, ap, _∙_, subst}
-use mathlib.Core.List.{List, [], _∷_}
-use mathlib.Core.Bool.{true, false, not, _&&_, _||_}
+use mathlib.Core.List.{List, []}
+use mathlib.Core.Bool.{true, false}
 use mathlib.Core.Logic.{_⊎_, inl, inr}
 use Prim.Native.Nat.{ℕ, _<_}
-use borrow.Author.Tests.{eq-eqb, ltb-true, leb-true, eqb-true, not-false}
+use borrow.Author.Tests.{eq-eqb, leb-true, eqb-true}
 use native.Mathlib.Omega.{arith}
-use lib.Dec.{ltb, eqb, lit≤}
+use lib.Dec.{eqb, lit≤}
 use Rattle.spec.specs.declared.Params.{Params}
 use Rattle.spec.specs.declared.Answer.{Answer}
 use Rattle.spec.specs.declared.Answer.the-variants.{Cut, Restarted, Rebuilt}
 use Rattle.spec.specs.declared.Report.{Report}
 use Rattle.spec.specs.Answers.{kind, isRefused, isRefusedAs}
 use Rattle.spec.specs.Calls.{Check, firstRefusal, Plan, mkPlan, decided, outcome}
-use Rattle.spec.specs.Calls.Check.{rule}
 use Rattle.spec.specs.Demands.{saidAt}
 use Rattle.spec.specs.Drives.{View, Disk, storeDisk, storeAll}
 use Rattle.spec.specs.Engine.Call.{restart, rebuild}
 use Rattle.spec.specs.Engine.{storeCount, lentBlock, verdict, lentOk, callOn, callDisk}
-use Rattle.spec.specs.Faults.{imageChecks}
 use Rattle.spec.specs.History.{mkWorld}
 use Rattle.spec.specs.Memory.{Memory}
-use Rattle.spec.specs.Params.{inRange, noDrive, named}
-use Rattle.spec.specs.Rebuild.{namesMissing, rebuildChecks, rebuildStores, rebuildVerdict}
+use Rattle.spec.specs.Params.{noDrive, named}
+use Rattle.spec.specs.Rebuild.{rebuildChecks, rebuildStores, rebuildVerdict}
 use Rattle.spec.specs.Restart.{reportOf, restartChecks, restartPlan, restartVerdict}
 use Rattle.spec.specs.Segments.{segments}
 use Rattle.law_basic.specs.Geometry.{Ranged, ranged}
 use Rattle.law_basic.specs.Mask.{only-none}
-use Rattle.law_basic.specs.Ranges.{and-left, and-right}
 use Rattle.spec_demands.specs.Engines.{callWorld, onValues, viewIn}
 use Rattle.spec_demands.specs.Tables.{Rebuilds}
 use Rattle.law_views.specs.Views.{seen, view-stores}
 use Rattle.law_calls.specs.Refusals.{refusal-kind}
-use Rattle.law_drives.specs.Accept.{Accepted, checks-of}
-use Rattle.law_drives.specs.Checks.{Clear, clear}
+use Rattle.law_drives.specs.Accept.{Accepted}
+use Rattle.law_checks.specs.Checks.{Mild}
+use Rattle.law_checks.specs.Passed.{restart-mild as start-mild, rebuild-passed}
 use Rattle.law_drives.specs.Lengths.{whole-of}
 use Rattle.law_drives.specs.Masks.{named-some}
 use Rattle.law_drives.specs.Range.{capacity-word}
 use Rattle.law_drives.specs.Rebuilding.{rebuild-roomy, rebuild-within}
-use Rattle.law_drives.specs.Tests.{clash, false-true, or-right}
+use Rattle.law_drives.specs.Tests.{clash, false-true}
 use Rattle.law_drives.specs.Zones.{all-fit}
 use Rattle.proof_tables.specs.Outcomes.{Ended, ended, cut-mild}
 use Rattle.proof_tables.specs.Outcomes.Ended.{ended-refused, ended-done, ended-cut}
@@ -64,10 +62,10 @@ restart-mild p k m n acc = go (ended p k m checks plan n [])
     plan : Plan
     plan = restartPlan p (seen p k) noDrive (segments p (seen p k) (named noDrive)) (m .inflight)
 
-    fine : Clear checks
-    fine = unfold restartChecks imageChecks in (
-        let a = checks-of p (seen p k) (named noDrive) (subst (λ (g : ℕ). Accepted p (seen p k) g) (sym no-drive) acc) in
-        (refl, λ x. (refl, λ y. (a .0, (a .1 .0, (refl, λ z. (refl, λ t. tt)))))))
+    fine : Mild checks
+    fine =
+        let a : Accepted p (seen p k) (named noDrive) = subst (λ (g : ℕ). Accepted p (seen p k) g) (sym no-drive) acc in
+        start-mild p (lentOk p k m) (seen p k) noDrive (segments p (seen p k) (named noDrive)) (a .pointers-ok) (a .segments-ok)
 
     restarted-mild : (q : Report) → isRefusedAs 9 (Restarted q) ≡ false
     restarted-mild q = unfold isRefusedAs isRefused kind in refl
@@ -77,7 +75,7 @@ restart-mild p k m n acc = go (ended p k m checks plan n [])
 
     go : Ended p k m checks plan (outcome p (storeDisk p) n k m [] (decided (firstRefusal checks) plan))
         → isRefusedAs 9 (outcome p (storeDisk p) n k m [] (decided (firstRefusal checks) plan) .answer) ≡ false
-    go (ended-refused a e f g h) = ap (isRefusedAs 9) f ∙ clear checks fine a e
+    go (ended-refused a e f g h) = ap (isRefusedAs 9) f ∙ fine a e
     go (ended-done c f g h) = ap (isRefusedAs 9) (f ∙ answer-is) ∙ restarted-mild (reportOf p (named noDrive) (segments p (seen p k) (named noDrive)))
     go (ended-cut c f) = ap (isRefusedAs 9) f ∙ cut-mild
 
@@ -97,19 +95,14 @@ module _ (p : Params) (k : Disk) (m : Memory) (u : Run p k m) (d n : ℕ) where
     leaves : callDisk p k m (rebuild d n) .drives ≡ storeAll (storeDisk p) (rebuildStores p d (segments p v (named d))) k
 
   rebuild-done : eqb (kind (callDisk p k m (rebuild d n) .answer)) 13 ≡ true → Done
-  unfolding callDisk callOn verdict storeCount lentBlock rebuildVerdict rebuildChecks
+  unfolding callDisk callOn verdict storeCount lentBlock rebuildVerdict
   rebuild-done q = go (ended p k m checks plan n [])
     where
       plan : Plan
       plan = mkPlan (rebuildStores p d (segments p v (named d))) Rebuilt m []
 
       checks : List Check
-      checks = rule 1 (not (inRange p) || not (namesMissing p (m .state) d)) ∷ rule 2 (not (lentOk p k m)) ∷ imageChecks p v (named d) (segments p v (named d))
-
-      names : not (inRange p) || not (namesMissing p (m .state) d) ≡ false → (d < p .N) × (m .state .missing ≡ named d)
-      names z = unfold namesMissing in (
-          let t = not-false (ltb d (p .N) && eqb (m .state .missing) (named d)) (or-right (not (inRange p)) (not (ltb d (p .N) && eqb (m .state .missing) (named d))) z) in
-          (ltb-true d (p .N) (and-left (ltb d (p .N)) (eqb (m .state .missing) (named d)) t), eqb-true (m .state .missing) (named d) (and-right (ltb d (p .N)) (eqb (m .state .missing) (named d)) t)))
+      checks = rebuildChecks p (lentOk p k m) v m d (segments p v (named d))
 
       accepts-of : (d < p .N) → m .state .missing ≡ named d → Lost p k m ⊎ Well p k m → Accepted p v (named d)
       accepts-of hd e (inl lo) = subst (λ (g : ℕ). Accepted p v g) e (lo .accepts)
@@ -123,9 +116,9 @@ module _ (p : Params) (k : Disk) (m : Memory) (u : Run p k m) (d n : ℕ) where
 
       go : Ended p k m checks plan (outcome p (storeDisk p) n k m [] (decided (firstRefusal checks) plan)) → Done
       go (ended-refused a e f g h) = absurd (refused-not a (refusal-kind checks a e) (ap (λ (b : Answer). eqb (kind b) 13) (sym f) ∙ q))
-      go (ended-done c f g h) = let (hd, e) = names (c .0) in record {
-        loses = record { ranged = rg; shaped = u .base .shaped; drive-low = hd; accepts = accepts-of hd e (u .mode) };
-        named-so = e;
+      go (ended-done c f g h) = let r = rebuild-passed p (lentOk p k m) v m d (segments p v (named d)) c in record {
+        loses = record { ranged = rg; shaped = u .base .shaped; drive-low = r .drive-low; accepts = accepts-of (r .drive-low) (r .names) (u .mode) };
+        named-so = r .names;
         leaves = g;
       }
       go (ended-cut c f) = absurd (cut-not (ap (λ (b : Answer). eqb (kind b) 13) (sym f) ∙ q))

@@ -1,41 +1,39 @@
 -- With no drive missing: what a call must leave; writes and closings. Assumes nothing.
 use mathlib.Core.Path.{_≡_, refl, sym, ap, ap₂, _∙_, subst}
-use mathlib.Core.List.{List, [], _∷_, _++_}
-use mathlib.Core.Bool.{true, false, cond, not, _&&_, _||_}
+use mathlib.Core.List.{List, [], _∷_}
+use mathlib.Core.Bool.{true, false, cond}
 use mathlib.Core.Logic.{inr}
 use Prim.Native.Nat.{ℕ, zero, suc, _+_, _-_, _^_, _≤_, _<_}
-use borrow.Author.Tests.{leb-false, eqb-true, eqb-false, not-false}
+use borrow.Author.Tests.{leb-false, eqb-false}
 use native.Mathlib.Omega.{arith}
-use lib.Dec.{leb, eqb, lit<}
+use lib.Dec.{eqb, lit<}
 use lib.ListN.{length, replicate, length-replicate}
+use Rattle.spec.specs.Lists.Opt.{none}
 use Rattle.spec.specs.declared.Params.{Params}
 use Rattle.spec.specs.declared.State.{State}
 use Rattle.spec.specs.Answers.{kind, isRefused, isRefusedAs}
 use Rattle.spec.specs.Calls.{Check, firstRefusal, decided, outcome}
-use Rattle.spec.specs.Calls.Check.{rule, zones}
 use Rattle.spec.specs.Closing.{padded, closeChecks, closePlan, closeVerdict}
 use Rattle.spec.specs.Counts.{paddingAddress, lastCount}
 use Rattle.spec.specs.Drives.{View, pointerAt, Store, storeView, Disk, storeDisk, storeAll, emptyZones}
 use Rattle.spec.specs.Engine.{storeCount, lentBlock, verdict, lentOk, callOn, callDisk}
 use Rattle.spec.specs.Engine.Call.{write, close}
 use Rattle.spec.specs.Lists.{keep, isNil, isIn}
-use Rattle.spec.specs.Memory.{Memory, mkMemory, filledIn, fillingSlot, hasFilling, stateFaults, setStamp, addEntry}
+use Rattle.spec.specs.Memory.{Memory, mkMemory, filledIn, fillingSlot, hasFilling, setStamp, addEntry}
 use Rattle.spec.specs.Params.{dataCount, inRange, inflightLen}
-use Rattle.spec.specs.Reclaim.{tableFaults, victim, idle}
 use Rattle.spec.specs.Segments.{segments, candidates, addressTable, compactTable}
-use Rattle.spec.specs.Write.{opens, noStamp, noSerial, mustWait, scarce, placed, sending, writeChecks, writePlan, writeVerdict}
+use Rattle.spec.specs.Write.{opens, noStamp, scarce, placed, sending, writeChecks, writePlan, writeVerdict}
 use Rattle.law_basic.specs.Be.{room}
 use Rattle.law_basic.specs.Geometry.{Ranged, ranged, addresses-all}
 use Rattle.law_basic.specs.Mask.{isIn-empty}
 use Rattle.law_views.specs.Views.{Whole, seen, view-stores, whole-stores}
-use Rattle.law_calls.specs.Refusals.{state-fine}
-use Rattle.law_drives.specs.Checks.{Passes, clear}
 use Rattle.law_drives.specs.Lengths.{lengths-of, whole-of, of-lengths}
-use Rattle.law_drives.specs.Members.{In, nil-append}
+use Rattle.law_checks.specs.Passed.{write-passed, write-mild, close-passed, close-mild}
+use Rattle.law_drives.specs.Members.{In}
 use Rattle.law_drives.specs.Range.{capacity-word}
 use Rattle.law_drives.specs.States.{StateOk, state-of, of-state}
 use Rattle.law_drives.specs.Tables.{length-addresses, length-compact}
-use Rattle.law_drives.specs.Tests.{clash, or-left, or-right, cond-same}
+use Rattle.law_drives.specs.Tests.{clash}
 use Rattle.law_drives.specs.Zones.{Shaped, hits, Room, Within, Roomy, all-fit, shaped-after}
 use Rattle.proof_tables.specs.Carried.{stamp-healthy, stamp-ok}
 use Rattle.proof_tables.specs.Filling.{placed-long, add-ok, fill-healthy}
@@ -118,16 +116,15 @@ module _ (p : Params) (k : Disk) (m : Memory) (u : Run p k m) (we : Well p k m) 
 
   module _ (a n : ℕ) (b : List ℕ) where
     abbrev checks : List Check
-    checks = rule 1 (not (inRange p)) ∷ rule 2 (not (lentOk p k m) || not (eqb (length b) (p .B))) ∷ rule 3 (not (eqb (st .missing) 0)) ∷ rule 4 (leb (p .L) a)
-        ∷ rule 6 (noStamp st || noSerial p st) ∷ rule 7 (mustWait p st) ∷ rule 8 (scarce p v (cond (opens p st) 2 1)) ∷ zones (stateFaults p st) ∷ []
+    checks = writeChecks p (lentOk p k m) v m a b
 
-    write-done : Passes checks → (x : Disk) → x ≡ storeAll (storeDisk p) (writePlan p v m a b .stores) k → Run p x (writePlan p v m a b .memory)
-    write-done (c1, (c2, (c3, (c4, (c6, (c7, (c8, (c9, c)))))))) x ex =
+    write-done : firstRefusal checks ≡ none → (x : Disk) → x ≡ storeAll (storeDisk p) (writePlan p v m a b .stores) k → Run p x (writePlan p v m a b .memory)
+    write-done e x ex =
+        let c = write-passed p (lentOk p k m) v m a b e in
         let t = suc (st .stamp .0) in
-        let lb : length b ≡ p .B = eqb-true (length b) (p .B) (not-false (eqb (length b) (p .B)) (or-right (not (lentOk p k m)) (not (eqb (length b) (p .B))) c2)) in
-        let ha : a < 256 ^ 8 = address-small p (u .base .ranged) a (leb-false (p .L) a c4) in
-        let ht : t < 256 ^ 8 = (let nl = eqb-false (st .stamp .0) lastCount (stamp-left (or-left (noStamp st) (noSerial p st) c6)) in let f = we .healthy .stamp-fits in omega arith) in
-        let s = sends p rg v (u .base .shaped) st (we .healthy) so (m .inflight) buffer-long a t 1 b ha ht (omega arith) lb c7 (or-right (noStamp st) (noSerial p st) c6) (λ q. zones-left c8) in
+        let ha : a < 256 ^ 8 = address-small p (u .base .ranged) a (c .address-low) in
+        let ht : t < 256 ^ 8 = (let nl = eqb-false (st .stamp .0) lastCount (stamp-left (c .stamp-left)) in let f = we .healthy .stamp-fits in omega arith) in
+        let s = sends p rg v (u .base .shaped) st (we .healthy) so (m .inflight) buffer-long a t 1 b ha ht (omega arith) (c .block-long) (c .no-wait) (c .serial-left) (λ q. zones-left (c .room)) in
         let q = sending p v st (m .inflight) a t 1 b in
         subst (λ (y : Disk). Run p y (writePlan p v m a b .memory)) (sym (ex ∙ ap (λ (l : List Store). storeAll (storeDisk p) l k) stores-is))
         (subst (λ (y : Memory). Run p (storeAll (storeDisk p) (q .stores) k) y) (sym memory-is)
@@ -160,7 +157,7 @@ module _ (p : Params) (k : Disk) (m : Memory) (u : Run p k m) (we : Well p k m) 
         missing-same s t = unfold setStamp in refl
 
     pub well-write : Kept p (callDisk p k m (write a b n))
-    unfolding callDisk callOn verdict storeCount lentBlock writeVerdict writeChecks
+    unfolding callDisk callOn verdict storeCount lentBlock writeVerdict
     well-write = go (ended p k m checks (writePlan p v m a b) n b)
       where
         mild-sent : isRefusedAs 9 (writePlan p v m a b .answer) ≡ false
@@ -169,8 +166,7 @@ module _ (p : Params) (k : Disk) (m : Memory) (u : Run p k m) (we : Well p k m) 
         go :
             Ended p k m checks (writePlan p v m a b) (outcome p (storeDisk p) n k m b (decided (firstRefusal checks) (writePlan p v m a b)))
             → Kept p (outcome p (storeDisk p) n k m b (decided (firstRefusal checks) (writePlan p v m a b)))
-        go (ended-refused x e f g h) = refused-kept p k m _ x u
-            (clear checks (refl, λ c1. (refl, λ c2. (refl, λ c3. (refl, λ c4. (refl, λ c6. (refl, λ c7. (refl, λ c8. (state-fine p st (u .base .state-ok), tt)))))))) x e) f g h
+        go (ended-refused x e f g h) = refused-kept p k m _ x u (write-mild p (lentOk p k m) v m a b (u .base .state-ok) x e) f g h
         go (ended-done c f g h) = record {
           never-ninth = ap (isRefusedAs 9) f ∙ mild-sent;
           runs-on = λ x. subst (λ (y : Memory). Run p (outcome p (storeDisk p) n k m b (decided (firstRefusal checks) (writePlan p v m a b)) .drives) y) (sym h) (write-done c _ g);
@@ -181,13 +177,7 @@ module _ (p : Params) (k : Disk) (m : Memory) (u : Run p k m) (we : Well p k m) 
 
   module _ (n : ℕ) where
     abbrev closeList : List Check
-    closeList = rule 1 (not (inRange p)) ∷ rule 2 (not (lentOk p k m)) ∷ rule 3 (not (eqb (st .missing) 0))
-        ∷ rule 5 (not (hasFilling p st) || (scarce p v 1 && not (isNil (idle p v st (victim p v (m .addresses))))))
-        ∷ zones (stateFaults p st ++ cond (scarce p v 1) (tableFaults p (m .addresses)) []) ∷ []
-
-    close-faults : stateFaults p st ++ cond (scarce p v 1) (tableFaults p (m .addresses)) [] ≡ []
-    close-faults = nil-append (stateFaults p st) (cond (scarce p v 1) (tableFaults p (m .addresses)) []) (state-fine p st (u .base .state-ok))
-        (ap (λ (x : List ℕ). cond (scarce p v 1) x []) (table-clear p rg v (m .addresses) address-table) ∙ cond-same (scarce p v 1) [])
+    closeList = closeChecks p (lentOk p k m) v m
 
     pub record PadOk (su : State) (fl : List ℕ) : Type 0 where
       pub pad-healthy : Healthy p v su
@@ -215,9 +205,9 @@ module _ (p : Params) (k : Disk) (m : Memory) (u : Run p k m) (we : Well p k m) 
         missing-same : (i : ℕ) (su : State) → addEntry su i paddingAddress 0 0 .missing ≡ su .missing
         missing-same i su = unfold addEntry in refl
 
-    close-done : Passes closeList → (x : Disk) → x ≡ storeAll (storeDisk p) (closePlan p m .stores) k → Run p x (closePlan p m .memory)
-    close-done (c1, (c2, (c3, (c5, (c9, c))))) x ex =
-        let f : hasFilling p st ≡ true = not-false (hasFilling p st) (or-left (not (hasFilling p st)) (scarce p v 1 && not (isNil (idle p v st (victim p v (m .addresses))))) c5) in
+    close-done : firstRefusal closeList ≡ none → (x : Disk) → x ≡ storeAll (storeDisk p) (closePlan p m .stores) k → Run p x (closePlan p m .memory)
+    close-done e x ex =
+        let f : hasFilling p st ≡ true = close-passed p (lentOk p k m) v m e .filling in
         let (hi, fi, room) = filling-slot p st f in
         let i = fillingSlot p st in
         let q = padded p i (dataCount p - filledIn st i) st (m .inflight) in
@@ -246,7 +236,7 @@ module _ (p : Params) (k : Disk) (m : Memory) (u : Run p k m) (we : Well p k m) 
         none-room d z = unfold keep in tt
 
     pub well-close : Kept p (callDisk p k m (close n))
-    unfolding callDisk callOn verdict storeCount lentBlock closeVerdict closeChecks
+    unfolding callDisk callOn verdict storeCount lentBlock closeVerdict
     well-close = go (ended p k m closeList (closePlan p m) n [])
       where
         mild-closed : isRefusedAs 9 (closePlan p m .answer) ≡ false
@@ -255,7 +245,8 @@ module _ (p : Params) (k : Disk) (m : Memory) (u : Run p k m) (we : Well p k m) 
         go :
             Ended p k m closeList (closePlan p m) (outcome p (storeDisk p) n k m [] (decided (firstRefusal closeList) (closePlan p m)))
             → Kept p (outcome p (storeDisk p) n k m [] (decided (firstRefusal closeList) (closePlan p m)))
-        go (ended-refused x e f g h) = refused-kept p k m _ x u (clear closeList (refl, λ c1. (refl, λ c2. (refl, λ c3. (refl, λ c5. (close-faults, tt))))) x e) f g h
+        go (ended-refused x e f g h) =
+            refused-kept p k m _ x u (close-mild p (lentOk p k m) v m (u .base .state-ok) (λ z. table-clear p rg v (m .addresses) address-table) x e) f g h
         go (ended-done c f g h) = record {
           never-ninth = ap (isRefusedAs 9) f ∙ mild-closed;
           runs-on = λ x. subst (λ (y : Memory). Run p (outcome p (storeDisk p) n k m [] (decided (firstRefusal closeList) (closePlan p m)) .drives) y) (sym h) (close-done c _ g);

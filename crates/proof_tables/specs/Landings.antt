@@ -5,7 +5,7 @@ use mathlib.Core.Bool.{Bool, true, false, cond, not, _&&_}
 use mathlib.Core.Logic.{inl, inr, ⊎-elim}
 use Prim.Native.Nat.{ℕ, zero, suc, _+_, _-_, _^_, _≤_, _<_}
 use native.Mathlib.Decide.{ℕ-discrete}
-use borrow.Author.Tests.{le-ltb, eq-eqb, ne-eqb, ltb-true, eqb-true, not-false}
+use borrow.Author.Tests.{le-ltb, eq-eqb, ne-eqb, ltb-true, eqb-true}
 use native.Mathlib.Omega.{arith}
 use lib.Dec.{ltb, eqb}
 use lib.ListN.{length, getD, set}
@@ -13,7 +13,6 @@ use Rattle.spec.specs.declared.Params.{Params}
 use Rattle.spec.specs.declared.State.{State}
 use Rattle.spec.specs.Answers.{kind, isRefused, isRefusedAs}
 use Rattle.spec.specs.Calls.{Check, firstRefusal, Plan, decided, outcome}
-use Rattle.spec.specs.Calls.Check.{rule, zones}
 use Rattle.spec.specs.Counts.{neverPlace}
 use Rattle.spec.specs.Drives.{View, pointerAt, Store, storeView, Disk, storeDisk, storeAll, zoneOn}
 use Rattle.spec.specs.Drives.Store.{put}
@@ -23,9 +22,9 @@ use Rattle.spec.specs.Landing.{slotOf, ready, waiting, completes, seals, flight
 use Rattle.spec.specs.Landing.{landChecks, sealStores, landStore, landPlan, landVerdict}
 use Rattle.spec.specs.Layout.{group, compactEntry, Rec, recordBytes}
 use Rattle.spec.specs.Lists.{below, any, consIf, indexOf, flat}
-use Rattle.spec.specs.Memory.{Memory, mkMemory, slotCount, slots, stripeIn, filledIn, landedIn, entriesIn, openSegment, isFree, inFlight, stateFaults}
+use Rattle.spec.specs.Memory.{Memory, mkMemory, slotCount, slots, stripeIn, filledIn, landedIn, entriesIn, openSegment, isFree, inFlight}
 use Rattle.spec.specs.Memory.{setClosed, markLanded, freeStripe, placeAt, compactAt, slotBlock}
-use Rattle.spec.specs.Params.{between, inRange, footers, capacity, drivesOf}
+use Rattle.spec.specs.Params.{between, footers, capacity, drivesOf}
 use Rattle.spec.specs.Read.{placeFaults}
 use Rattle.spec.specs.Segments.{segments, candidates, addressTable, compactTable}
 use Rattle.law_basic.specs.Geometry.{between-of, Ranged, ranged}
@@ -33,12 +32,11 @@ use Rattle.law_basic.specs.Ranges.{Test, test, and-left, and-right, and-both, l
 use Rattle.law_basic.specs.Ranges.Test.{yes!, no! }
 use Rattle.law_basic.specs.Stores.{storeAll-append}
 use Rattle.law_views.specs.Views.{seen}
-use Rattle.law_calls.specs.Refusals.{state-fine}
-use Rattle.law_drives.specs.Checks.{clear}
+use Rattle.law_checks.specs.Passed.{land-passed, land-mild}
 use Rattle.law_drives.specs.Growing.{Grows, grows-used, grows-tidy, grows-candidates, grows-compact}
 use Rattle.law_drives.specs.Joins.{roomy-append, within-append}
 use Rattle.law_drives.specs.Lengths.{whole-of}
-use Rattle.law_drives.specs.Members.{In, in-none, flat-nothing, below-in, index-passes, index-none, nil-append}
+use Rattle.law_drives.specs.Members.{In, in-none, flat-nothing, below-in, index-passes, index-none}
 use Rattle.law_drives.specs.Range.{capacity-is}
 use Rattle.law_drives.specs.Settled.{zones-pointer}
 use Rattle.law_drives.specs.Slots.{block-long! }
@@ -238,20 +236,17 @@ module _ (p : Params) (k : Disk) (m : Memory) (u : Run p k m) (we : Well p k m) 
         as! (no! x) =
             unfold entryFaults in cond-false (ltb (e .address) (p .L)) (cond (eqb (placeAt (m .addresses) (e .address)) neverPlace) [] (placeFaults p v 0 (placeAt (m .addresses) (e .address)))) [] x
 
-    faults-none : stateFaults p st ++ landFaults p v m d s ≡ []
-    faults-none = nil-append (stateFaults p st) (landFaults p v m d s) (state-fine p st (u .base .state-ok)) as!
+    faults-none : landFaults p v m d s ≡ []
+    faults-none = unfold landFaults zoneOn consIf in
+        rw (never-misplaced) (ap (λ (c : Bool). consIf (seals p st i d && c) z (cond (completes p st i d) (flat (entryFaults p v (m .addresses)) (entriesIn st i)) [])) never-overfull
+        ∙ ap (λ (c : Bool). consIf c z (cond (completes p st i d) (flat (entryFaults p v (m .addresses)) (entriesIn st i)) [])) (and-false-right (seals p st i d) false refl)
+        ∙ ap (λ (l : List ℕ). cond (completes p st i d) l []) zs-none ∙ cond-same (completes p st i d) [])
       where
         zs : List ℕ
         zs = flat (entryFaults p v (m .addresses)) (entriesIn st i)
 
         zs-none : flat (entryFaults p v (m .addresses)) (entriesIn st i) ≡ []
         zs-none = flat-nothing (entryFaults p v (m .addresses)) (entriesIn st i) (λ e n. entry-ok e)
-
-        as! : landFaults p v m d s ≡ []
-        as! = unfold landFaults zoneOn consIf in
-            rw (never-misplaced) (ap (λ (c : Bool). consIf (seals p st i d && c) z (cond (completes p st i d) (flat (entryFaults p v (m .addresses)) (entriesIn st i)) [])) never-overfull
-            ∙ ap (λ (c : Bool). consIf c z (cond (completes p st i d) (flat (entryFaults p v (m .addresses)) (entriesIn st i)) [])) (and-false-right (seals p st i d) false refl)
-            ∙ ap (λ (l : List ℕ). cond (completes p st i d) l []) zs-none ∙ cond-same (completes p st i d) [])
 
     -- ---- what it leaves
 
@@ -449,24 +444,26 @@ module _ (p : Params) (k : Disk) (m : Memory) (u : Run p k m) (we : Well p k m) 
         go (yes! q) (yes! sl) = lands-segment sl
 
   abbrev checks : List Check
-  checks = rule 1 (not (inRange p)) ∷ rule 2 (not (lentOk p k m)) ∷ rule 3 (not (eqb (st .missing) 0)) ∷ rule 5 (not (waiting p st d s)) ∷ zones (stateFaults p st ++ landFaults p v m d s) ∷ []
+  checks = landChecks p (lentOk p k m) v m d s
 
   pub well-land : (n : ℕ) → Kept p (callDisk p k m (land d s n))
-  unfolding callDisk callOn verdict storeCount lentBlock landVerdict landChecks
+  unfolding callDisk callOn verdict storeCount lentBlock landVerdict
   well-land n = go (ended p k m checks (landPlan p v m d s) n [])
     where
       mild-landed : isRefusedAs 9 (landPlan p v m d s .answer) ≡ false
       mild-landed = unfold landPlan isRefusedAs isRefused kind in refl
 
-      waits! : not (waiting p st d s) ≡ false → Waits p v st d s
-      waits! q = waits p v st d s he (not-false (waiting p st d s) q)
+      waits! : waiting p st d s ≡ true → Waits p v st d s
+      waits! q = waits p v st d s he q
 
       go :
           Ended p k m checks (landPlan p v m d s) (outcome p (storeDisk p) n k m [] (decided (firstRefusal checks) (landPlan p v m d s)))
           → Kept p (outcome p (storeDisk p) n k m [] (decided (firstRefusal checks) (landPlan p v m d s)))
-      go (ended-refused x e f g h) = refused-kept p k m _ x u (clear checks (refl, λ c1. (refl, λ c2. (refl, λ c3. (refl, λ c5. (faults-none (waits! c5), tt))))) x e) f g h
+      go (ended-refused x e f g h) =
+          refused-kept p k m _ x u (land-mild p (lentOk p k m) v m d s (u .base .state-ok) (λ z q. faults-none (waits! q)) x e) f g h
       go (ended-done c f g h) = record {
         never-ninth = ap (isRefusedAs 9) f ∙ mild-landed;
-        runs-on = λ x. subst (λ (y : Memory). Run p (outcome p (storeDisk p) n k m [] (decided (firstRefusal checks) (landPlan p v m d s)) .drives) y) (sym h) (land-done (waits! (c .1 .1 .1 .0)) _ g);
+        runs-on = λ x. subst (λ (y : Memory). Run p (outcome p (storeDisk p) n k m [] (decided (firstRefusal checks) (landPlan p v m d s)) .drives) y) (sym h)
+            (land-done (waits! (land-passed p (lentOk p k m) v m d s c .waits)) _ g);
       }
       go (ended-cut c f) = cut-kept p _ f

@@ -1,35 +1,35 @@
 -- With a drive missing: the restart that names it, the calls that are refused, and its rebuild. Assumes nothing.
 use mathlib.Core.Path.{_≡_, refl, sym, ap, _∙_, subst}
-use mathlib.Core.List.{List, [], _∷_}
-use mathlib.Core.Bool.{Bool, true, false, not, _&&_, _||_}
+use mathlib.Core.List.{List, []}
+use mathlib.Core.Bool.{true, false}
 use mathlib.Core.Logic.{inl}
 use Prim.Native.Nat.{ℕ, _<_}
-use borrow.Author.Tests.{ltb-true, eqb-true, not-false}
-use lib.Dec.{ltb, eqb}
+use borrow.Author.Tests.{eq-eqb}
+use lib.Dec.{eqb}
+use Rattle.spec.specs.Lists.Opt.{none}
 use Rattle.spec.specs.declared.Answer.{Answer}
 use Rattle.spec.specs.declared.Answer.the-variants.{Cut, Rebuilt}
 use Rattle.spec.specs.declared.Params.{Params}
 use Rattle.spec.specs.Answers.{kind, isRefused, isRefusedAs, isCut}
 use Rattle.spec.specs.Calls.{Check, firstRefusal, Plan, mkPlan, decided, After, outcome}
-use Rattle.spec.specs.Calls.Check.{rule}
 use Rattle.spec.specs.Closing.{closeChecks, closeVerdict}
 use Rattle.spec.specs.Drives.{View, storeView, Disk, storeDisk, storeAll}
 use Rattle.spec.specs.Engine.{storeCount, lentBlock, verdict, lentOk, callOn, callDisk}
 use Rattle.spec.specs.Engine.Call.{write, land, close, reclaim, rebuild}
-use Rattle.spec.specs.Faults.{imageChecks}
+use Rattle.spec.specs.Faults.{pointerFaults, segmentFaults}
 use Rattle.spec.specs.Landing.{landChecks, landVerdict}
 use Rattle.spec.specs.Memory.{Memory}
-use Rattle.spec.specs.Params.{inRange, named, present}
-use Rattle.spec.specs.Rebuild.{namesMissing, rebuildChecks, rebuildStores, rebuildVerdict}
-use Rattle.spec.specs.Reclaim.{reclaimChecks, reclaimVerdict}
+use Rattle.spec.specs.Params.{named, present}
+use Rattle.spec.specs.Rebuild.{rebuildChecks, rebuildStores, rebuildVerdict}
+use Rattle.spec.specs.Reclaim.{reclaimChecks, reclaimVerdict, victim}
 use Rattle.spec.specs.Segments.{lowDrive, segments, candidates, addressTable, compactTable}
 use Rattle.spec.specs.Write.{writeChecks, writeVerdict}
 use Rattle.law_basic.specs.Be.{room}
 use Rattle.law_basic.specs.Geometry.{Ranged, ranged}
-use Rattle.law_basic.specs.Ranges.{and-left, and-right}
 use Rattle.law_views.specs.Views.{seen, view-stores, whole-stores}
-use Rattle.law_drives.specs.Accept.{Accepted, checks-of, in-groups}
-use Rattle.law_drives.specs.Checks.{Passes, Clear, clear}
+use Rattle.law_drives.specs.Accept.{Accepted, in-groups}
+use Rattle.law_checks.specs.Checks.{Mild}
+use Rattle.law_checks.specs.Passed.{write-passed, write-mild, land-passed, land-mild, close-passed, close-mild, reclaim-passed, reclaim-mild, rebuild-passed, rebuild-mild}
 use Rattle.law_drives.specs.Frame.{Agree, same-candidates, same-compact, same-accepted}
 use Rattle.law_drives.specs.Lengths.{lengths-of, whole-of, of-lengths}
 use Rattle.law_drives.specs.Masks.{named-in, named-some, low-present}
@@ -37,7 +37,7 @@ use Rattle.law_drives.specs.Members.{In}
 use Rattle.law_drives.specs.Range.{capacity-word}
 use Rattle.law_drives.specs.Rebuilding.{rebuild-roomy, rebuild-within, rebuild-agrees}
 use Rattle.law_drives.specs.Spots.{InGroups}
-use Rattle.law_drives.specs.Tests.{clash, or-right}
+use Rattle.law_drives.specs.Tests.{clash}
 use Rattle.law_drives.specs.Zones.{Shaped, all-fit, shaped-after}
 use Rattle.proof_tables.specs.Base.{Base}
 use Rattle.proof_tables.specs.Outcomes.{Ended, ended, cut-cut, cut-mild}
@@ -81,37 +81,39 @@ module _ (p : Params) (k : Disk) (m : Memory) (u : Run p k m) (lo : Lost p k m) 
   missing-some : eqb (m .state .missing) 0 ≡ false
   missing-some = ap (λ (x : ℕ). eqb x 0) (lo .names-it) ∙ named-some p rg d (lo .which-low)
 
-  -- a list of checks with the third one among the first three stops a call
-  stopped : (c1 c2 : Bool) (cs : List Check) (q : Plan) (n : ℕ) (b : List ℕ)
-      → Kept p (outcome p (storeDisk p) n k m b (decided (firstRefusal (rule 1 c1 ∷ rule 2 c2 ∷ rule 3 (not (eqb (m .state .missing) 0)) ∷ cs)) q))
-  stopped c1 c2 cs q n b = go (ended p k m (rule 1 c1 ∷ rule 2 c2 ∷ rule 3 (not (eqb (m .state .missing) 0)) ∷ cs) q n b)
-    where
-      never : {X : Type 0} → not (eqb (m .state .missing) 0) ≡ false → X
-      never e = clash (ap not missing-some) e
+  missing-none : {X : Type 0} → m .state .missing ≡ 0 → X
+  missing-none e = clash (eq-eqb (m .state .missing) 0 e) missing-some
 
-      go : Ended p k m (rule 1 c1 ∷ rule 2 c2 ∷ rule 3 (not (eqb (m .state .missing) 0)) ∷ cs) q
-          (outcome p (storeDisk p) n k m b (decided (firstRefusal (rule 1 c1 ∷ rule 2 c2 ∷ rule 3 (not (eqb (m .state .missing) 0)) ∷ cs)) q))
-          → Kept p (outcome p (storeDisk p) n k m b (decided (firstRefusal (rule 1 c1 ∷ rule 2 c2 ∷ rule 3 (not (eqb (m .state .missing) 0)) ∷ cs)) q))
-      go (ended-refused a e f g h) = refused-kept p k m _ a u
-          (clear (rule 1 c1 ∷ rule 2 c2 ∷ rule 3 (not (eqb (m .state .missing) 0)) ∷ cs) (refl, λ x. (refl, λ y. (refl, λ z. never z))) a e) f g h
-      go (ended-done c f g h) = never (c .1 .1 .0)
+  -- a list of checks that wants no drive missing stops a call
+  stopped : (cs : List Check) (q : Plan) (n : ℕ) (b : List ℕ) → Mild cs → (firstRefusal cs ≡ none → m .state .missing ≡ 0)
+      → Kept p (outcome p (storeDisk p) n k m b (decided (firstRefusal cs) q))
+  stopped cs q n b mild healthy = go (ended p k m cs q n b)
+    where
+      go : Ended p k m cs q (outcome p (storeDisk p) n k m b (decided (firstRefusal cs) q)) → Kept p (outcome p (storeDisk p) n k m b (decided (firstRefusal cs) q))
+      go (ended-refused a e f g h) = refused-kept p k m _ a u (mild a e) f g h
+      go (ended-done c f g h) = missing-none (healthy c)
       go (ended-cut c f) = cut-kept p _ f
 
   pub lost-write : (a : ℕ) (b : List ℕ) (n : ℕ) → Kept p (callDisk p k m (write a b n))
-  unfolding callDisk callOn verdict storeCount lentBlock writeVerdict writeChecks
-  lost-write a b n = stopped _ _ _ _ n b
+  unfolding callDisk callOn verdict storeCount lentBlock writeVerdict
+  lost-write a b n = stopped (writeChecks p (lentOk p k m) v m a b) _ n b (write-mild p (lentOk p k m) v m a b (u .base .state-ok)) (λ e. write-passed p (lentOk p k m) v m a b e .healthy)
 
   pub lost-land : (e s n : ℕ) → Kept p (callDisk p k m (land e s n))
-  unfolding callDisk callOn verdict storeCount lentBlock landVerdict landChecks
-  lost-land e s n = stopped _ _ _ _ n []
+  unfolding callDisk callOn verdict storeCount lentBlock landVerdict
+  lost-land e s n =
+      stopped (landChecks p (lentOk p k m) v m e s) _ n [] (land-mild p (lentOk p k m) v m e s (u .base .state-ok) (λ z w. missing-none z))
+      (λ c. land-passed p (lentOk p k m) v m e s c .healthy)
 
   pub lost-close : (n : ℕ) → Kept p (callDisk p k m (close n))
-  unfolding callDisk callOn verdict storeCount lentBlock closeVerdict closeChecks
-  lost-close n = stopped _ _ _ _ n []
+  unfolding callDisk callOn verdict storeCount lentBlock closeVerdict
+  lost-close n = stopped (closeChecks p (lentOk p k m) v m) _ n [] (close-mild p (lentOk p k m) v m (u .base .state-ok) (λ z. missing-none z)) (λ c. close-passed p (lentOk p k m) v m c .healthy)
 
   pub lost-reclaim : (n : ℕ) → Kept p (callDisk p k m (reclaim n))
-  unfolding callDisk callOn verdict storeCount lentBlock reclaimVerdict reclaimChecks
-  lost-reclaim n = stopped _ _ _ _ n []
+  unfolding callDisk callOn verdict storeCount lentBlock reclaimVerdict
+  lost-reclaim n =
+      let w = victim p v (m .addresses) in
+      stopped (reclaimChecks p (lentOk p k m) v m w) _ n [] (reclaim-mild p (lentOk p k m) v m w (u .base .state-ok) (λ z. missing-none z) (λ z t. missing-none z))
+      (λ c. reclaim-passed p (lentOk p k m) v m w c .healthy)
 
   -- ---- the rebuild
 
@@ -120,23 +122,18 @@ module _ (p : Params) (k : Disk) (m : Memory) (u : Run p k m) (lo : Lost p k m) 
     plan = mkPlan (rebuildStores p e (segments p v (named e))) Rebuilt m []
 
     abbrev checks : List Check
-    checks = rule 1 (not (inRange p) || not (namesMissing p (m .state) e)) ∷ rule 2 (not (lentOk p k m)) ∷ imageChecks p v (named e) (segments p v (named e))
+    checks = rebuildChecks p (lentOk p k m) v m e (segments p v (named e))
 
-    clear-images : named e ≡ m .state .missing → Clear (imageChecks p v (named e) (segments p v (named e)))
-    unfolding imageChecks
-    clear-images q =
-        let a : Accepted p v (named e) = subst (λ (x : ℕ). Accepted p v x) (sym q) (lo .accepts) in
-        checks-of p v (named e) a
+    fine : e < p .N → m .state .missing ≡ named e → (pointerFaults p v (named e) ≡ []) × (segmentFaults p (named e) (segments p v (named e)) ≡ [])
+    fine l q =
+        let a : Accepted p v (named e) = subst (λ (x : ℕ). Accepted p v x) q (lo .accepts) in
+        (a .pointers-ok, a .segments-ok)
 
-    pub named-same : not (inRange p) || not (namesMissing p (m .state) e) ≡ false → (e < p .N) × (m .state .missing ≡ named e)
-    unfolding namesMissing
-    named-same q =
-        let t = not-false (ltb e (p .N) && eqb (m .state .missing) (named e)) (or-right (not (inRange p)) (not (ltb e (p .N) && eqb (m .state .missing) (named e))) q) in
-        (ltb-true e (p .N) (and-left (ltb e (p .N)) (eqb (m .state .missing) (named e)) t), eqb-true (m .state .missing) (named e) (and-right (ltb e (p .N)) (eqb (m .state .missing) (named e)) t))
-
-    done : Passes checks → (x : Disk) → x ≡ storeAll (storeDisk p) (plan .stores) k → Run p x m
+    done : firstRefusal checks ≡ none → (x : Disk) → x ≡ storeAll (storeDisk p) (plan .stores) k → Run p x m
     done c x ex =
-        let (he, q) = named-same (c .0) in
+        let r = rebuild-passed p (lentOk p k m) v m e (segments p v (named e)) c in
+        let he = r .drive-low in
+        let q = r .names in
         let w = whole-of p k m (u .base .lent) in
         let lost = named-in p rg e he in
         let room = rebuild-roomy p rg v (u .base .shaped) e he lost in
@@ -177,14 +174,14 @@ module _ (p : Params) (k : Disk) (m : Memory) (u : Run p k m) (lo : Lost p k m) 
             }
 
     pub lost-rebuild : Kept p (callDisk p k m (rebuild e n))
-    unfolding callDisk callOn verdict storeCount lentBlock rebuildVerdict rebuildChecks
+    unfolding callDisk callOn verdict storeCount lentBlock rebuildVerdict
     lost-rebuild = go (ended p k m checks plan n [])
       where
         mild-rebuilt : isRefusedAs 9 Rebuilt ≡ false
         mild-rebuilt = unfold isRefusedAs isRefused kind in refl
 
         go : Ended p k m checks plan (outcome p (storeDisk p) n k m [] (decided (firstRefusal checks) plan)) → Kept p (outcome p (storeDisk p) n k m [] (decided (firstRefusal checks) plan))
-        go (ended-refused a x f g h) = refused-kept p k m _ a u (clear checks (refl, λ y. (refl, λ z. clear-images (sym (named-same y .1)))) a x) f g h
+        go (ended-refused a x f g h) = refused-kept p k m _ a u (rebuild-mild p (lentOk p k m) v m e (segments p v (named e)) fine a x) f g h
         go (ended-done c f g h) = record {
           never-ninth = ap (isRefusedAs 9) f ∙ mild-rebuilt;
           runs-on = λ x. subst (λ (y : Memory). Run p (outcome p (storeDisk p) n k m [] (decided (firstRefusal checks) plan) .drives) y) (sym h) (done c _ g);

@@ -12,21 +12,21 @@ use Rattle.spec.specs.Answers.{kind, isRefused, isRefusedAs, isCut, finished}
 use Rattle.spec.specs.Calls.{Check, firstRefusal, Plan, Verdict, decided, After, mkAfter, limited, outcome}
 use Rattle.spec.specs.Calls.Verdict.{due}
 use Rattle.spec.specs.Drives.{Disk, storeDisk, storeAll}
-use Rattle.spec.specs.Lists.Opt.{some}
+use Rattle.spec.specs.Lists.Opt.{none, some}
 use Rattle.spec.specs.Memory.{Memory}
 use Rattle.law_basic.specs.Stores.{refused-same}
-use Rattle.law_drives.specs.Checks.{Passes, Decided, decide}
-use Rattle.law_drives.specs.Checks.Decided.{stops, goes}
+use Rattle.law_checks.specs.Checks.{Decided, decide}
+use Rattle.law_checks.specs.Checks.Decided.{stops, goes}
 
 pub data Ended (p : Params) (k : Disk) (m : Memory) (cs : List Check) (q : Plan) (r : After Disk) : Type 0 where
   ended-refused : (a : Answer) → firstRefusal cs ≡ some a → r .answer ≡ a → r .drives ≡ k → r .memory ≡ m → Ended p k m cs q r
-  ended-done : Passes cs → r .answer ≡ q .answer → r .drives ≡ storeAll (storeDisk p) (q .stores) k → r .memory ≡ q .memory → Ended p k m cs q r
-  ended-cut : Passes cs → r .answer ≡ Cut → Ended p k m cs q r
+  ended-done : firstRefusal cs ≡ none → r .answer ≡ q .answer → r .drives ≡ storeAll (storeDisk p) (q .stores) k → r .memory ≡ q .memory → Ended p k m cs q r
+  ended-cut : firstRefusal cs ≡ none → r .answer ≡ Cut → Ended p k m cs q r
 
 pub ended : (p : Params) (k : Disk) (m : Memory) (cs : List Check) (q : Plan) (n : ℕ) (b : List ℕ) → Ended p k m cs q (outcome p (storeDisk p) n k m b (decided (firstRefusal cs) q))
 ended p k m cs q n b = go (decide cs q)
   where
-    limits : (t : Bool) → leb (length (q .stores)) n ≡ t → Passes cs → Ended p k m cs q (outcome p (storeDisk p) n k m b (due q))
+    limits : (t : Bool) → leb (length (q .stores)) n ≡ t → firstRefusal cs ≡ none → Ended p k m cs q (outcome p (storeDisk p) n k m b (due q))
     limits true e c = ended-done c (ap (λ (r : After Disk). r .answer) (all! e)) (ap (λ (r : After Disk). r .drives) (all! e)) (ap (λ (r : After Disk). r .memory) (all! e))
       where
         all! : leb (length (q .stores)) n ≡ true → outcome p (storeDisk p) n k m b (due q) ≡ mkAfter (q .answer) (storeAll (storeDisk p) (q .stores) k) (q .memory) (q .block)

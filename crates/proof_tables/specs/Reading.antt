@@ -1,17 +1,15 @@
 -- The read calls on the lent bytes: they change nothing, are never refused 9, and give what the drives say. Assumes nothing.
 use mathlib.Core.Path.{_≡_, refl, sym, ap, _∙_, subst}
-use mathlib.Core.List.{List, [], _∷_, _++_}
-use mathlib.Core.Bool.{false, cond, not, _&&_}
+use mathlib.Core.List.{List, []}
+use mathlib.Core.Bool.{false, cond}
 use Prim.Native.Nat.{ℕ, _<_}
-use borrow.Author.Tests.{lt-leb, eq-eqb, leb-false}
-use lib.Dec.{leb, eqb, leb·zero}
+use lib.Dec.{eqb, leb·zero}
 use lib.ListN.{length, replicate, length-replicate}
 use Rattle.spec.specs.declared.Answer.{Answer}
 use Rattle.spec.specs.declared.Answer.the-variants.{Filled}
 use Rattle.spec.specs.declared.Params.{Params}
 use Rattle.spec.specs.Answers.{kind, isRefused, isRefusedAs}
 use Rattle.spec.specs.Calls.{Check, firstRefusal, Plan, mkPlan, Verdict, decided, After, mkAfter, limited, outcome}
-use Rattle.spec.specs.Calls.Check.{rule, zones}
 use Rattle.spec.specs.Calls.Verdict.{refused, due}
 use Rattle.spec.specs.Demands.{saidBlock, saidAt}
 use Rattle.spec.specs.Drives.{View, Store, Disk, storeDisk, storeAll}
@@ -21,20 +19,19 @@ use Rattle.spec.specs.History.{mkWorld, seenFilled, seenAt}
 use Rattle.spec.specs.History.Seen.{unwritten, got}
 use Rattle.spec.specs.Lists.{Opt}
 use Rattle.spec.specs.Lists.Opt.{none}
-use Rattle.spec.specs.Memory.{Memory, stateFaults}
-use Rattle.spec.specs.Params.{inRange}
+use Rattle.spec.specs.Memory.{Memory}
 use Rattle.spec.specs.Rank.{Cand, best, candsOf}
-use Rattle.spec.specs.Read.{Found, lookup, foundFaults, decodeFaults, readPiece, readAnswer, readChecks, readVerdict, fillVerdict}
+use Rattle.spec.specs.Read.{Found, lookup, foundFaults, decodeFaults, readPiece, readAnswer, readVerdict, fillVerdict}
 use Rattle.spec.specs.Read.Found.{nowhere, here, away}
 use Rattle.spec.specs.Segments.{segments, candidates, compactTable, addressTable}
 use Rattle.law_basic.specs.Geometry.{Ranged, ranged}
-use Rattle.law_basic.specs.Ranges.{and-both}
 use Rattle.law_basic.specs.Stores.{refused-same}
 use Rattle.law_views.specs.Views.{seen}
 use Rattle.law_calls.specs.Refusals.{state-fine}
-use Rattle.law_drives.specs.Checks.{Clear, clear, Decided, decide, passed}
-use Rattle.law_drives.specs.Checks.Decided.{stops, goes}
-use Rattle.law_drives.specs.Members.{nil-append}
+use Rattle.law_checks.specs.Checks.{Decided, decide}
+use Rattle.law_checks.specs.Checks.{Mild}
+use Rattle.law_checks.specs.Checks.Decided.{stops, goes}
+use Rattle.law_checks.specs.Passed.{readList, fillList, read-goes, read-mild, fill-goes, fill-mild}
 use Rattle.proof_tables.specs.Base.{Base, Finds, finds, found-clear, said-here, said-away, decodes-clear}
 use Rattle.proof_tables.specs.Base.Finds.{finds-none, finds-here, finds-away}
 
@@ -69,8 +66,8 @@ module _ (p : Params) (k : Disk) (m : Memory) (b : Base p k m) where
   pub found : (a : ℕ) → a < p .L → Finds p v gone (winner a) (place a)
   found a h = subst (λ (x : List ℕ). Finds p v gone (winner a) (lookup p gone x a)) (sym (b .addresses-say)) (finds p rg v gone a h)
 
-  found-ok : (a : ℕ) → a < p .L → stateFaults p (m .state) ++ foundFaults p v gone (place a) ≡ []
-  found-ok a h = nil-append (stateFaults p (m .state)) (foundFaults p v gone (place a)) (state-fine p (m .state) (b .state-ok)) (found-clear p rg v gone (winner a) (place a) (found a h))
+  found-ok : (a : ℕ) → a < p .L → foundFaults p v gone (place a) ≡ []
+  found-ok a h = found-clear p rg v gone (winner a) (place a) (found a h)
 
   decode-ok : (a : ℕ) → a < p .L → decodeFaults p v gone (m .compact) (place a) ≡ []
   decode-ok a h = ap (λ (x : List ℕ). decodeFaults p v gone x (place a)) (b .compact-says) ∙ decodes-clear p rg v gone (winner a) (place a) (b .decodes) (found a h)
@@ -78,11 +75,10 @@ module _ (p : Params) (k : Disk) (m : Memory) (b : Base p k m) where
   -- ---- the first read
 
   read-verdict : (a : ℕ) → a < p .L → readVerdict p (lentOk p k m) v m a ≡ due (mkPlan [] (readAnswer p (place a)) m [])
-  unfolding readVerdict readChecks decided
+  unfolding readVerdict decided
   read-verdict a h =
-      let cs = rule 1 (not (inRange p)) ∷ rule 2 (not (lentOk p k m)) ∷ rule 4 (leb (p .L) a) ∷ zones (stateFaults p (m .state) ++ foundFaults p v gone (place a)) ∷ [] in
       ap (λ (x : Opt Answer). decided x (mkPlan [] (readAnswer p (place a)) m []))
-      (passed cs (ap not (b .ranged), (ap not (b .lent), (lt-leb (p .L) a h, (found-ok a h, tt)))))
+      (read-goes p (lentOk p k m) v m a (record { in-range = b .ranged; lent = b .lent; address-low = h; state-fine = b .state-ok; place-fine = found-ok a h }))
 
   pub read-after : (a : ℕ) → a < p .L → callDisk p k m (read a) ≡ mkAfter (readAnswer p (place a)) k m []
   unfolding callDisk callOn verdict storeCount lentBlock
@@ -91,12 +87,18 @@ module _ (p : Params) (k : Disk) (m : Memory) (b : Base p k m) where
   -- ---- the second
 
   fill-verdict : (a : ℕ) (l : List ℕ) → a < p .L → length l ≡ p .B → fillVerdict p (lentOk p k m) v m a l ≡ due (mkPlan [] Filled m (readPiece p v gone (m .compact) (place a) .block))
-  unfolding fillVerdict readChecks decided
+  unfolding fillVerdict decided
   fill-verdict a l h e =
-      let cs = rule 1 (not (inRange p)) ∷ rule 2 (not (lentOk p k m && eqb (length l) (p .B))) ∷ rule 4 (leb (p .L) a)
-      ∷ zones (stateFaults p (m .state) ++ foundFaults p v gone (place a)) ∷ zones (decodeFaults p v gone (m .compact) (place a)) ∷ [] in
       ap (λ (x : Opt Answer). decided x (mkPlan [] Filled m (readPiece p v gone (m .compact) (place a) .block)))
-      (passed cs (ap not (b .ranged), (ap not (and-both (lentOk p k m) (eqb (length l) (p .B)) (b .lent) (eq-eqb (length l) (p .B) e)), (lt-leb (p .L) a h, (found-ok a h, (decode-ok a h, tt))))))
+      (fill-goes p (lentOk p k m) v m a l (record {
+        in-range = b .ranged;
+        lent = b .lent;
+        block-long = e;
+        address-low = h;
+        state-fine = b .state-ok;
+        place-fine = found-ok a h;
+        decodes = decode-ok a h;
+      }))
 
   pub fill-after : (a : ℕ) (l : List ℕ) → a < p .L → length l ≡ p .B → callDisk p k m (fill a l) ≡ mkAfter Filled k m (readPiece p v gone (m .compact) (place a) .block)
   unfolding callDisk callOn verdict storeCount lentBlock
@@ -148,39 +150,38 @@ module _ (p : Params) (k : Disk) (m : Memory) (b : Base p k m) where
       (record { mild = h; same-drives = refl; same-memory = refl })
 
   pub read-idle : (a : ℕ) → Idle (callDisk p k m (read a))
-  unfolding callDisk callOn verdict storeCount lentBlock readVerdict readChecks
+  unfolding callDisk callOn verdict storeCount lentBlock readVerdict
   read-idle a = go (decide cs q)
     where
       cs : List Check
-      cs = rule 1 (not (inRange p)) ∷ rule 2 (not (lentOk p k m)) ∷ rule 4 (leb (p .L) a) ∷ zones (stateFaults p (m .state) ++ foundFaults p v gone (place a)) ∷ []
+      cs = readList p (lentOk p k m) v m a
 
       q : Plan
       q = mkPlan [] (readAnswer p (place a)) m []
 
-      cl : Clear cs
-      cl = (refl, λ x. (refl, λ y. (refl, λ z. (found-ok a (leb-false (p .L) a z), tt))))
+      cl : Mild cs
+      cl = read-mild p (lentOk p k m) v m a (b .state-ok) (found-ok a)
 
       go : Decided cs q (decided (firstRefusal cs) q) → Idle (outcome p (storeDisk p) 0 k m [] (decided (firstRefusal cs) q))
-      go (stops x e w) = idle-refused 0 [] x (decided (firstRefusal cs) q) (clear cs cl x e) w
+      go (stops x e w) = idle-refused 0 [] x (decided (firstRefusal cs) q) (cl x e) w
       go (goes e w) = idle-due 0 [] [] (readAnswer p (place a)) (decided (firstRefusal cs) q) (answer-mild (place a)) w
 
   pub fill-idle : (a : ℕ) (l : List ℕ) → Idle (callDisk p k m (fill a l))
-  unfolding callDisk callOn verdict storeCount lentBlock fillVerdict readChecks
+  unfolding callDisk callOn verdict storeCount lentBlock fillVerdict
   fill-idle a l = go (decide cs q)
     where
       cs : List Check
-      cs = rule 1 (not (inRange p)) ∷ rule 2 (not (lentOk p k m && eqb (length l) (p .B))) ∷ rule 4 (leb (p .L) a)
-          ∷ zones (stateFaults p (m .state) ++ foundFaults p v gone (place a)) ∷ zones (decodeFaults p v gone (m .compact) (place a)) ∷ []
+      cs = fillList p (lentOk p k m) v m a l
 
       q : Plan
       q = mkPlan [] Filled m (readPiece p v gone (m .compact) (place a) .block)
 
-      cl : Clear cs
-      cl = (refl, λ x. (refl, λ y. (refl, λ z. (found-ok a (leb-false (p .L) a z), (decode-ok a (leb-false (p .L) a z), tt)))))
+      cl : Mild cs
+      cl = fill-mild p (lentOk p k m) v m a l (b .state-ok) (found-ok a) (decode-ok a)
 
       mild-filled : isRefusedAs 9 Filled ≡ false
       mild-filled = unfold isRefusedAs isRefused kind in refl
 
       go : Decided cs q (decided (firstRefusal cs) q) → Idle (outcome p (storeDisk p) 0 k m l (decided (firstRefusal cs) q))
-      go (stops x e w) = idle-refused 0 l x (decided (firstRefusal cs) q) (clear cs cl x e) w
+      go (stops x e w) = idle-refused 0 l x (decided (firstRefusal cs) q) (cl x e) w
       go (goes e w) = idle-due 0 l (readPiece p v gone (m .compact) (place a) .block) Filled (decided (firstRefusal cs) q) mild-filled w

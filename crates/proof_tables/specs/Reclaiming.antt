@@ -1,18 +1,16 @@
 -- Reclaim, with no drive missing. Assumes nothing.
-use mathlib.Core.Path.{_≡_, refl, sym, ap, ap₂, _∙_, subst}
-use mathlib.Core.List.{List, [], _∷_, _++_, map}
-use mathlib.Core.Bool.{Bool, true, false, cond, not, _&&_, _||_}
+use mathlib.Core.Path.{_≡_, refl, sym, ap, _∙_, subst}
+use mathlib.Core.List.{List, [], _∷_, map}
+use mathlib.Core.Bool.{Bool, true, false, cond, not}
 use mathlib.Core.Logic.{_⊎_, inl, inr, ⊎-elim}
 use Prim.Native.Nat.{ℕ, _+_, _-_, _^_, _<_}
 use borrow.Author.Tests.{leb-false}
 use native.Mathlib.Omega.{arith}
-use lib.Dec.{eqb}
 use lib.ListN.{length}
 use Rattle.spec.specs.declared.Params.{Params}
 use Rattle.spec.specs.declared.State.{State}
 use Rattle.spec.specs.Answers.{kind, isRefused, isRefusedAs}
 use Rattle.spec.specs.Calls.{Check, firstRefusal, Plan, decided, outcome}
-use Rattle.spec.specs.Calls.Check.{rule, zones}
 use Rattle.spec.specs.Drives.{View, zoneAt, chunkAt, Store, storeView, Disk, storeDisk, storeAll, segmentNumbers, zoneOn, placeSegment, emptyZones, sealedIn, recordIn, recordAt, resetStores}
 use Rattle.spec.specs.Engine.{storeCount, lentBlock, verdict, lentOk, callOn, callDisk}
 use Rattle.spec.specs.Engine.Call.{reclaim}
@@ -20,11 +18,11 @@ use Rattle.spec.specs.History.{step}
 use Rattle.spec.specs.Layout.{dataDrive, Rec}
 use Rattle.spec.specs.Lists.{Opt, below, isMember, keep, isNil, firstOr, isIn}
 use Rattle.spec.specs.Lists.Opt.{none, some}
-use Rattle.spec.specs.Memory.{Memory, mkMemory, stateFaults}
-use Rattle.spec.specs.Params.{between, inRange, capacity, placeOf, placeBlock, placeZone, placeDrive, drivesOf, present}
+use Rattle.spec.specs.Memory.{Memory, mkMemory}
+use Rattle.spec.specs.Params.{between, capacity, placeOf, placeBlock, placeZone, placeDrive, drivesOf, present}
 use Rattle.spec.specs.Parity.{parityRec}
 use Rattle.spec.specs.Rank.{Cand, best, candsOf}
-use Rattle.spec.specs.Reclaim.{placesIn, tableFaults, segmentPlaces, liveIn, flying, Victim, victimOf, fewer, fewest, victim, isNone, victimSegment}
+use Rattle.spec.specs.Reclaim.{placesIn, segmentPlaces, liveIn, flying, Victim, victimOf, fewer, fewest, victim, isNone, victimSegment}
 use Rattle.spec.specs.Reclaim.{victimLive, idle, reclaimChecks, cleared, resetPlan, copyPlan, reclaimVerdict}
 use Rattle.spec.specs.Segments.{Segment, segmentOf, segments, storedRec, recOf, candOf, candidates, addressTable}
 use Rattle.spec.specs.Write.{opens, noSerial, mustWait, scarce, sending}
@@ -33,19 +31,19 @@ use Rattle.law_basic.specs.Mask.{isIn-empty}
 use Rattle.law_basic.specs.Ranges.{Test, test, nil-is}
 use Rattle.law_basic.specs.Ranges.Test.{yes!, no! }
 use Rattle.law_views.specs.Views.{seen}
-use Rattle.law_calls.specs.Refusals.{state-fine}
 use Rattle.law_drives.specs.Best.{fewer-is}
-use Rattle.law_drives.specs.Checks.{Passes, clear}
 use Rattle.law_drives.specs.Lengths.{whole-of}
-use Rattle.law_drives.specs.Members.{In, in-map, map-in, in-flat, in-keep, keep-in, keep-nothing, in-below, below-in, first-in, is-member, member-is, nil-append}
+use Rattle.law_checks.specs.Passed.{strayFaults, ReclaimPassed, reclaim-passed, reclaim-mild}
+use Rattle.law_drives.specs.Settled.{sealed-full}
+use Rattle.law_drives.specs.Members.{In, in-map, map-in, in-flat, in-keep, keep-in, keep-nothing, in-below, below-in, first-in, is-member, member-is}
 use Rattle.law_drives.specs.Range.{capacity-over}
 use Rattle.law_drives.specs.Records.{record-low}
 use Rattle.law_drives.specs.Resets.{reset-roomy, reset-within}
 use Rattle.law_drives.specs.Segs.{remaining-low, CandAt}
-use Rattle.law_drives.specs.Settled.{its-drive, its-offset, chunk-of-it, sealed-full}
+use Rattle.law_drives.specs.Settled.{its-drive, its-offset, chunk-of-it}
 use Rattle.law_drives.specs.Spots.{cand-zone, spot-of, spot-block, spot-zone, spot-drive}
 use Rattle.law_drives.specs.States.{StateOk, state-of}
-use Rattle.law_drives.specs.Tests.{true-false, or-left, or-right, cond-true, cond-false}
+use Rattle.law_drives.specs.Tests.{true-false, cond-true, cond-false}
 use Rattle.law_drives.specs.Tidy.{Tidy}
 use Rattle.proof_tables.specs.Going.{well-run, address-table, compact-table, buffer-long, sent-run}
 use Rattle.proof_tables.specs.Live.{Pointed, places-pointed, holds-place, table-clear}
@@ -194,19 +192,14 @@ module _ (p : Params) (k : Disk) (m : Memory) (u : Run p k m) (we : Well p k m) 
   between-live : (q : ℕ) → Pointed p v q → between 1 (p .S) (placeBlock p q) ≡ true
   between-live q t = between-of 1 (p .S) (placeBlock p q) (let e = pointed-block q t in omega arith) (let e = pointed-block q t in let l = t .spot .offset-low in omega arith)
 
-  reclaim-faults : isNone w ≡ false → stateFaults p st ++ tableFaults p (m .addresses) ++ map (λ q. victimSegment w) (keep (λ q. not (between 1 (p .S) (placeBlock p q))) (victimLive w)) ≡ []
-  reclaim-faults nn =
-      let e1 = state-fine p st (u .base .state-ok) in
-      let e2 = table-clear p rg v (m .addresses) at! in
-      let e3 : keep (λ q. not (between 1 (p .S) (placeBlock p q))) (victimLive w) ≡ [] =
+  live-faults : isNone w ≡ false → strayFaults p w ≡ []
+  live-faults nn =
+      let e : keep (λ q. not (between 1 (p .S) (placeBlock p q))) (victimLive w) ≡ [] =
       keep-nothing (λ q. not (between 1 (p .S) (placeBlock p q))) (victimLive w) (λ q i. ap not (between-live q (live-pointed q nn i))) in
-      nil-append (stateFaults p st ++ tableFaults p (m .addresses)) (map (λ q. victimSegment w) (keep (λ q. not (between 1 (p .S) (placeBlock p q))) (victimLive w)))
-      (nil-append (stateFaults p st) (tableFaults p (m .addresses)) e1 e2) (ap (map (λ q. victimSegment w)) e3)
+      ap (map (λ q. victimSegment w)) e
 
   abbrev checks : List Check
-  checks = rule 1 (not (inRange p)) ∷ rule 2 (not (lentOk p k m)) ∷ rule 3 (not (eqb (st .missing) 0)) ∷ rule 5 (isNone w || (live && isNil (idle p v st w)))
-      ∷ rule 6 (live && noSerial p st) ∷ rule 7 (live && mustWait p st) ∷ rule 8 (live && opens p st && scarce p v 1)
-      ∷ zones (stateFaults p st ++ tableFaults p (m .addresses) ++ map (λ q. victimSegment w) (keep (λ q. not (between 1 (p .S) (placeBlock p q))) (victimLive w))) ∷ []
+  checks = reclaimChecks p (lentOk p k m) v m w
 
   -- with none live the segment is reset
   reset-done : isNone w ≡ false → isNil (victimLive w) ≡ true → (x : Disk) → x ≡ storeAll (storeDisk p) (resetPlan p m (victimSegment w) .stores) k → Run p x (resetPlan p m (victimSegment w) .memory)
@@ -304,26 +297,24 @@ module _ (p : Params) (k : Disk) (m : Memory) (u : Run p k m) (we : Well p k m) 
           (chunkAt v (placeDrive p q) (placeZone p q) (placeBlock p q) .block) .inflight)
       memory-is q = unfold copyPlan in refl
 
-  reclaim-done : Passes checks → (x : Disk) → x ≡ storeAll (storeDisk p) (plan .stores) k → Run p x (plan .memory)
-  reclaim-done (c1, (c2, (c3, (c5, (c6, (c7, (c8, (c9, c)))))))) x ex = go (test (isNil (victimLive w)))
+  reclaim-done : firstRefusal checks ≡ none → (x : Disk) → x ≡ storeAll (storeDisk p) (plan .stores) k → Run p x (plan .memory)
+  reclaim-done o x ex = go (test (isNil (victimLive w)))
     where
-      nn : isNone w ≡ false
-      nn = or-left (isNone w) (live && isNil (idle p v st w)) c5
+      c : ReclaimPassed p (lentOk p k m) v m w
+      c = reclaim-passed p (lentOk p k m) v m w o
 
       go : Test (isNil (victimLive w)) → Run p x (plan .memory)
       go (yes! q) =
           let e : plan ≡ resetPlan p m (victimSegment w) = cond-true (isNil (victimLive w)) (resetPlan p m (victimSegment w)) (copyPlan p v m (firstOr 0 (idle p v st w))) q in
-          subst (λ (y : Plan). Run p x (y .memory)) (sym e) (reset-done nn q x (ex ∙ ap (λ (y : Plan). storeAll (storeDisk p) (y .stores) k) e))
+          subst (λ (y : Plan). Run p x (y .memory)) (sym e) (reset-done (c .taken) q x (ex ∙ ap (λ (y : Plan). storeAll (storeDisk p) (y .stores) k) e))
       go (no! q) =
           let e : plan ≡ copyPlan p v m (firstOr 0 (idle p v st w)) = cond-false (isNil (victimLive w)) (resetPlan p m (victimSegment w)) (copyPlan p v m (firstOr 0 (idle p v st w))) q in
           let lv : live ≡ true = ap not q in
-          let drop! : (b : Bool) → live && b ≡ false → b ≡ false = λ b y. sym (ap (λ (c : Bool). c && b) lv) ∙ y in
           subst (λ (y : Plan). Run p x (y .memory)) (sym e)
-          (copy-done nn lv (drop! (isNil (idle p v st w)) (or-right (isNone w) (live && isNil (idle p v st w)) c5)) (drop! (noSerial p st) c6) (drop! (mustWait p st) c7)
-          (λ z. sym (ap₂ (λ (a b : Bool). a && b && scarce p v 1) lv z) ∙ c8) x (ex ∙ ap (λ (y : Plan). storeAll (storeDisk p) (y .stores) k) e))
+          (copy-done (c .taken) lv (c .some-idle q) (c .serial-left q) (c .no-wait q) (c .room q) x (ex ∙ ap (λ (y : Plan). storeAll (storeDisk p) (y .stores) k) e))
 
   pub well-reclaim : (n : ℕ) → Kept p (callDisk p k m (reclaim n))
-  unfolding callDisk callOn verdict storeCount lentBlock reclaimVerdict reclaimChecks
+  unfolding callDisk callOn verdict storeCount lentBlock reclaimVerdict
   well-reclaim n = go (ended p k m checks plan n [])
     where
       mild-plan : (b : Bool) (g q : ℕ) → isRefusedAs 9 (cond b (resetPlan p m g) (copyPlan p v m q) .answer) ≡ false
@@ -331,22 +322,8 @@ module _ (p : Params) (k : Disk) (m : Memory) (u : Run p k m) (we : Well p k m) 
       mild-plan false g q = unfold copyPlan isRefusedAs isRefused kind in refl
 
       go : Ended p k m checks plan (outcome p (storeDisk p) n k m [] (decided (firstRefusal checks) plan)) → Kept p (outcome p (storeDisk p) n k m [] (decided (firstRefusal checks) plan))
-      go (ended-refused x e f g h) = refused-kept p k m _ x u
-          (clear checks (
-            refl,
-            λ c1. (
-              refl,
-              λ c2. (
-                refl,
-                λ c3. (
-                  refl,
-                  λ c5.
-                      (refl, λ c6. (refl, λ c7. (refl, λ c8. (reclaim-faults (or-left (isNone w) (live && isNil (idle p v st w)) c5), tt)))),
-                ),
-              ),
-            ),
-          )
-          x e) f g h
+      go (ended-refused x e f g h) =
+          refused-kept p k m _ x u (reclaim-mild p (lentOk p k m) v m w (u .base .state-ok) (λ z. table-clear p rg v (m .addresses) at!) (λ z t. live-faults t) x e) f g h
       go (ended-done c f g h) = record {
         never-ninth = ap (isRefusedAs 9) f ∙ mild-plan (isNil (victimLive w)) (victimSegment w) (firstOr 0 (idle p v st w));
         runs-on = λ x. subst (λ (y : Memory). Run p (outcome p (storeDisk p) n k m [] (decided (firstRefusal checks) plan) .drives) y) (sym h) (reclaim-done c _ g);

@@ -1,16 +1,15 @@
 -- A finished restart that names a drive missing. Assumes nothing.
 use mathlib.Core.Path.{_≡_, refl, sym, ap, ap₂, _∙_, subst}
-use mathlib.Core.List.{List, [], _∷_, _++_}
-use mathlib.Core.Bool.{true, false, not, _&&_, _||_}
+use mathlib.Core.List.{List, [], _++_}
+use mathlib.Core.Bool.{true, false, _&&_}
 use mathlib.Core.Logic.{inl}
 use Prim.Native.Nat.{ℕ, _<_}
-use borrow.Author.Tests.{not-false}
 use native.Mathlib.Omega.{arith}
 use lib.Dec.{eqb}
 use lib.ListN.{length}
+use Rattle.spec.specs.Lists.Opt.{none}
 use Rattle.spec.specs.declared.Params.{Params}
-use Rattle.spec.specs.Calls.{Check, Plan}
-use Rattle.spec.specs.Calls.Check.{rule}
+use Rattle.spec.specs.Calls.{Check, Plan, firstRefusal}
 use Rattle.spec.specs.Counts.{lastCount}
 use Rattle.spec.specs.Drives.{View, Store, storeView, Disk, storeDisk, storeAll}
 use Rattle.spec.specs.Engine.{lentOk}
@@ -21,13 +20,13 @@ use Rattle.spec.specs.Restart.{freeZones, dropStores, mendStores, restartStores
 use Rattle.spec.specs.Segments.{Segment, segments, candidates, addressTable, compactTable, greatestStamp, greatestSerial, unsealed}
 use Rattle.law_basic.specs.Geometry.{ranged}
 use Rattle.law_views.specs.Views.{Whole, seen}
-use Rattle.law_drives.specs.Accept.{Accepted, accepted-of, in-groups}
-use Rattle.law_drives.specs.Checks.{Passes}
 use Rattle.law_drives.specs.Lengths.{lengths-of, whole-of, of-lengths}
+use Rattle.law_drives.specs.Accept.{Accepted, in-groups}
+use Rattle.law_checks.specs.Passed.{restart-passed}
 use Rattle.law_drives.specs.Masks.{named-low, named-ones, named-some}
 use Rattle.law_drives.specs.States.{idle-ok}
 use Rattle.law_drives.specs.Tables.{length-addresses, length-compact}
-use Rattle.law_drives.specs.Tests.{or-left, or-right, cond-false}
+use Rattle.law_drives.specs.Tests.{cond-false}
 use Rattle.law_drives.specs.Zones.{Shaped}
 use Rattle.proof_tables.specs.Base.{Decodes, Base}
 use Rattle.proof_tables.specs.Run.{Run}
@@ -96,22 +95,16 @@ pub record Begins (p : Params) (k : Disk) (m : Memory) (d : ℕ) : Type 0 where
   pub sixth! : rewrites p (named d) (segments p (seen p k) (named d)) && eqb (greatestSerial (segments p (seen p k) (named d))) lastCount ≡ false
   pub eighth! : rewrites p (named d) (segments p (seen p k) (named d)) && isNil (freeZones p (segments p (seen p k) (named d))) ≡ false
 
-pub begins : (p : Params) (k : Disk) (m : Memory) (d : ℕ) → Passes (startChecks p k m d) → Begins p k m d
-unfolding restartChecks
-begins p k m d c =
-    let v = seen p k in
-    let gs = segments p v (named d) in
-    let b1 = not (inRange p) in
-    let b2 = not (namesDrive p d) in
-    let q : b1 || b2 ≡ false = c .0 in
-    let (a, rest) = accepted-of p v (named d) (rule 6 (rewrites p (named d) gs && eqb (greatestSerial gs) lastCount) ∷ rule 8 (rewrites p (named d) gs && isNil (freeZones p gs)) ∷ []) (c .1 .1) in
+pub begins : (p : Params) (k : Disk) (m : Memory) (d : ℕ) → firstRefusal (startChecks p k m d) ≡ none → Begins p k m d
+begins p k m d e =
+    let c = restart-passed p (lentOk p k m) (seen p k) d (segments p (seen p k) (named d)) e in
     record {
-      in-range! = not-false (inRange p) (or-left b1 b2 q);
-      names! = not-false (namesDrive p d) (or-right b1 b2 q);
-      lent! = not-false (lentOk p k m) (c .1 .0);
-      accepted! = a;
-      sixth! = rest .0;
-      eighth! = rest .1 .0;
+      in-range! = c .in-range;
+      names! = c .names;
+      lent! = c .lent;
+      accepted! = record { pointers-ok = c .pointers-fine; segments-ok = c .segments-fine };
+      sixth! = c .serial-left;
+      eighth! = c .zone-left;
     }
 
 -- the restart that names a drive stores nothing

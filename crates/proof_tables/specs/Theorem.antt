@@ -1,34 +1,31 @@
 -- What holds between calls holds after a finished restart and after every uncut call, and refusal 9 comes from restarts alone. Assumes nothing.
-use mathlib.Core.Path.{_≡_, refl, sym, ap, _∙_, subst}
-use mathlib.Core.List.{List, [], _∷_}
-use mathlib.Core.Bool.{true, false, not, _||_}
+use mathlib.Core.Path.{_≡_, sym, ap, _∙_, subst}
+use mathlib.Core.List.{List, []}
+use mathlib.Core.Bool.{true, false}
 use mathlib.Core.Logic.{⊎-elim}
 use Prim.Native.Nat.{ℕ, _<_}
-use borrow.Author.Tests.{eq-eqb, ltb-true, eqb-true, not-false}
-use lib.Dec.{ltb, eqb}
+use borrow.Author.Tests.{eq-eqb}
+use Rattle.spec.specs.Lists.Opt.{none}
 use Rattle.spec.specs.declared.Answer.the-variants.{Rebuilt}
 use Rattle.spec.specs.declared.Params.{Params}
 use Rattle.spec.specs.Answers.{isRefusedAs, isCut, finished}
 use Rattle.spec.specs.Calls.{Check, firstRefusal, Plan, mkPlan, decided, After, outcome}
-use Rattle.spec.specs.Calls.Check.{rule}
 use Rattle.spec.specs.Demands.{NotNinth}
 use Rattle.spec.specs.Drives.{Disk, storeDisk, storeAll}
 use Rattle.spec.specs.Engine.{Call, storeCount, lentBlock, verdict, lentOk, callOn, callDisk}
 use Rattle.spec.specs.Engine.Call.{write, land, close, reclaim, read, fill, restart, rebuild}
-use Rattle.spec.specs.Faults.{imageChecks}
 use Rattle.spec.specs.History.{restartOf}
 use Rattle.spec.specs.Memory.{Memory}
-use Rattle.spec.specs.Params.{inRange, named}
-use Rattle.spec.specs.Rebuild.{namesMissing, rebuildChecks, rebuildStores, rebuildVerdict}
+use Rattle.spec.specs.Params.{named}
+use Rattle.spec.specs.Rebuild.{rebuildChecks, rebuildStores, rebuildVerdict}
 use Rattle.spec.specs.Restart.{restartVerdict}
 use Rattle.spec.specs.Segments.{segments}
 use Rattle.law_basic.specs.Geometry.{ranged}
-use Rattle.law_basic.specs.Ranges.{and-left, and-right}
 use Rattle.law_views.specs.Views.{Whole, seen}
 use Rattle.law_calls.specs.Refusals.{refusal-kind, refused-unfinished}
-use Rattle.law_drives.specs.Checks.{clear}
+use Rattle.law_checks.specs.Passed.{rebuild-passed, rebuild-mild}
 use Rattle.law_drives.specs.Masks.{named-some}
-use Rattle.law_drives.specs.Tests.{clash, or-right}
+use Rattle.law_drives.specs.Tests.{clash}
 use Rattle.law_drives.specs.Zones.{Shaped}
 use Rattle.proof_tables.specs.Going.{well-write, well-close}
 use Rattle.proof_tables.specs.Landings.{well-land}
@@ -79,34 +76,25 @@ kept-step p r k = (k .never-ninth, k .runs-on)
 
 -- with none missing no drive can be rebuilt
 well-rebuild : (p : Params) (k : Disk) (m : Memory) (u : Run p k m) → Well p k m → (d n : ℕ) → Kept p (callDisk p k m (rebuild d n))
-unfolding callDisk callOn verdict storeCount lentBlock rebuildVerdict rebuildChecks
+unfolding callDisk callOn verdict storeCount lentBlock rebuildVerdict
 well-rebuild p k m u we d n = go (ended p k m checks plan n [])
   where
     plan : Plan
     plan = mkPlan (rebuildStores p d (segments p (seen p k) (named d))) Rebuilt m []
 
     checks : List Check
-    checks = rule 1 (not (inRange p) || not (namesMissing p (m .state) d)) ∷ rule 2 (not (lentOk p k m)) ∷ imageChecks p (seen p k) (named d) (segments p (seen p k) (named d))
+    checks = rebuildChecks p (lentOk p k m) (seen p k) m d (segments p (seen p k) (named d))
 
-    never! : {X : Type 0} → not (inRange p) || not (namesMissing p (m .state) d) ≡ false → X
-    never! {X} q =
-        let t : namesMissing p (m .state) d ≡ true = not-false (namesMissing p (m .state) d) (or-right (not (inRange p)) (not (namesMissing p (m .state) d)) q) in
-        bad (parts t)
-      where
-        parts : namesMissing p (m .state) d ≡ true → (d < p .N) × (m .state .missing ≡ named d)
-        parts t =
-            unfold namesMissing in (
-              ltb-true d (p .N) (and-left (ltb d (p .N)) (eqb (m .state .missing) (named d)) t),
-              eqb-true (m .state .missing) (named d) (and-right (ltb d (p .N)) (eqb (m .state .missing) (named d)) t),
-            )
+    never! : {X : Type 0} → d < p .N → m .state .missing ≡ named d → X
+    never! hd e = clash (eq-eqb (named d) 0 (sym e ∙ we .none-missing)) (named-some p (ranged p (u .base .ranged)) d hd)
 
-        bad : (d < p .N) × (m .state .missing ≡ named d) → X
-        bad (hd, e) = clash (eq-eqb (named d) 0 (sym e ∙ we .none-missing)) (named-some p (ranged p (u .base .ranged)) d hd)
+    passed! : {X : Type 0} → firstRefusal checks ≡ none → X
+    passed! q = let c = rebuild-passed p (lentOk p k m) (seen p k) m d (segments p (seen p k) (named d)) q in never! (c .drive-low) (c .names)
 
     go : Ended p k m checks plan (outcome p (storeDisk p) n k m [] (decided (firstRefusal checks) plan)) → Kept p (outcome p (storeDisk p) n k m [] (decided (firstRefusal checks) plan))
-    go (ended-refused a e f g h) = refused-kept p k m _ a u (clear checks (refl, λ q. never! q) a e) f g h
-    go (ended-done c f g h) = never! (c .0)
-    go (ended-cut c f) = never! (c .0)
+    go (ended-refused a e f g h) = refused-kept p k m _ a u (rebuild-mild p (lentOk p k m) (seen p k) m d (segments p (seen p k) (named d)) (λ hd q. never! hd q) a e) f g h
+    go (ended-done c f g h) = passed! c
+    go (ended-cut c f) = passed! c
 
 restart-step : (p : Params) (k : Disk) (m : Memory) (u : Run p k m) (d n : ℕ) → isCut (callDisk p k m (restart d n) .answer) ≡ false
     → Run p (callDisk p k m (restart d n) .drives) (callDisk p k m (restart d n) .memory)

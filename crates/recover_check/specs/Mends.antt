@@ -10,6 +10,7 @@ use native.Mathlib.Omega.{arith}
 use lib.Dec.{leb, eqb}
 use lib.ListN.{length}
 use Rattle.law_basic.specs.Ranges.{not-both, pass-none}
+use Rattle.law_drives.specs.Accept.{map-nil}
 use Rattle.law_scans.specs.Scans.{isNil-length}
 use Rattle.recover_headers.specs.Lowest.{low-none, low-named, low-le}
 use Rattle.recover_survey.specs.Tops.{topOf, same-top}
@@ -24,7 +25,6 @@ use Rattle.spec.specs.Lists.Opt.{some}
 use Rattle.spec.specs.Lists.{below, any, consIf, keep, isNil, total, sameList}
 use Rattle.spec.specs.Restart.{isWhole, isRagged, uncountedIn, rewrites}
 use Rattle.spec.specs.Segments.{Segment, segments, counts, counted, uncounted, unsealed}
-use Rattle.law_drives.specs.Accept.{map-nil}
 use Rattle.recover_check.specs.declared.Exam.{Exam}
 use Rattle.recover_check.specs.Faults.{summed, Examined, raggedBy, faulty, faults-list}
 
