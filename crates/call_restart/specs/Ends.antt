@@ -45,6 +45,7 @@ use mathlib.Core.Bool.{Bool, true, false, cond}
 use mathlib.Core.List.{List, [], _++_, map}
 use mathlib.Core.Path.{_≡_, refl, sym, ap, _∙_, subst}
 use native.Mathlib.Decide.{ℕ-discrete}
+use Rattle.law_checks.specs.Passed.{some-none}
 
 -- 01, Restart: what is due, by the missing drives
 unfoldable pub restartDue : Params → View → ℕ → List Segment → List ℕ → Plan

@@ -47,7 +47,7 @@ Clear [] = Unit {0}
 Clear (rule n b ∷ cs) = (eqb n 9 ≡ false) × (b ≡ false → Clear cs)
 Clear (zones zs ∷ cs) = (zs ≡ []) × Clear cs
 
-some-none : {X : Type 0} {a : Answer} → some a ≡ none → X
+pub some-none : {X : Type 0} {a : Answer} → some a ≡ none → X
 some-none e = absurd (let z : _≡_ {A = ℕ} 0 1 = cc in let q : ⊥ = omega arith in q)
 
 passes : (cs : List Check) → firstRefusal cs ≡ none → Passes cs
