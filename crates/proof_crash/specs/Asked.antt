@@ -16,7 +16,7 @@ use Rattle.spec.specs.Drives.{View, Disk, storeDisk}
 use Rattle.spec.specs.Engine.Call.{restart}
 use Rattle.spec.specs.Engine.{storeCount, lentBlock, verdict, lentOk, callOn, callDisk}
 use Rattle.spec.specs.History.{mkWorld, inOrder}
-use Rattle.spec.specs.Lists.{Opt}
+use Rattle.spec.specs.Lists.{Opt, isIn}
 use Rattle.spec.specs.Lists.Opt.{none, some}
 use Rattle.spec.specs.Memory.{Memory}
 use Rattle.spec.specs.Params.{inRange, imageLen, pointersLen, addressesLen, compactLen, inflightLen, named}
@@ -36,7 +36,8 @@ use Rattle.proof_crash_calls.specs.Refusals.{decides, refused-after}
 
 -- ---- a restart is not refused
 
-module _ (p : Params) (h : Ranged p) (g : Ghost) (v : View) (k : OnDrives p h g v) (known : (x : Val) → InV x (g .sent) → (0 < x .stamp) × (x .addr < p .L)) (d : ℕ) (ch : Choice (parOf p h) (g .un) d)
+module _ (p : Params) (h : Ranged p) (g : Ghost) (v : View) (k : OnDrives p h g v) (known : (x : Val) → InV x (g .sent) → (0 < x .stamp) × (x .addr < p .L)) (d : ℕ)
+    (ch : Choice (parOf p h) (g .un) (isIn (named d)))
     (h₁ : inRange p ≡ true) (h₂ : namesDrive p d ≡ true) where
   abbrev gs₀ : List Segment
   gs₀ = segments p v (named d)
@@ -44,11 +45,11 @@ module _ (p : Params) (h : Ranged p) (g : Ghost) (v : View) (k : OnDrives p h g 
   -- too many serials: 6
   sixth : (long : Bool) → long ≡ true → (rewrites p (named d) (segments p v (named d)) && eqb (greatestSerial (segments p v (named d))) lastCount) ≡ true
       → firstRefusal (restartChecks p long v d (segments p v (named d))) ≡ some (Refused 6)
-  sixth long h₃ h₆ = restart-sixth p long v d gs₀ h₁ h₂ h₃ (pointers-fine p h g v k known d ch) (segments-fine p h g v k known d ch) h₆
+  sixth long h₃ h₆ = restart-sixth p long v d gs₀ h₁ h₂ h₃ (pointers-fine p h g v k known (named d) ch) (segments-fine p h g v k known (named d) ch) h₆
 
 -- the call, on bytes
 module _ (p : Params) (h : Ranged p) (k : Disk) (m : Memory) (d n : ℕ) (g : Ghost) (on : OnDrives p h g (seen p k))
-    (known : (x : Val) → InV x (g .sent) → (0 < x .stamp) × (x .addr < p .L)) (ch : Choice (parOf p h) (g .un) d)
+    (known : (x : Val) → InV x (g .sent) → (0 < x .stamp) × (x .addr < p .L)) (ch : Choice (parOf p h) (g .un) (isIn (named d)))
     (ord : inOrder p (mkWorld k m) d ≡ true) (al : isRefusedAs 6 (callDisk p k m (restart d n) .answer) ≡ false) where
   abbrev v₁ : View
   v₁ = seen p k

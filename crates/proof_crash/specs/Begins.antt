@@ -2,8 +2,8 @@
 use mathlib.Core.Path.{_≡_, refl, sym, ap, _∙_, subst}
 use mathlib.Core.List.{List, map}
 use mathlib.Core.Bool.{Bool, true, false, not}
-use mathlib.Core.Logic.{_⊎_, ⊎-elim}
-use Prim.Native.Nat.{ℕ, suc, _≤_}
+use mathlib.Core.Logic.{⊎-elim}
+use Prim.Native.Nat.{ℕ, suc}
 use borrow.Author.Tests.{eq-eqb, ne-eqb}
 use native.Mathlib.Omega.{arith}
 use lib.Dec.{eqb}
@@ -12,13 +12,11 @@ use Rattle.spec.specs.declared.Params.{Params}
 use Rattle.spec.specs.Drives.{View}
 use Rattle.spec.specs.History.{Send, forget}
 use Rattle.spec.specs.Memory.{idleState}
-use Rattle.spec.specs.Params.{noDrive, named}
 use Rattle.spec.specs.Restart.{openOf, nextOf, restartMemory}
 use Rattle.spec.specs.Segments.{Segment, segments, candidates, addressTable, greatestStamp, greatestSerial, unsealed}
 use Rattle.law_basic.specs.Geometry.{Ranged}
 use Rattle.law_drives.specs.Tests.{clash}
-use Rattle.proof_crash_machine.specs.Example.{reached}
-use Rattle.proof_crash_machine.specs.Facts.{Ghost, InV}
+use Rattle.proof_crash_machine.specs.Facts.{Ghost, InV, None}
 use Rattle.proof_crash_machine.specs.Finish.{upTo, upTo-le, finishing}
 use Rattle.proof_crash_machine.specs.History.{Mode}
 use Rattle.proof_crash_machine.specs.History.Mode.{run}
@@ -27,8 +25,8 @@ use Rattle.proof_crash_machine.specs.Memory2.{restMem}
 use Rattle.proof_crash_machine.specs.Order.{Track}
 use Rattle.proof_crash_machine.specs.Val.{Val}
 use Rattle.proof_crash_items.specs.Items.{itemsIn}
-use Rattle.proof_crash_items.specs.Named.{none-named}
 use Rattle.proof_crash_items.specs.Segs.{OnDrives}
+use Rattle.proof_crash_items.specs.Ranges.{parOf}
 use Rattle.proof_crash_restarts.specs.Done.{stampTop, serialTop, readOn, RestartDone}
 use Rattle.proof_crash_restarts.specs.Ends.{Opened}
 use Rattle.proof_crash_calls.specs.Held.{TableOk}
@@ -43,8 +41,7 @@ use Rattle.proof_crash_calls.specs.Sends.{length-forget, forget-waits}
 finds : (p : Params) (h : Ranged p) (g : Ghost) (u : View) (b : Bool) (z n : ℕ) → Opened p h g u b z n → Finds p u b z n
 finds p h g u b z n o =
     record {
-      is = subst (λ (k : ℕ). ((b ≡ true) × (openOf (unsealed (segments p u k)) ≡ suc z) × (nextOf p (unsealed (segments p u k)) ≡ n))
-          ⊎ ((b ≡ false) × (openOf (unsealed (segments p u k)) ≡ 0))) none-named (o .is);
+      is = o .is;
       less = o .less;
       full = o .full;
     }
@@ -58,10 +55,10 @@ module _ (p : Params) (h : Ranged p) (v : View) (ss : List Send) (n : ℕ) (g : 
   fewer? x i = subst (λ (l : List Val). InV x l) (D .same .sent) (upTo-le (stampTop p u) (D .g′ .sent) x i .0)
 
   top-is : stampTop p u ≡ greatestStamp (candidates p 0 (segments p u 0))
-  top-is = unfold stampTop in ap (λ (k : ℕ). greatestStamp (candidates p k (segments p u k))) none-named
+  top-is = unfold stampTop in refl
 
   serial-top-is : serialTop p u ≡ greatestSerial (segments p u 0)
-  serial-top-is = unfold serialTop in ap (λ (k : ℕ). greatestSerial (segments p u k)) none-named
+  serial-top-is = unfold serialTop in refl
 
   abbrev t : ℕ
   t = greatestStamp (candidates p 0 (segments p u 0))
@@ -84,7 +81,7 @@ module _ (p : Params) (h : Ranged p) (v : View) (ss : List Send) (n : ℕ) (g : 
   f : Finds p u (D .b) (D .z) (D .n)
   f = finds p h (D .g′) u (D .b) (D .z) (D .n) (D .opened)
 
-  none? : p .N ≤ doneGhost .un
+  none? : None (parOf p h) (doneGhost .un)
   none? = D .set .none
 
   on : OnDrives p h doneGhost u
@@ -106,9 +103,9 @@ module _ (p : Params) (h : Ranged p) (v : View) (ss : List Send) (n : ℕ) (g : 
   table? : TableOk p h doneGhost (itemsIn p u) (addressTable p (candidates p 0 (segments p u 0)))
   table? = table-said p h doneGhost u on none? (addressTable p (candidates p 0 (segments p u 0))) refl a false (run M) (reached₁ .inv)
 
-  begins₀ : (x : Live p h u (restartMemory p u 0 fl .state) (restartMemory p u 0 fl .inflight) (restartMemory p u 0 fl .addresses) (map forget ss) (length ss)) × (x .g ≡ doneGhost)
+  pub begins : (x : Live p h u (restartMemory p u 0 fl .state) (restartMemory p u 0 fl .inflight) (restartMemory p u 0 fl .addresses) (map forget ss) (length ss)) × (x .g ≡ doneGhost)
   unfolding restartMemory
-  begins₀ = (
+  begins = (
     record {
       g = doneGhost;
       a = a;
@@ -122,12 +119,3 @@ module _ (p : Params) (h : Ranged p) (v : View) (ss : List Send) (n : ℕ) (g : 
     },
     refl,
   )
-
-  pub begins :
-      (x : Live p h u (restartMemory p u (named noDrive) fl .state) (restartMemory p u (named noDrive) fl .inflight)
-      (restartMemory p u (named noDrive) fl .addresses) (map forget ss) (length ss))
-      × (x .g ≡ doneGhost)
-  begins =
-      subst (λ (k : ℕ). (x : Live p h u (restartMemory p u k fl .state) (restartMemory p u k fl .inflight) (restartMemory p u k fl .addresses)
-      (map forget ss) (length ss))
-      × (x .g ≡ doneGhost)) (sym none-named) begins₀

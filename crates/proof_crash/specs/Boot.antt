@@ -2,7 +2,7 @@
 use mathlib.Core.Path.{_≡_, refl, sym, ap, _∙_, subst}
 use mathlib.Core.List.{List, map}
 use mathlib.Core.Bool.{false}
-use Prim.Native.Nat.{ℕ, _<_}
+use Prim.Native.Nat.{ℕ, _<_, _≤_}
 use lib.ListN.{length}
 use Rattle.spec.specs.declared.Params.{Params}
 use Rattle.spec.specs.declared.Report.{Report}
@@ -23,11 +23,13 @@ use Rattle.law_views.specs.Views.{seen}
 use Rattle.law_drives.specs.Tests.{clash}
 use Rattle.proof_crash_machine.specs.Facts.{InV}
 use Rattle.proof_crash_machine.specs.History.{State as m-State, Claim}
-use Rattle.proof_crash_machine.specs.Reset.{same}
 use Rattle.proof_crash_machine.specs.Val.{Val}
+use Rattle.proof_crash_machine.specs.Mask.{Mask, count}
 use Rattle.proof_crash_items.specs.Cands.{reads}
 use Rattle.proof_crash_items.specs.Items.{itemsIn}
 use Rattle.proof_crash_items.specs.Refuse.{not-refused}
+use Rattle.proof_crash_items.specs.Ranges.{parities, parOf}
+use Rattle.proof_crash_items.specs.Named.{never-beyond}
 use Rattle.proof_crash_restarts.specs.Link.{Linked}
 use Rattle.proof_crash_calls.specs.Go.{mst}
 use Rattle.proof_crash_calls.specs.Readings.{Shows, read-ok, same-reads}
@@ -53,24 +55,27 @@ module _ (p : Params) (h : Ranged p) (s : Hist) (n : ℕ) (x : Stands p h s n) w
   stands-known y i = x .reached .inv .ones y i
 
   -- it finished in world w, and reads K
-  module _ (w : World) (K : ℕ → ℕ) (cl : Claim (mst (x .g) (itemsIn p (seen p (s .world .disk))) (x .a) (x .c) (x .m)) K) (sh : (i : ℕ) → i < p .L → Shows p (x .g .sent) K i (seenAt p w i)) where
+  module _ (w : World) (m : Mask) (few : count (p .N) m ≤ parities p) (K : ℕ → ℕ)
+      (cl : Claim (parOf p h) (mst (x .g) (itemsIn p (seen p (s .world .disk))) (x .a) (x .c) (x .m)) m K) (sh : (i : ℕ) → i < p .L → Shows p (x .g .sent) K i (seenAt p w i)) where
     pub boot-reads : (i : ℕ) → i < p .L → ReadOk (map forget (s .sends)) i (seenAt p w i)
-    boot-reads i l = read-ok p h σ (x .T) K (map forget (s .sends)) (x .reached .inv) (x .reached .tracked) cl (forget-logged p (x .a) (x .T) (s .sends) (x .reached .logged)) i (seenAt p w i) (sh i l)
+    boot-reads i l = read-ok p h σ (x .T) m K (map forget (s .sends)) (x .reached .inv) (x .reached .tracked) cl (forget-logged p (x .a) (x .T) (s .sends) (x .reached .logged)) i (seenAt p w i)
+        (sh i l)
 
     pub boot-same : (us : ℕ) (o : Opt Mark) → SameAs p (s .mark) (hist w (map forget (s .sends)) us o)
     boot-same us o = go (s .mark) (x .mark)
       where
         go : (q : Opt Mark) → MarkOk p (x .g) n q → SameAs p q (hist w (map forget (s .sends)) us o)
         go none k = tt
-        go (some q) k = λ e i l. same-reads p h σ K (x .reached .inv) cl (x .reached .still (sym (length-forget (s .sends)) ∙ e ∙ k .0)) (q .world) (k .1) i l (seenAt p w i) (sh i l)
+        go (some q) k = λ e i l. same-reads p h σ m K (x .reached .inv) cl (never-beyond p h (x .g .said) m few) (x .reached .still (sym (length-forget (s .sends)) ∙ e ∙ k .0)) (q .world)
+            (k .1) i l (seenAt p w i) (sh i l)
 
     -- all of it
-    pub boot-done : (d c : ℕ) (q : Report) (k : Disk) (m : Memory) (b : List ℕ) → w ≡ mkWorld k m
-        → Holds p h (hist w (map forget (s .sends)) (named d) (some (record { world = w; sentThen = length (map forget (s .sends)) }))) → Booted p h s (restart d c) (mkAfter (Restarted q) k m b)
-    boot-done d c q k m b e y =
+    pub boot-done : (d c : ℕ) (q : Report) (k : Disk) (me : Memory) (b : List ℕ) → w ≡ mkWorld k me
+        → Holds p h (hist w (map forget (s .sends)) (named d) (some (record { world = w; sentThen = length (map forget (s .sends)) }))) → Booted p h s (restart d c) (mkAfter (Restarted q) k me b)
+    boot-done d c q k me b e y =
         subst (λ (z : Hist). RestartOk p s (Restarted q) z × Holds p h z)
         (ap (λ (u : World). hist u (map forget (s .sends)) (named d) (some (record { world = u; sentThen = length (map forget (s .sends)) }))) e
-        ∙ sym (leaves-finished s d c q k m b)) (
+        ∙ sym (leaves-finished s d c q k me b)) (
           record {
             not-refused = unfold isRefused kind in refl;
             reads = λ f i l. boot-reads i l;

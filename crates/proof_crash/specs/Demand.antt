@@ -27,17 +27,16 @@ use Rattle.law_basic.specs.Ranges.{Test, test, and-left, and-right, and-both}
 use Rattle.law_basic.specs.Ranges.Test.{yes!, no! }
 use Rattle.law_views.specs.Views.{Whole, seen}
 use Rattle.law_drives.specs.Tests.{cond-true, cond-false, clash}
-use Rattle.proof_crash_machine.specs.Example.{reached}
+use Rattle.law_checks.specs.Passed.{restart-passed}
+use Rattle.law_basic.specs.Mask.{isIn-empty}
 use Rattle.proof_crash_machine.specs.History.Mode.{off}
 use Rattle.proof_crash_machine.specs.History.{Inv, start}
-use Rattle.proof_crash_machine.specs.Order.{Tracked, tracked, noTrack}
-use Rattle.proof_crash_machine.specs.Reset.{same}
-use Rattle.proof_crash_machine.specs.Rewrite.{st}
+use Rattle.proof_crash_machine.specs.Order.{Tracked, noTrack}
 use Rattle.proof_crash_items.specs.Items.{itemsIn}
 use Rattle.proof_crash_items.specs.Ranges.{parOf}
 use Rattle.proof_crash_items.specs.RestMem.{names-cases}
 use Rattle.proof_crash_items.specs.Start.{empty-whole, empty-items, start-on}
-use Rattle.law_checks.specs.Passed.{restart-passed}
+use Rattle.proof_crash_items.specs.Named.{named-out}
 use Rattle.proof_crash_calls.specs.Go.{mst, Go, go-none, go-view, go-start}
 use Rattle.proof_crash_calls.specs.Others.{refused-any}
 use Rattle.proof_crash_calls.specs.Refusals.{decides, boot-step}
@@ -50,9 +49,6 @@ use Rattle.proof_crash.specs.Stand.Holds.{rests}
 use Rattle.proof_crash.specs.Swap.{swapped-none, swapped-ok, swapped-whole, swapped-lent}
 
 module _ (p : Params) (h : Ranged p) (s : Hist) (H : Holds p h s) where
-  abbrev w : World
-  w = s .world
-
   none-claimed : (e : Event) → restartIn p (s .world) e ≡ none → ClaimOf p s e (restartIn p (s .world) e)
   none-claimed e q = subst (ClaimOf p s e) (sym q) tt
 
@@ -63,7 +59,7 @@ module _ (p : Params) (h : Ranged p) (s : Hist) (H : Holds p h s) where
       → namesAll (s .untrusted) (some d) ≡ true
       → Booted p h s (restart d c) (callDisk p k m (restart d c))
   booted k m d c wk same out ord al us = ⊎-elim
-      (λ (l : d < p .N). boot-missing p h s (N .0) (N .1) k wk m d c l (λ e y b n. same e y n) us ord al)
+      (λ (l : d < p .N). boot-missing p h s (N .0) (N .1) k wk m d c l (λ e y b n. same e y (named-out p h d e b n)) us ord al)
       (λ (e : d ≡ noDrive). none-lost e (out (far e)) ord al us)
       (names-cases p d nm)
     where
@@ -252,7 +248,7 @@ empty-holds p h k e = rests 0 (record {
     marked = omega arith;
     still = λ q. refl;
   };
-  trust = inl (refl, (unfold start in omega arith));
+  trust = λ d l. unfold start in sym (isIn-empty d);
   mark = tt;
 }) (inl refl)
   where

@@ -1,17 +1,17 @@
 -- A restart with none missing: wherever it is cut, and where it ends. Assumes nothing.
 use mathlib.Core.Path.{_≡_, refl, sym, ap, _∙_, subst}
 use mathlib.Core.List.{List, [], map}
-use mathlib.Core.Bool.{Bool, true, false, _&&_, _||_}
+use mathlib.Core.Bool.{Bool, true, false, _&&_}
 use mathlib.Core.Logic.{inl, inr, ⊎-elim}
-use Prim.Native.Nat.{ℕ, _≤_, _<_}
-use borrow.Author.Tests.{eqb-true}
+use Prim.Native.Nat.{ℕ, _≤_, _<_, _^_}
 use native.Mathlib.Omega.{arith}
 use lib.Dec.{leb, eqb}
 use lib.ListN.{length, take}
+use lib.Count.{ones}
 use Rattle.spec.specs.declared.Params.{Params}
 use Rattle.spec.specs.declared.Answer.the-variants.{Cut, Restarted}
 use Rattle.spec.specs.Answers.{isRefusedAs}
-use Rattle.spec.specs.Calls.{Plan, mkAfter, cutMemory, limited}
+use Rattle.spec.specs.Calls.{mkAfter, cutMemory, limited, After, mkPlan}
 use Rattle.spec.specs.Counts.{lastCount}
 use Rattle.spec.specs.Drives.{View, Store, storeView, Disk, storeDisk, storeAll}
 use Rattle.spec.specs.Engine.Call.{restart}
@@ -23,20 +23,18 @@ use Rattle.spec.specs.Memory.{Memory}
 use Rattle.spec.specs.Params.{inRange, noDrive, named}
 use Rattle.spec.specs.Restart.{restartStores, restartMemory, reportOf, namesDrive, rewrites, restartPlan}
 use Rattle.spec.specs.Segments.{Segment, segments, greatestSerial}
+use Rattle.spec.specs.Lists.{isIn}
 use Rattle.law_basic.specs.Geometry.{Ranged}
-use Rattle.law_basic.specs.Ranges.{Test, test}
-use Rattle.law_basic.specs.Ranges.Test.{yes!, no! }
 use Rattle.law_views.specs.Views.{Whole, seen}
-use Rattle.proof_crash_machine.specs.Example.{reached}
-use Rattle.proof_crash_machine.specs.Facts.{Ghost, InV, Choice, Counted}
+use Rattle.proof_crash_machine.specs.Facts.{Ghost, InV, Choice, Counted, None}
 use Rattle.proof_crash_machine.specs.Finish.{Reads, upTo, in-upTo}
 use Rattle.proof_crash_machine.specs.History.Mode.{off}
-use Rattle.proof_crash_machine.specs.Reset.{same}
 use Rattle.proof_crash_machine.specs.Val.{Val}
+use Rattle.proof_crash_machine.specs.Mask.{Mask}
 use Rattle.proof_crash_items.specs.Items.{itemsIn}
-use Rattle.proof_crash_items.specs.Named.{none-named}
+use Rattle.proof_crash_items.specs.Named.{none-named, zero-few}
 use Rattle.proof_crash_items.specs.Ranges.{parOf}
-use Rattle.proof_crash_items.specs.RestMem.{restart-tabled, restart-lent}
+use Rattle.proof_crash_items.specs.RestMem.{restart-tabled, restart-lent, named-lt, named-ones}
 use Rattle.proof_crash_items.specs.Seen.{seen-stores, seen-cut, whole-all, whole-cut}
 use Rattle.proof_crash_items.specs.Segs.{OnDrives, trusted}
 use Rattle.proof_crash_items.specs.Sound.{AllSound}
@@ -45,15 +43,15 @@ use Rattle.proof_crash_restarts.specs.Ends.{none-choice, ends-reads, ends-stamp
 use Rattle.proof_crash_restarts.specs.Healthy.{healthy, healthy-sound}
 use Rattle.proof_crash_restarts.specs.Link.{linked-on, CutTo}
 use Rattle.proof_crash_restarts.specs.Runs.{Always}
-use Rattle.proof_crash.specs.Stand.Holds.{goes, rests}
 use Rattle.proof_crash_calls.specs.Live.{Reached, Live}
 use Rattle.proof_crash_calls.specs.Readings.{ShowsBlock, Shows, MarkShows, shows-more}
 use Rattle.proof_crash_calls.specs.Resumed.{reached-to, reached-forget, shows-read}
 use Rattle.proof_crash_calls.specs.Sends.{length-forget}
+use Rattle.proof_crash.specs.Stand.Holds.{goes, rests}
 use Rattle.proof_crash.specs.Asked.{parts, boot-six, boot-is, boot-lent}
 use Rattle.proof_crash.specs.Begins.{doneGhost, begins}
 use Rattle.proof_crash.specs.Boot.{Booted, stands-linked, stands-known, boot-done, boot-cut}
-use Rattle.proof_crash.specs.Stand.{Stands, Holds, mark-moves, named-not, hist}
+use Rattle.proof_crash.specs.Stand.{Stands, Holds, mark-moves, hist, none-trust, named-choice, none-choice-none}
 
 module _ (p : Params) (h : Ranged p) (s : Hist) (n : ℕ) (x : Stands p h s n) where
   abbrev v₀ : View
@@ -66,28 +64,23 @@ module _ (p : Params) (h : Ranged p) (s : Hist) (n : ℕ) (x : Stands p h s n) w
     k₀ = s .world .disk
 
     abbrev gs : List Segment
-    gs = segments p (seen p (s .world .disk)) (named noDrive)
+    gs = segments p (seen p (s .world .disk)) 0
 
-    zero? : s .untrusted ≡ 0
-    zero? = go (test (eqb (s .untrusted) 0)) (unfold namesAll in us)
-      where
-        go : Test (eqb (s .untrusted) 0) → (eqb (s .untrusted) 0 || eqb (s .untrusted) (named noDrive)) ≡ true → s .untrusted ≡ 0
-        go (yes! f) q = eqb-true (s .untrusted) 0 f
-        go (no! f) q = eqb-true (s .untrusted) (named noDrive) (sym (ap (λ (b : Bool). b || eqb (s .untrusted) (named noDrive)) f) ∙ q) ∙ none-named
+    ch : Choice (parOf p h) (x .g .un) (isIn (named noDrive))
+    ch = named-choice p h (s .untrusted) noDrive (x .g .un) (x .trust) us
 
-    none? : p .N ≤ x .g .un
-    none? =
-        ⊎-elim (λ (q : (s .untrusted ≡ 0) × (p .N ≤ x .g .un)). q .1)
-        (λ (q : (x .g .un < p .N) × (s .untrusted ≡ named (x .g .un))). absurd (named-not p h (x .g .un) (q .0) (sym (q .1) ∙ zero?))) (x .trust)
+    none? : None (parOf p h) (x .g .un)
+    none? = none-choice-none p h (x .g .un) ch
 
     on₀ : OnDrives p h (x .g) (seen p (s .world .disk))
     on₀ = linked-on p h v₀ (x .g) (x .a) (x .c) (x .m) (stands-linked p h s n x)
 
     abbrev ss : List Store
-    ss = restartStores p (named noDrive) (segments p (seen p (s .world .disk)) (named noDrive))
+    ss = restartStores p 0 (segments p (seen p (s .world .disk)) 0)
 
-    six : (rewrites p (named noDrive) gs && eqb (greatestSerial gs) lastCount) ≡ false
-    six = boot-six p h k₀ mem noDrive c (x .g) on₀ (stands-known p h s n x) (inl none?) ord al
+    six : (rewrites p 0 gs && eqb (greatestSerial gs) lastCount) ≡ false
+    six = subst (λ (i : ℕ). (rewrites p i (segments p v₀ i) && eqb (greatestSerial (segments p v₀ i)) lastCount) ≡ false) none-named
+        (boot-six p h k₀ mem noDrive c (x .g) on₀ (stands-known p h s n x) ch ord al)
 
     both : Always (CutTo p h (x .g) (x .a) (x .c)) v₀ ss × RestartDone p h (x .g) (x .a) (x .c) (storeAll storeView ss v₀)
     both = healthy p h v₀ (x .g) (x .a) (x .c) (x .m) (stands-linked p h s n x) none? six
@@ -96,10 +89,16 @@ module _ (p : Params) (h : Ranged p) (s : Hist) (n : ℕ) (x : Stands p h s n) w
     right? = healthy-sound p h v₀ (x .g) (x .a) (x .c) (x .m) (stands-linked p h s n x) none? six
 
     in-range : inRange p ≡ true
-    in-range = parts p h k₀ mem noDrive c (x .g) on₀ (stands-known p h s n x) (inl none?) ord al .0
+    in-range = parts p h k₀ mem noDrive c (x .g) on₀ (stands-known p h s n x) ch ord al .0
 
     nm : namesDrive p noDrive ≡ true
-    nm = parts p h k₀ mem noDrive c (x .g) on₀ (stands-known p h s n x) (inl none?) ord al .1
+    nm = parts p h k₀ mem noDrive c (x .g) on₀ (stands-known p h s n x) ch ord al .1
+
+    mask-lt : 0 < 2 ^ p .N
+    mask-lt = subst (λ (i : ℕ). i < 2 ^ p .N) none-named (named-lt p h noDrive nm)
+
+    one-bit : ones 0 ≤ 1
+    one-bit = subst (λ (i : ℕ). ones i ≤ 1) none-named (named-ones noDrive)
 
     -- cut
     cuts : (k : Disk) → Whole p k → (b : List ℕ) → CutTo p h (x .g) (x .a) (x .c) (seen p k) → Booted p h s (restart noDrive c) (mkAfter Cut k (cutMemory p mem) b)
@@ -112,7 +111,7 @@ module _ (p : Params) (h : Ranged p) (s : Hist) (n : ℕ) (x : Stands p h s n) w
       whole = wk;
       reached = reached-to p h v₀ (map forget (s .sends)) n (x .g) (x .a) (x .c) (x .m) (x .T) forgot (seen p k) (C .g′) (x .c) off n (C .linked .inv) (C .linked .shape) (C .linked .bytes)
           (λ y i. subst (λ (l : List Val). InV y l) (C .same .sent) i) (forgot .marked) (forgot .still);
-      trust = inl (none-named, omega (arith, C .same .un, none?));
+      trust = λ d l. ap (λ (y : Mask). y d) (C .same .un) ∙ none-trust p h (named noDrive) (x .g .un) none-named none? d l;
       mark = mark-moves p (x .g) (C .g′) n (s .mark) (λ y i. subst (λ (l : List Val). InV y l) (sym (C .same .sent)) i) (C .same .last) (x .mark);
     }) (inl (unfold cutMemory in refl)))
       where
@@ -125,23 +124,20 @@ module _ (p : Params) (h : Ranged p) (s : Hist) (n : ℕ) (x : Stands p h s n) w
       u = seen p k
 
       abbrev m′ : Memory
-      m′ = restartMemory p (seen p k) (named noDrive) (mem .inflight)
+      m′ = restartMemory p (seen p k) 0 (mem .inflight)
 
       abbrev K : ℕ → ℕ
       K = readOn p h (D .g′) (seen p k) (D .set)
-
-      nc : Choice (parOf p h) (D .g′ .un) noDrive
-      nc = none-choice p h (D .g′) u (D .set)
 
       known′ : (y : Val) → InV y (D .g′ .sent) → (0 < y .stamp) × (y .addr < p .L)
       known′ y i = (stands-known p h s n x) y (subst (λ (l : List Val). InV y l) (D .same .sent) i)
 
       shows₀ : (i : ℕ) → i < p .L → Shows p (D .g′ .sent) K i (seenAt p (mkWorld k m′) i)
       shows₀ i l =
-          unfold readOn in shows-read p h (D .g′) k wk (D .set .on) known′ noDrive (none-choice p h (D .g′) u (D .set)) m′
-          (restart-tabled p h (D .g′) u (D .set .on) noDrive (none-choice p h (D .g′) u (D .set)) nm (mem .inflight)) in-range
-          (restart-lent p h (D .g′) u (D .set .on) noDrive (none-choice p h (D .g′) u (D .set)) nm (mem .inflight) k wk
-          (boot-lent p h k₀ mem noDrive c (x .g) on₀ (stands-known p h s n x) (inl none?) ord al)) i l
+          unfold readOn in shows-read p h (D .g′) k wk (D .set .on) known′ 0 (none-choice p h (D .g′) u (D .set)) m′
+          (restart-tabled p h (D .g′) u (D .set .on) 0 (none-choice p h (D .g′) u (D .set)) mask-lt one-bit (mem .inflight)) in-range
+          (restart-lent p h (D .g′) u (D .set .on) 0 (none-choice p h (D .g′) u (D .set)) mask-lt one-bit (mem .inflight) k wk
+          (boot-lent p h k₀ mem noDrive c (x .g) on₀ (stands-known p h s n x) ch ord al)) i l
 
       shows : (i : ℕ) → i < p .L → Shows p (x .g .sent) K i (seenAt p (mkWorld k m′) i)
       shows i l = shows-more p (D .g′ .sent) (x .g .sent) K K i (seenAt p (mkWorld k m′) i) (λ y j. subst (λ (l : List Val). InV y l) (D .same .sent) j) refl (shows₀ i l)
@@ -181,23 +177,32 @@ module _ (p : Params) (h : Ranged p) (s : Hist) (n : ℕ) (x : Stands p h s n) w
       runs-on = goes (length (s .sends)) (record { healthy = record { whole = wk; live = live .0 }; trusted = none-named })
           (length-forget (s .sends), subst (λ (g : Ghost). MarkShows p g (mkWorld k m′)) (sym (live .1)) shows₁)
 
-      pub finishes : (b : List ℕ) → Booted p h s (restart noDrive c) (mkAfter (Restarted (reportOf p (named noDrive) gs)) k m′ b)
-      finishes b = boot-done p h s n x (mkWorld k m′) K (record { acked = D .acked; sent = D .sent; same = D .still }) shows noDrive c (reportOf p (named noDrive) gs) k m′ b refl runs-on
+      pub finishes : (b : List ℕ) → Booted p h s (restart noDrive c) (mkAfter (Restarted (reportOf p 0 gs)) k m′ b)
+      finishes b = boot-done p h s n x (mkWorld k m′) (isIn 0) (zero-few p h) K (record { acked = D .acked; sent = D .sent; floor = D .floor; same = λ q w. D .still q }) shows
+          noDrive c (reportOf p 0 gs) k m′ b refl runs-on
+
+    -- all of it, by any number that stands for the mask without a drive
+    abbrev after : ℕ → Bool → After Disk
+    after i b = limited b p (storeDisk p) c k₀ mem []
+        (mkPlan (restartStores p i (segments p v₀ i)) (Restarted (reportOf p i (segments p v₀ i)))
+        (restartMemory p (storeAll storeView (restartStores p i (segments p v₀ i)) v₀) i (mem .inflight)) [])
+
+    booted : (b : Bool) → Booted p h s (restart noDrive c) (after 0 b)
+    booted true =
+        unfold limited in subst (λ (w : View). Booted p h s (restart noDrive c)
+        (mkAfter (Restarted (reportOf p 0 gs)) (storeAll (storeDisk p) ss k₀) (restartMemory p w 0 (mem .inflight)) []))
+        (seen-stores p h k₀ (x .whole) ss right?)
+        (finishes (storeAll (storeDisk p) ss k₀) (whole-all p h k₀ (x .whole) ss right?)
+        (subst (RestartDone p h (x .g) (x .a) (x .c)) (sym (seen-stores p h k₀ (x .whole) ss right?)) (both .1)) [])
+    booted false =
+        unfold limited in cuts (storeAll (storeDisk p) (take c ss) k₀) (whole-cut p h k₀ (x .whole) ss right? c) []
+        (subst (CutTo p h (x .g) (x .a) (x .c)) (sym (seen-cut p h k₀ (x .whole) ss right? c)) (both .0 c))
 
     pub boot-healthy : Booted p h s (restart noDrive c) (callDisk p (s .world .disk) mem (restart noDrive c))
-    boot-healthy = subst (Booted p h s (restart noDrive c)) (sym (boot-is p h k₀ mem noDrive c (x .g) on₀ (stands-known p h s n x) (inl none?) ord al)) (go (leb (length ss) c))
+    boot-healthy = subst (Booted p h s (restart noDrive c)) (sym (boot-is p h k₀ mem noDrive c (x .g) on₀ (stands-known p h s n x) ch ord al ∙ is))
+        (subst (λ (i : ℕ). Booted p h s (restart noDrive c) (after i (leb (length (restartStores p i (segments p v₀ i))) c))) (sym none-named) (booted (leb (length ss) c)))
       where
-        q : Plan
-        q = restartPlan p v₀ noDrive gs (mem .inflight)
-
-        go : (b : Bool) → Booted p h s (restart noDrive c) (limited b p (storeDisk p) c k₀ mem [] (restartPlan p v₀ noDrive gs (mem .inflight)))
-        go true =
-            unfold limited restartPlan in subst (λ (w : View). Booted p h s (restart noDrive c)
-            (mkAfter (Restarted (reportOf p (named noDrive) gs)) (storeAll (storeDisk p) ss k₀)
-            (restartMemory p w (named noDrive) (mem .inflight)) []))
-            (seen-stores p h k₀ (x .whole) ss right?)
-            (finishes (storeAll (storeDisk p) ss k₀) (whole-all p h k₀ (x .whole) ss right?)
-            (subst (RestartDone p h (x .g) (x .a) (x .c)) (sym (seen-stores p h k₀ (x .whole) ss right?)) (both .1)) [])
-        go false =
-            unfold limited restartPlan in cuts (storeAll (storeDisk p) (take c ss) k₀) (whole-cut p h k₀ (x .whole) ss right? c) []
-            (subst (CutTo p h (x .g) (x .a) (x .c)) (sym (seen-cut p h k₀ (x .whole) ss right? c)) (both .0 c))
+        is : limited (leb (length (restartStores p (named noDrive) (segments p v₀ (named noDrive)))) c) p (storeDisk p) c k₀ mem []
+            (restartPlan p v₀ noDrive (segments p v₀ (named noDrive)) (mem .inflight))
+            ≡ after (named noDrive) (leb (length (restartStores p (named noDrive) (segments p v₀ (named noDrive)))) c)
+        is = unfold restartPlan in refl

@@ -2,8 +2,8 @@
 use mathlib.Core.Path.{_≡_, refl, sym, ap, _∙_, subst}
 use mathlib.Core.List.{List, [], map}
 use mathlib.Core.Bool.{Bool, true, false}
-use mathlib.Core.Logic.{_⊎_, inl, inr, _≢_}
-use Prim.Native.Nat.{ℕ, _≤_, _<_}
+use mathlib.Core.Logic.{inl, inr, _≢_}
+use Prim.Native.Nat.{ℕ, _<_}
 use native.Mathlib.Omega.{arith}
 use lib.Dec.{leb}
 use lib.ListN.{length, take}
@@ -16,7 +16,7 @@ use Rattle.spec.specs.Engine.{Call, storeCount, lentBlock, verdict, lentOk, cal
 use Rattle.spec.specs.Engine.Call.{write, land, close, reclaim, read, fill, restart, rebuild}
 use Rattle.spec.specs.History.{mkWorld, callOf, restartOf, before, happens, worldAfter, forget, Hist, step}
 use Rattle.spec.specs.History.Event.{calls}
-use Rattle.spec.specs.Lists.{Opt}
+use Rattle.spec.specs.Lists.{Opt, isIn}
 use Rattle.spec.specs.Lists.Opt.{none, some}
 use Rattle.spec.specs.Params.{named}
 use Rattle.spec.specs.Rebuild.{rebuildChecks, rebuildStores, rebuildVerdict}
@@ -24,23 +24,25 @@ use Rattle.spec.specs.Segments.{segments}
 use Rattle.law_basic.specs.Geometry.{Ranged}
 use Rattle.law_views.specs.Views.{Whole, seen}
 use Rattle.law_drives.specs.Tests.{clash}
-use Rattle.proof_crash_machine.specs.Example.{reached}
+use Rattle.law_checks.specs.Passed.{rebuild-passed}
+use Rattle.law_basic.specs.Mask.{isIn-empty}
 use Rattle.proof_crash_machine.specs.History.Mode.{off, ro}
 use Rattle.proof_crash_machine.specs.Rebuild.{withUn}
-use Rattle.proof_crash.specs.Stand.{Quiet, MarkOk, Stands, Holds, mark-moves, named-same, named-not, leaves, hist, rebuild-leaves-cut, rebuild-leaves}
-use Rattle.proof_crash_machine.specs.Reset.{same}
+use Rattle.proof_crash_machine.specs.Facts.{Choice}
+use Rattle.proof_crash_machine.specs.Mask.{tf}
 use Rattle.proof_crash_items.specs.Seen.{seen-stores, seen-cut, whole-all, whole-cut}
 use Rattle.proof_crash_items.specs.Sound.{AllSound}
+use Rattle.proof_crash_items.specs.Ranges.{parOf}
 use Rattle.proof_crash_restarts.specs.Link.{Linked}
 use Rattle.proof_crash_rebuilds.specs.Drive.{rebuild-follows, rebuild-cut, rebuild-end}
-use Rattle.law_checks.specs.Passed.{rebuild-passed}
-use Rattle.proof_crash.specs.Stand.Holds.{goes, rests}
 use Rattle.proof_crash_calls.specs.Live.{Reached}
 use Rattle.proof_crash_calls.specs.Others.{off-step, missing-step}
 use Rattle.proof_crash_calls.specs.Refusals.{decides, refused-step}
 use Rattle.proof_crash_calls.specs.Resumed.{reached-to, reached-forget}
 use Rattle.proof_crash_calls.specs.Steps.{Stepped, run-step}
 use Rattle.proof_crash_calls.specs.Steps.Stepped.{goes-on, is-over}
+use Rattle.proof_crash.specs.Stand.{Quiet, MarkOk, Stands, Holds, mark-moves, named-same, named-not, leaves, hist, rebuild-leaves-cut, rebuild-leaves, none-trust}
+use Rattle.proof_crash.specs.Stand.Holds.{goes, rests}
 use Rattle.proof_crash.specs.Boot.{stands-linked}
 
 -- what a call leaves
@@ -63,7 +65,8 @@ not-rebuild c q d n e = clash (ap isRebuild e ∙ (unfold isRebuild in refl)) q
 
 -- ---- a rebuild
 
-module _ (p : Params) (h : Ranged p) (s : Hist) (n : ℕ) (x : Stands p h s n) (d c : ℕ) (dl : d < p .N) (ch : (p .N ≤ x .g .un) ⊎ (d ≡ x .g .un)) (is : s .world .memory .state .missing ≡ named d) where
+module _ (p : Params) (h : Ranged p) (s : Hist) (n : ℕ) (x : Stands p h s n) (d c : ℕ) (dl : d < p .N) (ch : Choice (parOf p h) (x .g .un) (isIn (named d)))
+    (is : s .world .memory .state .missing ≡ named d) where
   abbrev v₀ : View
   v₀ = seen p (s .world .disk)
 
@@ -79,38 +82,43 @@ module _ (p : Params) (h : Ranged p) (s : Hist) (n : ℕ) (x : Stands p h s n) (
   right? : AllSound p v₀ ss
   right? = rebuild-follows p h v₀ (x .g) (x .a) (x .c) (x .m) lk d dl ch .sound
 
-  cut? : (k : Disk) → Whole p k → Linked p h (seen p k) (withUn (x .g) d) (x .a) (x .c) off → Holds p h (hist (mkWorld k (cutMemory p (s .world .memory))) (map forget (s .sends)) (named d) (s .mark))
+  cut? : (k : Disk) → Whole p k → Linked p h (seen p k) (withUn (x .g) (isIn (named d))) (x .a) (x .c) off
+      → Holds p h (hist (mkWorld k (cutMemory p (s .world .memory))) (map forget (s .sends)) (named d) (s .mark))
   cut? k wk l = rests n (record {
-    g = withUn (x .g) d;
+    g = withUn (x .g) (isIn (named d));
     a = x .a;
     c = x .c;
     m = off;
     T = x .T;
     whole = wk;
     reached =
-        reached-to p h v₀ (map forget (s .sends)) n (x .g) (x .a) (x .c) (x .m) (x .T) forgot (seen p k) (withUn (x .g) d) (x .c) off n (l .inv)
+        reached-to p h v₀ (map forget (s .sends)) n (x .g) (x .a) (x .c) (x .m) (x .T) forgot (seen p k) (withUn (x .g) (isIn (named d))) (x .c) off n (l .inv)
         (l .shape) (l .bytes) (λ y i. i) (forgot .marked) (forgot .still);
-    trust = inr (dl, refl);
-    mark = mark-moves p (x .g) (withUn (x .g) d) n (s .mark) (λ y i. i) refl (x .mark);
+    trust = λ e l. refl;
+    mark = mark-moves p (x .g) (withUn (x .g) (isIn (named d))) n (s .mark) (λ y i. i) refl (x .mark);
   }) (inl (unfold cutMemory in refl))
     where
       forgot : Reached p h v₀ (map forget (s .sends)) n (x .g) (x .a) (x .c) (x .m) (x .T)
       forgot = reached-forget p h v₀ (s .sends) n (x .g) (x .a) (x .c) (x .m) (x .T) (x .reached)
 
-  done? : (k : Disk) → Whole p k → Linked p h (seen p k) (withUn (withUn (x .g) d) (p .N)) (x .a) (x .c) ro → Holds p h (hist (mkWorld k (s .world .memory)) (s .sends) 0 (s .mark))
+  done? : (k : Disk) → Whole p k → Linked p h (seen p k) (withUn (withUn (x .g) (isIn (named d))) (isIn 0)) (x .a) (x .c) ro → Holds p h (hist (mkWorld k (s .world .memory)) (s .sends) 0 (s .mark))
   done? k wk l = rests n (record {
-    g = withUn (withUn (x .g) d) (p .N);
+    g = withUn (withUn (x .g) (isIn (named d))) (isIn 0);
     a = x .a;
     c = x .c;
     m = ro;
     T = x .T;
     whole = wk;
     reached =
-        reached-to p h v₀ (s .sends) n (x .g) (x .a) (x .c) (x .m) (x .T) (x .reached) (seen p k) (withUn (withUn (x .g) d) (p .N)) (x .c) ro n
+        reached-to p h v₀ (s .sends) n (x .g) (x .a) (x .c) (x .m) (x .T) (x .reached) (seen p k) (withUn (withUn (x .g) (isIn (named d))) (isIn 0)) (x .c) ro n
         (l .inv) (l .shape) (l .bytes) (λ y i. i) (x .reached .marked) (x .reached .still);
-    trust = inl (refl, omega arith);
-    mark = mark-moves p (x .g) (withUn (withUn (x .g) d) (p .N)) n (s .mark) (λ y i. i) refl (x .mark);
-  }) (inr (d, dl, is, inl (omega arith)))
+    trust = λ e l. refl;
+    mark = mark-moves p (x .g) (withUn (withUn (x .g) (isIn (named d))) (isIn 0)) n (s .mark) (λ y i. i) refl (x .mark);
+  }) (inr (d, dl, is, again))
+    where
+      -- it may be rebuilt again
+      again : Choice (parOf p h) (isIn 0) (isIn (named d))
+      again = (ch .0, λ e l q. tf q (isIn-empty e))
 
   rebuilt-ok : firstRefusal (rebuildChecks p (lentOk p (s .world .disk) (s .world .memory)) (seen p (s .world .disk)) (s .world .memory) d (segments p (seen p (s .world .disk)) (named d))) ≡ none
       → Holds p h (leaves s (rebuild d c) (callDisk p (s .world .disk) (s .world .memory) (rebuild d c)))
@@ -128,11 +136,12 @@ module _ (p : Params) (h : Ranged p) (s : Hist) (n : ℕ) (x : Stands p h s n) (
       go : (b : Bool) → Holds p h (leaves s (rebuild d c) (limited b p (storeDisk p) c k₀ (s .world .memory) [] (mkPlan ss Rebuilt (s .world .memory) [])))
       go true = unfold limited in subst (Holds p h) (sym (rebuild-leaves s d c (storeAll (storeDisk p) ss k₀) (s .world .memory) []))
           (done? (storeAll (storeDisk p) ss k₀) (whole-all p h k₀ (x .whole) ss right?)
-          (subst (λ (w : View). Linked p h w (withUn (withUn (x .g) d) (p .N)) (x .a) (x .c) ro) (sym (seen-stores p h k₀ (x .whole) ss right?))
+          (subst (λ (w : View). Linked p h w (withUn (withUn (x .g) (isIn (named d))) (isIn 0)) (x .a) (x .c) ro) (sym (seen-stores p h k₀ (x .whole) ss right?))
           (rebuild-end p h v₀ (x .g) (x .a) (x .c) (x .m) lk d dl ch)))
       go false = unfold limited in subst (Holds p h) (sym (rebuild-leaves-cut s d c (storeAll (storeDisk p) (take c ss) k₀) (cutMemory p (s .world .memory)) []))
           (cut? (storeAll (storeDisk p) (take c ss) k₀) (whole-cut p h k₀ (x .whole) ss right? c)
-          (subst (λ (w : View). Linked p h w (withUn (x .g) d) (x .a) (x .c) off) (sym (seen-cut p h k₀ (x .whole) ss right? c)) (rebuild-cut p h v₀ (x .g) (x .a) (x .c) (x .m) lk d dl ch c)))
+          (subst (λ (w : View). Linked p h w (withUn (x .g) (isIn (named d))) (x .a) (x .c) off) (sym (seen-cut p h k₀ (x .whole) ss right? c))
+          (rebuild-cut p h v₀ (x .g) (x .a) (x .c) (x .m) lk d dl ch c)))
 
 -- ---- every call that is no restart
 
@@ -140,10 +149,10 @@ module _ (p : Params) (h : Ranged p) (s : Hist) (n : ℕ) (x : Stands p h s n) w
   abbrev long : Bool
   long = lentOk p (s .world .disk) (s .world .memory)
 
-  as-it-was : Quiet p (x .g .un) (s .world .memory .state) → (c : Call) → step p s (calls c) ≡ s → Holds p h (step p s (calls c))
+  as-it-was : Quiet p h (x .g .un) (s .world .memory .state) → (c : Call) → step p s (calls c) ≡ s → Holds p h (step p s (calls c))
   as-it-was q c e = subst (Holds p h) (sym e) (rests n x q)
 
-  rebuild-any : (d : ℕ) → d < p .N → s .world .memory .state .missing ≡ named d → (p .N ≤ x .g .un) ⊎ (d ≡ x .g .un) → (e c : ℕ) → Holds p h (step p s (calls (rebuild e c)))
+  rebuild-any : (d : ℕ) → d < p .N → s .world .memory .state .missing ≡ named d → Choice (parOf p h) (x .g .un) (isIn (named d)) → (e c : ℕ) → Holds p h (step p s (calls (rebuild e c)))
   rebuild-any d dl is ch e c = go (firstRefusal (decides p long (seen p (s .world .disk)) (s .world .memory) (rebuild e c) .checks)) refl
     where
       go : (o : Opt Answer) → firstRefusal (decides p long (seen p (s .world .disk)) (s .world .memory) (rebuild e c) .checks) ≡ o → Holds p h (step p s (calls (rebuild e c)))
@@ -171,7 +180,7 @@ module _ (p : Params) (h : Ranged p) (s : Hist) (n : ℕ) (x : Stands p h s n) w
                   → s .world .memory .state .missing ≡ named e
               same f = rebuild-passed p long (seen p (s .world .disk)) (s .world .memory) e (segments p (seen p (s .world .disk)) (named e)) f .names
 
-  pub rest-step : Quiet p (x .g .un) (s .world .memory .state) → (c : Call) → restartOf c ≡ none → Holds p h (step p s (calls c))
+  pub rest-step : Quiet p h (x .g .un) (s .world .memory .state) → (c : Call) → restartOf c ≡ none → Holds p h (step p s (calls c))
   rest-step (inl z) c r = as-it-was (inl z) c (off-step p s c r z)
   rest-step (inr (d, dl, is, ch)) c r = go c r
     where
@@ -206,6 +215,6 @@ call-step p h s (goes n x k) c r = go (run-step p h s n x c r)
       T = y .ended .stopped .T;
       whole = y .ended .whole;
       reached = y .ended .stopped .reached;
-      trust = inl (y .trusted, y .ended .stopped .healthy);
+      trust = none-trust p h (step p s (calls c) .untrusted) (y .ended .stopped .g .un) (y .trusted) (y .ended .stopped .healthy);
       mark = subst (MarkOk p (y .ended .stopped .g) n) (sym e) (mark-moves p (x .healthy .live .g) (y .ended .stopped .g) n (s .mark) (l .sent) (l .last) k);
     }) (inl (y .dark))

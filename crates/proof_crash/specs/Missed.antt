@@ -1,10 +1,10 @@
 -- A restart that names a drive missing, whatever that drive holds: it finishes, and reads what it should. Assumes nothing.
 use mathlib.Core.Path.{_≡_, refl, sym, ap, _∙_, subst}
 use mathlib.Core.List.{List, [], _++_, map}
-use mathlib.Core.Bool.{Bool, true, false, _||_}
-use mathlib.Core.Logic.{inl, inr, ⊎-elim, _≢_}
-use Prim.Native.Nat.{ℕ, _≤_, _<_}
-use borrow.Author.Tests.{le-leb, eqb-true}
+use mathlib.Core.Bool.{Bool, true, false}
+use mathlib.Core.Logic.{inr}
+use Prim.Native.Nat.{ℕ, _<_}
+use borrow.Author.Tests.{le-leb}
 use native.Mathlib.Omega.{arith}
 use lib.Dec.{leb, eqb}
 use lib.ListN.{length}
@@ -17,26 +17,22 @@ use Rattle.spec.specs.Engine.Call.{restart}
 use Rattle.spec.specs.Engine.{callDisk}
 use Rattle.spec.specs.History.{mkWorld, inOrder, forget, Hist, namesAll, seenAt}
 use Rattle.spec.specs.Lists.Opt.{some}
-use Rattle.spec.specs.Lists.{flat}
+use Rattle.spec.specs.Lists.{flat, isIn}
 use Rattle.spec.specs.Memory.{Memory}
 use Rattle.spec.specs.Params.{named}
 use Rattle.spec.specs.Restart.{dropStores, mendStores, restartStores, restartMemory, reportOf, namesDrive, restartPlan}
 use Rattle.spec.specs.Segments.{segments, unsealed}
 use Rattle.law_basic.specs.Geometry.{Ranged}
-use Rattle.law_basic.specs.Ranges.{Test, test}
-use Rattle.law_basic.specs.Ranges.Test.{yes!, no! }
 use Rattle.law_views.specs.Views.{Whole, seen}
 use Rattle.law_drives.specs.Tests.{cond-false}
-use Rattle.proof_crash_machine.specs.Example.{reached}
-use Rattle.proof_crash_machine.specs.Facts.{Ghost, Choice}
+use Rattle.proof_crash_machine.specs.Facts.{Ghost, Choice, self}
 use Rattle.proof_crash_machine.specs.Finish.{finishing}
 use Rattle.proof_crash_machine.specs.History.Mode.{ro}
 use Rattle.proof_crash_machine.specs.Rebuild.{withUn}
-use Rattle.proof_crash_machine.specs.Reset.{same}
-use Rattle.proof_crash_items.specs.Named.{named-some}
+use Rattle.proof_crash_items.specs.Named.{named-some, named-self}
 use Rattle.proof_crash_items.specs.Ranges.{parOf}
 use Rattle.proof_crash_items.specs.Reading.{Tabled}
-use Rattle.proof_crash_items.specs.RestMem.{restart-tabled, restart-lent}
+use Rattle.proof_crash_items.specs.RestMem.{restart-tabled, restart-lent, named-lt, named-ones}
 use Rattle.proof_crash_items.specs.Seen.{shape-seen}
 use Rattle.proof_crash_items.specs.Segs.{OnDrives}
 use Rattle.proof_crash_items.specs.Shape.{Shape}
@@ -46,7 +42,7 @@ use Rattle.proof_crash_calls.specs.Readings.{Shows}
 use Rattle.proof_crash_calls.specs.Resumed.{reached-to, reached-forget, shows-read}
 use Rattle.proof_crash.specs.Asked.{parts, boot-is, boot-lent}
 use Rattle.proof_crash.specs.Boot.{Booted, stands-linked, stands-known, boot-done}
-use Rattle.proof_crash.specs.Stand.{Stands, Holds, named-same, named-not, hist}
+use Rattle.proof_crash.specs.Stand.{Stands, Holds, hist, named-choice}
 use Rattle.proof_crash.specs.Stand.Holds.{rests}
 
 module _ (p : Params) (h : Ranged p) (s : Hist) (n : ℕ) (x : Stands p h s n) where
@@ -54,18 +50,19 @@ module _ (p : Params) (h : Ranged p) (s : Hist) (n : ℕ) (x : Stands p h s n) w
   v₀ = seen p (s .world .disk)
 
   -- ---- a drive is named missing
-  module _ (k : Disk) (wk : Whole p k) (mem : Memory) (d c : ℕ) (dl : d < p .N) (same : (e y : ℕ) → e < p .N → e ≢ d → zoneAt (seen p k) e y ≡ zoneAt (seen p (s .world .disk)) e y)
+  module _ (k : Disk) (wk : Whole p k) (mem : Memory) (d c : ℕ) (dl : d < p .N) (same : (e y : ℕ) → e < p .N → isIn (named d) e ≡ false → zoneAt (seen p k) e y ≡ zoneAt (seen p (s .world .disk)) e y)
       (us : namesAll (s .untrusted) (some d) ≡ true) (ord : inOrder p (mkWorld k mem) d ≡ true) (al : isRefusedAs 6 (callDisk p k mem (restart d c) .answer) ≡ false) where
-    ch : Choice (parOf p h) (x .g .un) d
-    ch = ⊎-elim (λ (q : (s .untrusted ≡ 0) × (p .N ≤ x .g .un)). inl (q .1))
-        (λ (q : (x .g .un < p .N) × (s .untrusted ≡ named (x .g .un))). inr (sym (named-same (x .g .un) d (omega (arith, q .0, h .drives-high)) (sym (q .1) ∙ named? (q .0) (q .1))))) (x .trust)
-      where
-        named? : x .g .un < p .N → s .untrusted ≡ named (x .g .un) → s .untrusted ≡ named d
-        named? l e = go (test (eqb (s .untrusted) 0)) (unfold namesAll in us)
-          where
-            go : Test (eqb (s .untrusted) 0) → (eqb (s .untrusted) 0 || eqb (s .untrusted) (named d)) ≡ true → s .untrusted ≡ named d
-            go (yes! f) q = absurd (named-not p h (x .g .un) l (sym e ∙ eqb-true (s .untrusted) 0 f))
-            go (no! f) q = eqb-true (s .untrusted) (named d) (sym (ap (λ (b : Bool). b || eqb (s .untrusted) (named d)) f) ∙ q)
+    ch : Choice (parOf p h) (x .g .un) (isIn (named d))
+    ch = named-choice p h (s .untrusted) d (x .g .un) (x .trust) us
+
+    abbrev lost : (e : ℕ) × (e < p .N) × (isIn (named d) e ≡ true)
+    lost = (d, dl, named-self p h d dl)
+
+    abbrev gM : Ghost
+    gM = withUn (x .g) (isIn (named d))
+
+    abbrev me : Choice (parOf p h) (isIn (named d)) (isIn (named d))
+    me = self (parOf p h) (isIn (named d)) (ch .0)
 
     abbrev u : View
     u = seen p k
@@ -73,32 +70,32 @@ module _ (p : Params) (h : Ranged p) (s : Hist) (n : ℕ) (x : Stands p h s n) w
     abbrev sh : Shape p u
     sh = shape-seen p k wk
 
-    abbrev on : OnDrives p h (withUn (x .g) d) (seen p k)
-    on = missing-on p h (seen p (s .world .disk)) (seen p k) (x .g) (x .a) (x .c) (x .m) (stands-linked p h s n x) d dl ch (shape-seen p k wk) same
+    abbrev on : OnDrives p h gM (seen p k)
+    on = missing-on p h (seen p (s .world .disk)) (seen p k) (x .g) (x .a) (x .c) (x .m) (stands-linked p h s n x) (named d) lost ch (shape-seen p k wk) same
 
     abbrev K : ℕ → ℕ
-    K = missingRead p h (seen p (s .world .disk)) (seen p k) (x .g) (x .a) (x .c) (x .m) (stands-linked p h s n x) d dl ch (shape-seen p k wk) same
+    K = missingRead p h (seen p (s .world .disk)) (seen p k) (x .g) (x .a) (x .c) (x .m) (stands-linked p h s n x) (named d) lost ch (shape-seen p k wk) same
 
     abbrev m′ : Memory
     m′ = restartMemory p (seen p k) (named d) (mem .inflight)
 
     nm : namesDrive p d ≡ true
-    nm = parts p h k mem d c (withUn (x .g) d) on (stands-known p h s n x) (inr refl) ord al .1
+    nm = parts p h k mem d c gM on (stands-known p h s n x) me ord al .1
 
-    tab : Tabled p u d m′
-    tab = restart-tabled p h (withUn (x .g) d) u on d (inr refl) nm (mem .inflight)
+    tab : Tabled p u (named d) m′
+    tab = restart-tabled p h gM u on (named d) me (named-lt p h d nm) (named-ones d) (mem .inflight)
 
     shows : (i : ℕ) → i < p .L → Shows p (x .g .sent) K i (seenAt p (mkWorld k m′) i)
     shows i l =
-        unfold missingRead in shows-read p h (withUn (x .g) d) k wk on (stands-known p h s n x) d (inr refl) m′ tab
-        (parts p h k mem d c (withUn (x .g) d) on (stands-known p h s n x) (inr refl) ord al .0)
-        (restart-lent p h (withUn (x .g) d) u on d (inr refl) nm (mem .inflight) k wk (boot-lent p h k mem d c (withUn (x .g) d) on (stands-known p h s n x) (inr refl) ord al)) i l
+        unfold missingRead in shows-read p h gM k wk on (stands-known p h s n x) (named d) me m′ tab
+        (parts p h k mem d c gM on (stands-known p h s n x) me ord al .0)
+        (restart-lent p h gM u on (named d) me (named-lt p h d nm) (named-ones d) (mem .inflight) k wk (boot-lent p h k mem d c gM on (stands-known p h s n x) me ord al)) i l
 
     abbrev g′ : Ghost
-    g′ = finishing (x .g) d K (stampsTop (x .g .sent)) (x .g .sent)
+    g′ = finishing (x .g) (isIn (named d)) K (stampsTop (x .g .sent)) (x .g .sent)
 
     lk′ : Linked p h u g′ (x .a) false ro
-    lk′ = missing-linked p h (seen p (s .world .disk)) u (x .g) (x .a) (x .c) (x .m) (stands-linked p h s n x) d dl ch sh same
+    lk′ = missing-linked p h (seen p (s .world .disk)) u (x .g) (x .a) (x .c) (x .m) (stands-linked p h s n x) (named d) lost ch sh same
 
     stays : Holds p h (hist (mkWorld k m′) (map forget (s .sends)) (named d) (some (record { world = mkWorld k m′; sentThen = length (map forget (s .sends)) })))
     stays = rests (length (map forget (s .sends))) (record {
@@ -112,9 +109,9 @@ module _ (p : Params) (h : Ranged p) (s : Hist) (n : ℕ) (x : Stands p h s n) w
           reached-to p h v₀ (map forget (s .sends)) n (x .g) (x .a) (x .c) (x .m) (x .T)
           (reached-forget p h v₀ (s .sends) n (x .g) (x .a) (x .c) (x .m) (x .T) (x .reached)) u g′ false ro (length (map forget (s .sends)))
           (lk′ .inv) (lk′ .shape) (lk′ .bytes) (λ y i. i) (omega arith) (λ e. refl);
-      trust = inr (dl, refl);
+      trust = λ e l. refl;
       mark = (refl, shows);
-    }) (inr (d, dl, tab .missing, inr refl))
+    }) (inr (d, dl, tab .missing, me))
 
     no-stores : restartStores p (named d) (segments p (seen p k) (named d)) ≡ []
     no-stores =
@@ -123,9 +120,9 @@ module _ (p : Params) (h : Ranged p) (s : Hist) (n : ℕ) (x : Stands p h s n) w
         (named-some d (omega (arith, dl, h .drives-high)))
 
     pub boot-missing : Booted p h s (restart d c) (callDisk p k mem (restart d c))
-    boot-missing = subst (Booted p h s (restart d c)) (sym (boot-is p h k mem d c (withUn (x .g) d) on (stands-known p h s n x) (inr refl) ord al ∙ is))
-        (boot-done p h s n x (mkWorld k m′) K
-        (missing-claim p h (seen p (s .world .disk)) u (x .g) (x .a) (x .c) (x .m) (stands-linked p h s n x) d dl ch sh same) shows d c
+    boot-missing = subst (Booted p h s (restart d c)) (sym (boot-is p h k mem d c gM on (stands-known p h s n x) me ord al ∙ is))
+        (boot-done p h s n x (mkWorld k m′) (isIn (named d)) (ch .0) K
+        (missing-claim p h (seen p (s .world .disk)) u (x .g) (x .a) (x .c) (x .m) (stands-linked p h s n x) (named d) lost ch sh same) shows d c
         (reportOf p (named d) (segments p u (named d))) k m′ [] refl stays)
       where
         is :

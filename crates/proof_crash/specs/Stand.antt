@@ -1,12 +1,13 @@
 -- Where a history stands: a healthy run, or none (the power is off, or a drive was named missing). Assumes nothing.
 use mathlib.Core.Path.{_≡_, refl, sym, ap, _∙_}
 use mathlib.Core.List.{List, map, append-nil}
-use mathlib.Core.Bool.{Bool}
-use mathlib.Core.Logic.{_⊎_, inl}
-use Prim.Native.Nat.{ℕ, _≤_, _<_}
+use mathlib.Core.Bool.{Bool, true, _||_}
+use mathlib.Core.Logic.{_⊎_}
+use Prim.Native.Nat.{ℕ, _<_}
 use borrow.Author.Tests.{eq-eqb, eqb-true}
 use native.Mathlib.Omega.{arith}
 use lib.ListN.{length}
+use lib.Dec.{eqb}
 use Rattle.spec.specs.declared.Params.{Params}
 use Rattle.spec.specs.declared.State.{State}
 use Rattle.spec.specs.declared.Report.{Report}
@@ -16,23 +17,25 @@ use Rattle.spec.specs.Calls.{After, mkAfter}
 use Rattle.spec.specs.Drives.{Disk}
 use Rattle.spec.specs.Engine.{Call}
 use Rattle.spec.specs.Engine.Call.{restart, rebuild}
-use Rattle.spec.specs.History.{World, mkWorld, Send, forget, sentBy, ackedBy, endsRun, sentAfter, untrustedAfter, Mark, Hist, marked, seenAt}
+use Rattle.spec.specs.History.{World, mkWorld, Send, forget, sentBy, ackedBy, endsRun, sentAfter, untrustedAfter, Mark, Hist, marked, seenAt, namesAll}
 use Rattle.spec.specs.Lists.{Opt, isIn}
 use Rattle.spec.specs.Lists.Opt.{none, some}
 use Rattle.spec.specs.Memory.{Memory, zeroState}
-use Rattle.spec.specs.Params.{named}
+use Rattle.spec.specs.Params.{named, noDrive}
 use Rattle.law_basic.specs.Geometry.{Ranged}
+use Rattle.law_basic.specs.Ranges.Test.{yes!, no! }
 use Rattle.law_views.specs.Views.{Whole, seen}
-use Rattle.law_drives.specs.Tests.{clash}
-use Rattle.proof_crash_machine.specs.Example.{reached}
-use Rattle.proof_crash_machine.specs.Facts.{Ghost, InV}
+use Rattle.law_drives.specs.Tests.{clash, not-so}
+use Rattle.law_basic.specs.Mask.{isIn-empty}
+use Rattle.law_basic.specs.Ranges.{Test, test}
+use Rattle.proof_crash_machine.specs.Facts.{Ghost, InV, Choice, None}
 use Rattle.proof_crash_machine.specs.History.{Mode}
 use Rattle.proof_crash_machine.specs.History.Mode.{run}
 use Rattle.proof_crash_machine.specs.Order.{Track}
-use Rattle.proof_crash_machine.specs.Rewrite.{st}
-use Rattle.proof_crash_machine.specs.Untrusted.{untrusted}
 use Rattle.proof_crash_machine.specs.Val.{Val}
-use Rattle.proof_crash_items.specs.Named.{isIn-named, named-some}
+use Rattle.proof_crash_machine.specs.Mask.{Mask}
+use Rattle.proof_crash_items.specs.Named.{isIn-named, named-some, none-named, named-few}
+use Rattle.proof_crash_items.specs.Ranges.{parOf}
 use Rattle.proof_crash_calls.specs.Live.{Reached}
 use Rattle.proof_crash_calls.specs.Readings.{MarkShows, shows-more}
 use Rattle.proof_crash_calls.specs.Steps.{Running}
@@ -42,9 +45,9 @@ abbrev pub MarkOk : Params → Ghost → ℕ → Opt Mark → Type 0
 MarkOk p g n none = Unit {0}
 MarkOk p g n (some k) = (k .sentThen ≡ n) × MarkShows p g (k .world)
 
--- the untrusted drive, as a mask and as the machine's number
-abbrev pub Trust : Params → ℕ → ℕ → Type 0
-Trust p us un = ((us ≡ 0) × (p .N ≤ un)) ⊎ ((un < p .N) × (us ≡ named un))
+-- the machine's untrusted drives are those of the mask
+abbrev pub Trust : Params → ℕ → Mask → Type 0
+Trust p us un = (d : ℕ) → d < p .N → un d ≡ isIn us d
 
 pub record Stands (p : Params) (h : Ranged p) (s : Hist) (n : ℕ) : Type 0 where
   pub g : Ghost
@@ -58,12 +61,27 @@ pub record Stands (p : Params) (h : Ranged p) (s : Hist) (n : ℕ) : Type 0 wher
   pub mark : MarkOk p g n (s .mark)
 
 -- no call but restart, and rebuild of the drive that is missing, changes anything
-abbrev pub Quiet : Params → ℕ → State → Type 0
-Quiet p un st = (st ≡ zeroState) ⊎ ((d : ℕ) × (d < p .N) × (st .missing ≡ named d) × ((p .N ≤ un) ⊎ (d ≡ un)))
+abbrev pub Quiet : (p : Params) → Ranged p → Mask → State → Type 0
+Quiet p h un st = (st ≡ zeroState) ⊎ ((d : ℕ) × (d < p .N) × (st .missing ≡ named d) × Choice (parOf p h) un (isIn (named d)))
 
 pub data Holds (p : Params) (h : Ranged p) (s : Hist) : Type 0 where
   goes : (n : ℕ) (x : Running p h s n) → MarkOk p (x .healthy .live .g) n (s .mark) → Holds p h s
-  rests : (n : ℕ) (x : Stands p h s n) → Quiet p (x .g .un) (s .world .memory .state) → Holds p h s
+  rests : (n : ℕ) (x : Stands p h s n) → Quiet p h (x .g .un) (s .world .memory .state) → Holds p h s
+
+pub none-trust : (p : Params) (h : Ranged p) (us : ℕ) (un : Mask) → us ≡ 0 → None (parOf p h) un → Trust p us un
+none-trust p h us un e n d l = n d l ∙ sym (ap (λ (x : ℕ). isIn x d) e ∙ isIn-empty d)
+
+-- a restart that names what the premise asks names a choice
+pub named-choice : (p : Params) (h : Ranged p) (us d : ℕ) (un : Mask) → Trust p us un → namesAll us (some d) ≡ true → Choice (parOf p h) un (isIn (named d))
+named-choice p h us d un t e = (named-few p h d, λ i l q. go (test (eqb us 0)) (unfold namesAll in e) i (sym (t i l) ∙ q))
+  where
+    go : Test (eqb us 0) → (eqb us 0 || eqb us (named d)) ≡ true → (i : ℕ) → isIn us i ≡ true → isIn (named d) i ≡ true
+    go (yes! f) q i k = clash k (ap (λ (x : ℕ). isIn x i) (eqb-true us 0 f) ∙ isIn-empty i)
+    go (no! f) q i k = ap (λ (x : ℕ). isIn x i) (sym (eqb-true us (named d) (sym (ap (λ (b : Bool). b || eqb us (named d)) f) ∙ q))) ∙ k
+
+-- with none named, none is untrusted
+pub none-choice-none : (p : Params) (h : Ranged p) (un : Mask) → Choice (parOf p h) un (isIn (named noDrive)) → None (parOf p h) un
+none-choice-none p h un c d l = not-so (un d) (λ q. clash (c .1 d l q) (ap (λ (x : ℕ). isIn x d) none-named ∙ isIn-empty d))
 
 pub stands-of : (p : Params) (h : Ranged p) (s : Hist) → Holds p h s → (n : ℕ) × Stands p h s n
 stands-of p h s (goes n x k) = (
@@ -76,7 +94,7 @@ stands-of p h s (goes n x k) = (
     T = x .healthy .live .T;
     whole = x .healthy .whole;
     reached = x .healthy .live .reached;
-    trust = inl (x .trusted, x .healthy .live .reached .inv .mode .none);
+    trust = none-trust p h (s .untrusted) (x .healthy .live .g .un) (x .trusted) (x .healthy .live .reached .inv .mode .none);
     mark = k;
   },
 )

@@ -19,16 +19,16 @@ use Rattle.spec.specs.Params.{dataCount}
 use Rattle.law_basic.specs.Geometry.{Ranged, data-drive-lt, data-not-parity}
 use Rattle.law_basic.specs.Ranges.{and-left, and-right, and-both}
 use Rattle.law_drives.specs.Tests.{cond-true, cond-false, clash}
-use Rattle.proof_crash_items.specs.Ranges.{parOf}
+use Rattle.proof_crash_machine.specs.History.Mode.{run}
 use Rattle.proof_crash_machine.specs.Facts.{Ghost, InV, Datum}
 use Rattle.proof_crash_machine.specs.Ghosts.{withBase}
-use Rattle.proof_crash_machine.specs.History.Mode.{run}
 use Rattle.proof_crash_machine.specs.History.Step.{ack}
 use Rattle.proof_crash_machine.specs.Memory.{Mem, ended}
 use Rattle.proof_crash_machine.specs.Order.{Track}
 use Rattle.proof_crash_machine.specs.Val.{Val}
 use Rattle.proof_crash_machine.specs.View.Item.{chunk}
 use Rattle.proof_crash_machine.specs.View.{View as m-View, In}
+use Rattle.proof_crash_items.specs.Ranges.{parOf, apart-code}
 use Rattle.proof_crash_calls.specs.Go.{mst, Go, go-step}
 use Rattle.proof_crash_calls.specs.Rel.{inUse, Waiting}
 use Rattle.proof_crash_calls.specs.Sends.{ackedTo, acked-from}
@@ -106,7 +106,7 @@ module _ (p : Params) (h : Ranged p) (g : Ghost) (v : m-View) (a : List Val) (c 
   up : (x : ℕ) → (ackBase x ≡ g .base x) ⊎ ((y : Val) × Datum (parOf p h) s (M .F s) y × (y .addr ≡ x) × (ackBase x ≡ y .stamp) × (g .base x ≤ ackBase x))
   up x = ⊎-elim (λ e. inl e)
       (λ (k : (d : ℕ) × (d < p .N) × (d ≢ parityDrive p s) × (M .F s d .addr ≡ x) × (ackBase x ≡ M .F s d .stamp)).
-      inr (M .F s (k .0), record { d = k .0; lt = k .1; data? = k .2; val = refl }, k .3, k .4, raise-low (parityDrive p s) (M .F s) (g .base) x (p .N)))
+      inr (M .F s (k .0), record { d = k .0; lt = k .1; data? = apart-code p h s (k .0) (k .2); val = refl }, k .3, k .4, raise-low (parityDrive p s) (M .F s) (g .base) x (p .N)))
       (raise-is (parityDrive p s) (M .F s) (g .base) x (p .N))
 
   al : (x : Val) → InV x ackList → InV x a ⊎ ((InV x (g .sent)) × (x .stamp ≤ ackBase (x .addr)))

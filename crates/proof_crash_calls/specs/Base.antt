@@ -9,15 +9,14 @@ use borrow.Author.Tests.{lt-ltb, eq-eqb, ne-eqb, eqb-false, not-true}
 use native.Mathlib.Omega.{arith}
 use lib.Dec.{eqb}
 use lib.ListN.{length}
-use Rattle.spec.specs.Lists.Opt.{none}
 use Rattle.spec.specs.Lists.{upFrom, below, any, consIf, keep, indexOf}
 use Rattle.spec.specs.Memory.{slotCount, slots}
 use Rattle.law_basic.specs.Ranges.{Test, test, length-below, indexOf-any, and-fails, or-left}
 use Rattle.law_basic.specs.Ranges.Test.{yes!, no! }
 use Rattle.law_drives.specs.Tests.{clash}
-use Rattle.proof_crash_items.specs.Member.{Has, has-keep, keep-nil, upFrom-has, below-has, has-below, any-has, any-false}
 use Rattle.proof_crash_machine.specs.Exec.{true≢false, and-1, and-2}
 use Rattle.proof_crash_machine.specs.Memory.{setAt, setAt-elim}
+use Rattle.proof_crash_items.specs.Member.{Has, has-keep, keep-nil, upFrom-has, below-has, has-below, any-has, any-false}
 
 -- ---- tests
 
@@ -37,10 +36,6 @@ slot-any f b = sym (indexOf-any f (below 8)) ∙ lt-ltb (indexOf f (below 8)) (l
 pub has-slot : (i : ℕ) → i < 8 → Has i slots
 unfolding slots slotCount
 has-slot i b = has-below i 8 b
-
-pub slot-has : (i : ℕ) → Has i slots → i < 8
-unfolding slots slotCount
-slot-has i m = below-has i 8 m
 
 -- ---- counting
 

@@ -14,10 +14,9 @@ use Rattle.spec.specs.declared.State.{State}
 use Rattle.spec.specs.Layout.{parityDrive, dataDrive}
 use Rattle.spec.specs.Memory.{stripeIn, filledIn, landedIn, entryIn, offsetIn, beginStripe, slotBlock}
 use Rattle.spec.specs.Params.{dataCount}
-use Rattle.law_basic.specs.Geometry.{Ranged, data-count-low, data-not-parity}
+use Rattle.law_basic.specs.Geometry.{Ranged, data-count-low, data-drive-lt, drive-is-data}
 use Rattle.law_basic.specs.Mask.{isIn-empty}
 use Rattle.law_drives.specs.Tests.{clash}
-use Rattle.proof_crash_items.specs.Ranges.{parOf}
 use Rattle.proof_crash_machine.specs.Exec.{or-cases, or-1}
 use Rattle.proof_crash_machine.specs.Facts.{Par, Ghost}
 use Rattle.proof_crash_machine.specs.Filling.{unfilled, unfilled-data}
@@ -25,6 +24,7 @@ use Rattle.proof_crash_machine.specs.Memory.{setAt, setAt-elim, Mem, MemOk, flo
 use Rattle.proof_crash_machine.specs.Val.{Val}
 use Rattle.proof_crash_machine.specs.View.Item.{chunk}
 use Rattle.proof_crash_machine.specs.View.{View as m-View, In}
+use Rattle.proof_crash_items.specs.Ranges.{parOf, data-code}
 use Rattle.proof_crash_calls.specs.Base.{eqb-self, setAt-here, setAt-else}
 use Rattle.proof_crash_calls.specs.Cells.{SameSlot, same-used, begin-long, begin-number, begin-filled, begin-landed, begin-same}
 use Rattle.proof_crash_calls.specs.Placed.{ready-data, ready-parity, drive-cases}
@@ -64,9 +64,6 @@ module _ (p : Params) (h : Ranged p) (g : Ghost) (v : m-View) (st : State) (fl :
   abbrev s : ℕ
   s = M .next
 
-  abbrev st′ : State
-  st′ = beginStripe st i
-
   number : stripeIn (beginStripe st i) i ≡ M .next
   number = begin-number st (R .long) i il ∙ sym (R .next o)
 
@@ -76,7 +73,7 @@ module _ (p : Params) (h : Ranged p) (g : Ghost) (v : m-View) (st : State) (fl :
     most = omega arith;
     mask = none-landed p h;
     held = λ j l. absurd (let z : ⊥ = omega arith in z);
-    blank = λ j a b. unfilled-data (parOf p h) s (dataDrive p s j) (λ e. data-not-parity p s j e);
+    blank = λ j a b. unfilled-data (parOf p h) s (dataDrive p s j) (data-drive-lt p s j b) (data-code p h s (dataDrive p s j) (drive-is-data p s j));
     xored = λ e. absurd (let z : ⊥ = omega (arith, e, data-count-low p h) in z);
     may = λ d l. sym (none-ready p h s d l);
     on = λ d l e. clash e (isIn-empty d);
@@ -174,10 +171,3 @@ module _ (p : Params) (h : Ranged p) (g : Ghost) (v : m-View) (st : State) (fl :
   -- the others as they were
   pub begin-cover : (j : ℕ) → j < 8 → j ≢ i → withSlot st i j ≡ inUse (beginStripe st i) j
   begin-cover j jl n = with-other st i j n ∙ sym (same-used st (beginStripe st i) j (begin-same st (R .long) i il j n))
-
-  pub begin-within : (j : ℕ) → j < 8 → inUse (beginStripe st i) j ≡ true → withSlot st i j ≡ true
-  begin-within j jl q = go (ℕ-discrete j i)
-    where
-      go : Dec (j ≡ i) → withSlot st i j ≡ true
-      go (yes e) = ap (withSlot st i) e ∙ with-here st i
-      go (no e) = begin-cover j jl e ∙ q

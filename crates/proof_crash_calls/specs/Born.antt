@@ -3,8 +3,7 @@ use mathlib.Core.Path.{_≡_, refl, sym, ap, _∙_, subst}
 use mathlib.Core.List.{List, [], _∷_, map}
 use mathlib.Core.Bool.{true, false, cond, not}
 use mathlib.Core.Logic.{_⊎_, inl, inr}
-use Prim.Native.Nat.{ℕ, _≤_}
-use native.Mathlib.Decide.{ℕ-discrete}
+use Prim.Native.Nat.{ℕ}
 use borrow.Author.Tests.{eq-eqb}
 use native.Mathlib.Omega.{arith}
 use lib.Dec.{eqb}
@@ -24,24 +23,24 @@ use Rattle.law_basic.specs.Geometry.{Ranged}
 use Rattle.law_basic.specs.Mask.{isIn-empty}
 use Rattle.law_views.specs.Views.{seen}
 use Rattle.law_drives.specs.Tests.{clash, not-so}
+use Rattle.proof_crash_machine.specs.Exec.{true≢false}
+use Rattle.proof_crash_machine.specs.Facts.{Par, Ghost, Stripe, Used, None}
+use Rattle.proof_crash_machine.specs.Facts.Pair.{alone}
+use Rattle.proof_crash_machine.specs.Finish.{upTo, finishing}
+use Rattle.proof_crash_machine.specs.Ghosts.{withPr}
+use Rattle.proof_crash_machine.specs.History.{Inv, start}
+use Rattle.proof_crash_machine.specs.History.Mode.{run}
+use Rattle.proof_crash_machine.specs.History.Step.{restart-plain}
+use Rattle.proof_crash_machine.specs.Memory2.{restMem}
+use Rattle.proof_crash_machine.specs.Order.{Track, noTrack}
+use Rattle.proof_crash_machine.specs.Val.{Val}
+use Rattle.proof_crash_machine.specs.View.{applyAll}
+use Rattle.proof_crash_machine.specs.Mask.{Mask}
 use Rattle.proof_crash_items.specs.Items.{itemsIn}
 use Rattle.proof_crash_items.specs.Member.{Has, has-keep, keep-nil, below-has, has-below, all-has}
 use Rattle.proof_crash_items.specs.Ranges.{parOf}
 use Rattle.proof_crash_items.specs.Sound.{BytesOk}
 use Rattle.proof_crash_items.specs.Start.{empty-whole, empty-pointer, empty-items, start-on}
-use Rattle.proof_crash_machine.specs.Exec.{true≢false}
-use Rattle.proof_crash_machine.specs.Facts.{Par, Ghost, Stripe, Used}
-use Rattle.proof_crash_machine.specs.Facts.Pair.{alone}
-use Rattle.proof_crash_machine.specs.Finish.{upTo, finishing}
-use Rattle.proof_crash_machine.specs.Ghosts.{withPr}
-use Rattle.proof_crash_machine.specs.History.Mode.{run}
-use Rattle.proof_crash_machine.specs.History.{Inv, start}
-use Rattle.proof_crash_machine.specs.History.Step.{restart-plain}
-use Rattle.proof_crash_machine.specs.Memory2.{restMem}
-use Rattle.proof_crash_machine.specs.Order.{Track, noTrack}
-use Rattle.proof_crash_machine.specs.Untrusted.{untrusted}
-use Rattle.proof_crash_machine.specs.Val.{Val}
-use Rattle.proof_crash_machine.specs.View.{applyAll}
 use Rattle.proof_crash_calls.specs.Go.{mst, Go, go-step, go-view, go-start}
 use Rattle.proof_crash_calls.specs.Held.{TableOk}
 use Rattle.proof_crash_calls.specs.Join.{Healthy}
@@ -52,15 +51,11 @@ use Rattle.proof_crash_calls.specs.Rested.{rest-rel, rest-live}
 use Rattle.proof_crash_calls.specs.Steps.{Running, Halted, Stepped, run-step}
 use Rattle.proof_crash_calls.specs.Steps.Stepped.{goes-on, is-over}
 
-bare-unused : (P : Par) (n z : ℕ) → Used P n (λ d z. []) z → ⊥
+bare-unused : (P : Par) (n : Mask) (z : ℕ) → Used P n (λ d z. []) z → ⊥
 bare-unused P n z (d, t, b) = let q : ⊥ = omega (arith, b) in q
 
-bare-stripe : (P : Par) (m : ℕ) (f : ℕ → Val) (s z : ℕ) → Stripe P (λ d z. []) m z s f → ⊥
-bare-stripe P m f s z st = go (ℕ-discrete m 0)
-  where
-    go : Dec (m ≡ 0) → ⊥
-    go (yes e) = st .on 1 (omega (arith, P .three)) (omega arith)
-    go (no e) = st .on 0 (omega (arith, P .three)) (omega arith)
+bare-stripe : (P : Par) (f : ℕ → Val) (s z : ℕ) → Stripe P (λ d z. []) (λ d. false) z s f → ⊥
+bare-stripe P f s z st = st .on 0 (omega (arith, P .some)) refl
 
 abbrev bornGhost : Par → Ghost
 bornGhost P = finishing (withPr (start P .g) alone) (start P .g .un) (λ a. 0) 0 (upTo 0 (start P .g .sent))
@@ -69,10 +64,10 @@ bornGhost P = finishing (withPr (start P .g) alone) (start P .g .un) (λ a. 0) 0
 born-go : (P : Par) (T : Track) → Go P (start P) (mst (bornGhost P) (λ d z. []) [] false (run (restMem false 0 0 0 0))) T T
 unfolding start applyAll upTo
 born-go P T = go-step P (start P) (mst (bornGhost P) (λ d z. []) [] false (run (restMem false 0 0 0 0))) T
-    (restart-plain (start P) (omega arith) [] (record { are = tt; every = λ z i k d l. absurd (bare-unused P (P .N) z i) }) (λ d z s x l k m. absurd m)
-    (λ a. 0) 0 (record { most = λ x c. absurd (bare-stripe P (P .N) (c .f) (c .s) (c .z) (c .st)); some = λ a. inl refl })
-    (λ x c. absurd (bare-stripe P (P .N) (c .f) (c .s) (c .z) (c .st))) false 0 0 (omega arith)
-    (λ y (d, t, a, b). absurd (bare-unused P (P .N) y (d, t, a))) (λ q. true≢false q) (λ q. true≢false q) 0 (λ y i. absurd (bare-unused P (P .N) y i)))
+    (restart-plain (start P) (λ d l. refl) [] (record { are = tt; every = λ z k d l b. absurd (let q : ⊥ = omega (arith, b) in q) }) (λ d z s x l k m. absurd m)
+    (λ a. 0) 0 (record { most = λ x c. absurd (bare-stripe P (c .f) (c .s) (c .z) (c .st)); some = λ a. inl refl })
+    (λ x c. absurd (bare-stripe P (c .f) (c .s) (c .z) (c .st))) false 0 0 (omega arith)
+    (λ y (d, t, a, b). absurd (bare-unused P (λ d. false) y (d, t, a))) (λ q. true≢false q) (λ q. true≢false q) 0 (λ y i. absurd (bare-unused P (λ d. false) y i)))
 
 module _ (p : Params) (h : Ranged p) (k : Disk) (e : emptyDisk p k ≡ true) (fl : List ℕ) where
   abbrev v : View
@@ -112,10 +107,10 @@ module _ (p : Params) (h : Ranged p) (k : Disk) (e : emptyDisk p k ≡ true) (fl
       I = go-start P (mst (bornGhost P) (itemsIn p v) [] false (run (restMem false 0 0 0 0))) noTrack reach .0
 
       bytes : BytesOk p (bornGhost P .un) v
-      bytes = λ d l n z b. start-on p h k e .bytes d l (unfold start in (omega (arith, l))) z b
+      bytes = λ d l n z b. start-on p h k e .bytes d l n z b
 
-      none? : p .N ≤ bornGhost P .un
-      none? = unfold start in omega arith
+      none? : None P (bornGhost P .un)
+      none? d l = unfold start in refl
 
       truth : restartMemory p v 0 fl .addresses ≡ addressTable p (candidates p 0 (segments p v 0))
       truth = unfold restartMemory in refl

@@ -23,24 +23,24 @@ use Rattle.law_basic.specs.Geometry.{Ranged, place-block, place-zone, place-dri
 use Rattle.law_basic.specs.Ranges.{Test, test}
 use Rattle.law_basic.specs.Ranges.Test.{yes!, no! }
 use Rattle.law_drives.specs.Tests.{cond-true, cond-false}
+use Rattle.proof_crash_machine.specs.Facts.{Ghost, Counted, Off, None}
+use Rattle.proof_crash_machine.specs.Ghosts.{withBase}
+use Rattle.proof_crash_machine.specs.Val.{Val}
+use Rattle.proof_crash_machine.specs.View.Item.{chunk}
+use Rattle.proof_crash_machine.specs.View.{View as m-View}
 use Rattle.proof_crash_items.specs.Cands.{best-none}
 use Rattle.proof_crash_items.specs.Items.{itemsIn}
 use Rattle.proof_crash_items.specs.Member.{Has, keep-has, has-keep, below-has, has-below, any-has, any-false, map-has, has-map}
 use Rattle.proof_crash_items.specs.Ranges.{parOf}
 use Rattle.proof_crash_items.specs.Segs.{OnDrives, zone-bytes, zone-len}
 use Rattle.proof_crash_items.specs.Stripes.{pointer-is}
-use Rattle.proof_crash_machine.specs.Facts.{Ghost, Counted, Off}
-use Rattle.proof_crash_machine.specs.Ghosts.{withBase}
-use Rattle.proof_crash_machine.specs.Val.{Val}
-use Rattle.proof_crash_machine.specs.View.Item.{chunk}
-use Rattle.proof_crash_machine.specs.View.{View as m-View}
 use Rattle.proof_crash_calls.specs.Ack.{raiseTo, raise-low, raise-is}
 use Rattle.proof_crash_calls.specs.Entries.{entry-low, entry-stamp}
 use Rattle.proof_crash_calls.specs.Held.{Grown, Entry, TableOk, entry-to, table-grown}
 use Rattle.proof_crash_calls.specs.Placed.{drive-cases}
 use Rattle.proof_crash_calls.specs.Pointed.{pointTo, pointed-none, pointed-some, best-some}
 
-module _ (p : Params) (h : Ranged p) (g : Ghost) (u : View) (k : OnDrives p h g u) (none? : p .N ≤ g .un) (v : m-View)
+module _ (p : Params) (h : Ranged p) (g : Ghost) (u : View) (k : OnDrives p h g u) (none? : None (parOf p h) (g .un)) (v : m-View)
     (gr : Grown (parOf p h) v (itemsIn p u)) (tb : List ℕ) (long : length tb ≡ addressesLen p)
     (T : TableOk p h g v tb) (st : State) (i z s : ℕ) (F : ℕ → Val) (zl : z < p .Z) (full : filledIn st i ≡ dataCount p) (number : stripeIn st i ≡ s)
     (ent : (j : ℕ) → j < dataCount p → (F (dataDrive p s j) .addr ≡ entryIn st i j .address) × (F (dataDrive p s j) .stamp ≡ entryIn st i j .stamp))

@@ -1,7 +1,7 @@
 -- What lies at the place of a table's entry. Assumes nothing.
 use mathlib.Core.Path.{_≡_, sym, ap, ap₂, _∙_, subst}
 use mathlib.Core.List.{List}
-use mathlib.Core.Logic.{_≢_}
+use mathlib.Core.Bool.{false}
 use Prim.Native.Nat.{ℕ, suc, _-_, _≤_, _<_}
 use native.Mathlib.Omega.{arith}
 use lib.ListN.{length, getD}
@@ -11,27 +11,27 @@ use Rattle.spec.specs.Drives.{noChunk, Zone, View, zoneAt, chunkAt, recordAt}
 use Rattle.spec.specs.Layout.{recordOf}
 use Rattle.spec.specs.Params.{capacity, placeBlock, placeZone, placeDrive}
 use Rattle.law_basic.specs.Geometry.{Ranged, place-again, place-lt}
-use Rattle.proof_crash_items.specs.Items.{valueOf, itemsIn, items-in, of-chunk}
-use Rattle.proof_crash_items.specs.Ranges.{capacity-few}
-use Rattle.proof_crash_items.specs.Reading.{places-many}
-use Rattle.proof_crash_items.specs.Segs.{OnDrives, zone-low}
-use Rattle.proof_crash_machine.specs.Facts.{Ghost, Off}
+use Rattle.proof_crash_machine.specs.Facts.{Ghost, Off, None}
 use Rattle.proof_crash_machine.specs.Val.{Val}
 use Rattle.proof_crash_machine.specs.View.{Item}
 use Rattle.proof_crash_machine.specs.View.Item.{chunk}
+use Rattle.proof_crash_items.specs.Items.{valueOf, itemsIn, items-in, of-chunk}
+use Rattle.proof_crash_items.specs.Ranges.{capacity-few, parOf}
+use Rattle.proof_crash_items.specs.Reading.{places-many}
+use Rattle.proof_crash_items.specs.Segs.{OnDrives, zone-low}
 use Rattle.proof_crash_calls.specs.Held.{Entry}
 use Rattle.proof_crash_calls.specs.Places.{record-at}
 use Rattle.proof_crash_calls.specs.Sends.{value-stamp}
 
-module _ (p : Params) (h : Ranged p) (g : Ghost) (v : View) (k : OnDrives p h g v) (none? : p .N ≤ g .un) (q a : ℕ) (e : Entry p h g (itemsIn p v) q a) where
+module _ (p : Params) (h : Ranged p) (g : Ghost) (v : View) (k : OnDrives p h g v) (none? : None (parOf p h) (g .un)) (q a : ℕ) (e : Entry p h g (itemsIn p v) q a) where
   abbrev dd : ℕ
   dd = placeDrive p q
 
   abbrev zz : ℕ
   zz = placeZone p q
 
-  trust : dd ≢ g .un
-  trust = omega (arith, e .drive, none?)
+  trust : g .un dd ≡ false
+  trust = none? dd (e .drive)
 
   abbrev zone : Zone
   zone = zoneAt v (placeDrive p q) (placeZone p q)

@@ -17,12 +17,10 @@ use Rattle.spec.specs.Params.{dataCount, inflightLen}
 use Rattle.spec.specs.Write.{placed}
 use Rattle.law_basic.specs.Geometry.{Ranged, data-count-high}
 use Rattle.law_drives.specs.Tables.{zero-at}
-use Rattle.proof_crash_items.specs.Items.{valueOf}
-use Rattle.proof_crash_items.specs.Ranges.{parOf}
 use Rattle.proof_crash_machine.specs.Exec.{or-1}
 use Rattle.proof_crash_machine.specs.Facts.{Ghost, Off}
-use Rattle.proof_crash_machine.specs.History.Mode.{run}
 use Rattle.proof_crash_machine.specs.History.{State as m-State, Inv}
+use Rattle.proof_crash_machine.specs.History.Mode.{run}
 use Rattle.proof_crash_machine.specs.History.Step.{close as m-close}
 use Rattle.proof_crash_machine.specs.Memory.{Mem, Flight, MemOk, flown}
 use Rattle.proof_crash_machine.specs.Order.{Track, noTrack}
@@ -30,6 +28,8 @@ use Rattle.proof_crash_machine.specs.Put.{off-in}
 use Rattle.proof_crash_machine.specs.Val.{Val, pads}
 use Rattle.proof_crash_machine.specs.View.Item.{chunk}
 use Rattle.proof_crash_machine.specs.View.{View as m-View}
+use Rattle.proof_crash_items.specs.Items.{valueOf}
+use Rattle.proof_crash_items.specs.Ranges.{parOf}
 use Rattle.proof_crash_calls.specs.Cells.{add-filled}
 use Rattle.proof_crash_calls.specs.Go.{mst, Go, go-none, go-step, go-then, go-inv}
 use Rattle.proof_crash_calls.specs.Placed.{ready-more, placed-state, placed-long, placed-rel, placed-waits, placed-used}

@@ -7,17 +7,17 @@ use lib.ListN.{take}
 use Rattle.spec.specs.declared.Params.{Params}
 use Rattle.spec.specs.Drives.{View, Store, storeView, storeAll}
 use Rattle.law_basic.specs.Geometry.{Ranged}
-use Rattle.proof_crash_items.specs.Items.{itemsIn}
-use Rattle.proof_crash_items.specs.Ranges.{parOf}
-use Rattle.proof_crash_items.specs.Sound.{Sound, AllSound}
 use Rattle.proof_crash_machine.specs.Facts.{Par, Ghost, InV}
-use Rattle.proof_crash_machine.specs.History.{Mode, State as m-State, Inv, Step, kept, Run, kept-all, start, began as m-began}
+use Rattle.proof_crash_machine.specs.History.{Mode, State as m-State, Inv, Step, Run, kept-all, start, began as m-began, kept}
 use Rattle.proof_crash_machine.specs.History.Mode.{off}
 use Rattle.proof_crash_machine.specs.History.Step.{lose}
 use Rattle.proof_crash_machine.specs.History.Run.{stop, then}
-use Rattle.proof_crash_machine.specs.Order.{Track, Tracked, track, tracked, runTrack, noTrack}
+use Rattle.proof_crash_machine.specs.Order.{Track, Tracked, track, runTrack, noTrack, tracked}
 use Rattle.proof_crash_machine.specs.Val.{Val}
 use Rattle.proof_crash_machine.specs.View.{View as m-View}
+use Rattle.proof_crash_items.specs.Items.{itemsIn}
+use Rattle.proof_crash_items.specs.Ranges.{parOf}
+use Rattle.proof_crash_items.specs.Sound.{Sound, AllSound}
 
 abbrev pub mst : Ghost → m-View → List Val → Bool → Mode → m-State
 mst g v a c m = record { g = g; v = v; acked = a; since = c; mode = m }

@@ -10,8 +10,7 @@ use Rattle.spec.specs.Counts.{neverPlace}
 use Rattle.spec.specs.Memory.{placeAt}
 use Rattle.spec.specs.Params.{placeBlock, placeZone, placeDrive}
 use Rattle.law_basic.specs.Geometry.{Ranged}
-use Rattle.proof_crash_items.specs.Ranges.{parOf}
-use Rattle.proof_crash_machine.specs.Facts.{Par, Heads, Ghost, Counted, Off, Facts, used}
+use Rattle.proof_crash_machine.specs.Facts.{Par, Heads, Ghost, Counted, Off, Facts, used, self}
 use Rattle.proof_crash_machine.specs.Facts.Pair.{alone}
 use Rattle.proof_crash_machine.specs.Ghosts.{withSent}
 use Rattle.proof_crash_machine.specs.Lemma.{pair-alone}
@@ -20,6 +19,8 @@ use Rattle.proof_crash_machine.specs.Rebuild.{in-off}
 use Rattle.proof_crash_machine.specs.Val.{Val}
 use Rattle.proof_crash_machine.specs.View.{Item, View as m-View, after, In}
 use Rattle.proof_crash_machine.specs.View.Item.{chunk, foot}
+use Rattle.proof_crash_machine.specs.Mask.{Mask}
+use Rattle.proof_crash_items.specs.Ranges.{parOf}
 
 -- ---- drives that grew
 
@@ -47,13 +48,13 @@ pub grown-some : (P : Par) (v v′ : m-View) → Grown P v v′ → (e y : ℕ) 
 grown-some P v v′ a e y l b = let o : Off (v′ e y) 0 (getD (v e y) 0 (foot 0)) = a .fwd e y 0 (getD (v e y) 0 (foot 0)) l (b, refl) in omega (arith, o .0)
 
 -- what counts still does, in its segment
-abbrev pub counted-grown : (P : Par) (hd : Heads) (v v′ : m-View) → Grown P v v′ → (m : ℕ) (x : Val) → Counted P hd v m x → Counted P hd v′ m x
+abbrev pub counted-grown : (P : Par) (hd : Heads) (v v′ : m-View) → Grown P v v′ → (m : Mask) (x : Val) → Counted P hd v m x → Counted P hd v′ m x
 counted-grown P hd v v′ a m x q = record {
   z = q .z;
   s = q .s;
   f = q .f;
   rem = record { left = λ d l n. grown-some P v v′ a d (q .z) l (q .rem .left d l n); own = λ o k e. q .rem .own o (λ d l n. a .back d o l (k d l n)) e };
-  st = record { on = λ d l n. grown-in P v v′ a d (q .z) (chunk (q .s) (q .f d)) l (q .st .on d l n); xor = q .st .xor };
+  st = record { on = λ d l n. grown-in P v v′ a d (q .z) (chunk (q .s) (q .f d)) l (q .st .on d l n); word = q .st .word };
   dt = q .dt;
 }
 
@@ -66,14 +67,14 @@ counted-kept P g g′ v v′ f no-pair un x q same = record {
   s = q .s;
   f = q .f;
   rem = record {
-    left = λ d l n. subst (λ (y : List Item). 0 < length y) (sym (same d l)) (q .rem .left d l (λ e. n (e ∙ sym un)));
+    left = λ d l n. subst (λ (y : List Item). 0 < length y) (sym (same d l)) (q .rem .left d l (ap (λ (y : Mask). y d) (sym un) ∙ n));
     own =
         λ o k e. pair-alone (sym (f .swap .one (q .z) o
-        (used P g′ v′ (g′ .un) (q .z) (inr refl)
-        (λ d l n. subst (λ (y : List Item). 0 < length y) (sym (same d l)) (q .rem .left d l (λ e. n (e ∙ sym un)))))
-        (used P g′ v′ (g′ .un) o (inr refl) k) e) ∙ no-pair);
+        (used P g′ v′ (g′ .un) (q .z) (self P (g′ .un) (f .lost .few))
+        (λ d l n. subst (λ (y : List Item). 0 < length y) (sym (same d l)) (q .rem .left d l (ap (λ (y : Mask). y d) (sym un) ∙ n))))
+        (used P g′ v′ (g′ .un) o (self P (g′ .un) (f .lost .few)) k) e) ∙ no-pair);
   };
-  st = record { on = λ d l n. subst (λ (y : List Item). In (chunk (q .s) (q .f d)) y) (sym (same d l)) (q .st .on d l (λ e. n (e ∙ sym un))); xor = q .st .xor };
+  st = record { on = λ d l n. subst (λ (y : List Item). In (chunk (q .s) (q .f d)) y) (sym (same d l)) (q .st .on d l (ap (λ (y : Mask). y d) (sym un) ∙ n)); word = q .st .word };
   dt = q .dt;
 }
 

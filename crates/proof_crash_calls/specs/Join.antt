@@ -1,5 +1,4 @@
 -- Every call of a healthy run but a restart, refused, uncut or cut, keeps it or ends it. Assumes nothing.
-use Rattle.law_drives.specs.Tests.{clash}
 use mathlib.Core.Path.{_≡_, refl, sym, ap, _∙_, subst}
 use mathlib.Core.List.{List, [], _∷_, _++_, map, append-nil}
 use mathlib.Core.Bool.{Bool, true, false, cond, _&&_}
@@ -32,16 +31,17 @@ use Rattle.spec.specs.Rebuild.{rebuildChecks, rebuildStores, rebuildVerdict}
 use Rattle.spec.specs.Reclaim.{Victim, victim, victimSegment, victimLive, idle, reclaimChecks, resetPlan, copyPlan, reclaimVerdict}
 use Rattle.spec.specs.Segments.{segments}
 use Rattle.spec.specs.Write.{sending, writeChecks, writePlan, writeVerdict}
+use Rattle.law_drives.specs.Tests.{clash}
 use Rattle.law_basic.specs.Geometry.{Ranged}
 use Rattle.law_basic.specs.Ranges.{and-left, and-right}
 use Rattle.law_views.specs.Views.{Whole, seen}
 use Rattle.law_calls.specs.Refusals.{refusal-kind, refused-unfinished}
 use Rattle.law_drives.specs.Tests.{cond-false}
+use Rattle.law_checks.specs.Passed.{write-passed, land-passed, close-passed, reclaim-passed, rebuild-passed}
+use Rattle.proof_crash_machine.specs.Facts.{Ghost}
 use Rattle.proof_crash_items.specs.Member.{or-false}
 use Rattle.proof_crash_items.specs.Named.{named-some}
 use Rattle.proof_crash_items.specs.Seen.{seen-stores, seen-cut, whole-all, whole-cut}
-use Rattle.proof_crash_machine.specs.Facts.{Ghost}
-use Rattle.law_checks.specs.Passed.{write-passed, land-passed, close-passed, reclaim-passed, rebuild-passed}
 use Rattle.proof_crash_calls.specs.Go.{Later, later-same}
 use Rattle.proof_crash_calls.specs.Land.{landCount, landSends, land-ok}
 use Rattle.proof_crash_calls.specs.Landed.{land-asked}
@@ -192,9 +192,6 @@ module _ (p : Params) (h : Ranged p) (k : Disk) (m : Memory) (ss : List Send) (n
 
   abbrev long : Bool
   long = lentOk p k m
-
-  abbrev after : Call → After Disk
-  after c = callDisk p k m c
 
   abbrev Goal : Call → Type 0
   Goal c = Next p h (x .live .g) n (callDisk p k m c) (sentAfter c (callDisk p k m c .answer) ss)

@@ -2,7 +2,7 @@
 use mathlib.Core.Path.{_≡_, refl, sym, ap, ap₂, _∙_, subst}
 use mathlib.Core.List.{List, [], _∷_, map}
 use mathlib.Core.Bool.{Bool, true, false, cond, not, _&&_, _||_}
-use mathlib.Core.Logic.{inl, inr, ⊎-elim, _≢_}
+use mathlib.Core.Logic.{inl, ⊎-elim, _≢_}
 use Prim.Native.Nat.{ℕ, suc, _+_, _-_, _^_, _≤_, _<_}
 use native.Mathlib.Decide.{ℕ-discrete}
 use borrow.Author.Tests.{le-ltb, eq-eqb, ne-eqb, leb-true, ltb-false, eqb-true, eqb-false}
@@ -26,18 +26,11 @@ use Rattle.law_basic.specs.Geometry.{Ranged}
 use Rattle.law_basic.specs.Ranges.{Test, test, and-left, and-right, and-both, and-fails}
 use Rattle.law_basic.specs.Ranges.Test.{yes!, no! }
 use Rattle.law_drives.specs.Tests.{cond-true, cond-false}
-use Rattle.proof_crash_items.specs.Items.{valueOf, itemsIn, items-in, length-of}
-use Rattle.proof_crash_items.specs.Member.{Has, has-keep, has-upFrom, has-below}
-use Rattle.proof_crash_items.specs.Ranges.{capacity-few, parity-on, parOf}
-use Rattle.proof_crash_items.specs.Segs.{OnDrives}
-use Rattle.proof_crash_items.specs.Shape.{Shape, zone-set, zone-set-other, shape-store}
-use Rattle.proof_crash_items.specs.Sound.{AllSound, sound-fits, bytes-store}
 use Rattle.proof_crash_machine.specs.Exec.{or-cases}
-use Rattle.proof_crash_machine.specs.Facts.{Ghost, InV, L, Counted, Off, Ragged, used}
-use Rattle.proof_crash_machine.specs.Filling.{shut}
+use Rattle.proof_crash_machine.specs.Facts.{Ghost, InV, L, Counted, Off, Ragged, used, self-none, None}
 use Rattle.proof_crash_machine.specs.Ghosts.{withBase}
-use Rattle.proof_crash_machine.specs.History.Mode.{run}
 use Rattle.proof_crash_machine.specs.History.{Inv}
+use Rattle.proof_crash_machine.specs.History.Mode.{run}
 use Rattle.proof_crash_machine.specs.History.Step.{seal}
 use Rattle.proof_crash_machine.specs.Lemma.{pair-alone}
 use Rattle.proof_crash_machine.specs.Memory.{Mem, ended}
@@ -46,6 +39,13 @@ use Rattle.proof_crash_machine.specs.Put.{off-in, in-fwd}
 use Rattle.proof_crash_machine.specs.Val.{Val}
 use Rattle.proof_crash_machine.specs.View.Item.{chunk}
 use Rattle.proof_crash_machine.specs.View.{View as m-View, after, In}
+use Rattle.proof_crash_machine.specs.Filling.{shut}
+use Rattle.proof_crash_items.specs.Items.{valueOf, itemsIn, items-in, length-of}
+use Rattle.proof_crash_items.specs.Member.{Has, has-keep, has-upFrom, has-below}
+use Rattle.proof_crash_items.specs.Ranges.{capacity-few, parity-on, parOf, apart-code}
+use Rattle.proof_crash_items.specs.Segs.{OnDrives}
+use Rattle.proof_crash_items.specs.Shape.{Shape, zone-set, zone-set-other, shape-store}
+use Rattle.proof_crash_items.specs.Sound.{AllSound, sound-fits, bytes-store}
 use Rattle.proof_crash_calls.specs.Ack.{ackBase, ack-go}
 use Rattle.proof_crash_calls.specs.Base.{has-slot, another, lone-pass, setAt-else}
 use Rattle.proof_crash_calls.specs.Cells.{land-number, land-filled, land-entry}
@@ -146,9 +146,6 @@ module _ (p : Params) (h : Ranged p) (v : View) (m : Memory) (ss : List Send) (n
   abbrev o : ℕ
   o = pointerAt v d (l .M .zone) - 1
 
-  abbrev g₁ : Ghost
-  g₁ = l .g
-
   I : Inv (parOf p h) (mst (l .g) (itemsIn p v) (l .a) (l .c) (run (l .M)))
   I = live-inv p h v (m .state) (m .inflight) (m .addresses) ss n l
 
@@ -198,7 +195,7 @@ module _ (p : Params) (h : Ranged p) (v : View) (m : Memory) (ss : List Send) (n
   I₁ : Inv (parOf p h) (mst (l .g) (itemsIn p u) (l .a) (l .c) (run M))
   I₁ = go-inv (parOf p h) (mst (l .g) v₀ (l .a) (l .c) (run M)) (mst (l .g) (itemsIn p u) (l .a) (l .c) (run M)) (l .T) (l .T) (step (l .T)) I
 
-  none? : p .N ≤ l .g .un
+  none? : None (parOf p h) (l .g .un)
   none? = live-none p h v (m .state) (m .inflight) (m .addresses) ss n l
 
   drives-u : OnDrives p h (l .g) u
@@ -287,12 +284,12 @@ module _ (p : Params) (h : Ranged p) (v : View) (m : Memory) (ss : List Send) (n
         rem = record {
           left = left;
           own =
-              λ x k q. pair-alone (sym (I₁ .facts .swap .one z x (used (parOf p h) (l .g) (itemsIn p u) (l .g .un) z (inr refl) left)
-              (used (parOf p h) (l .g) (itemsIn p u) (l .g .un) x (inr refl) k) q)
+              λ x k q. pair-alone (sym (I₁ .facts .swap .one z x (used (parOf p h) (l .g) (itemsIn p u) (l .g .un) z (self-none (parOf p h) (l .g .un) none?) left)
+              (used (parOf p h) (l .g) (itemsIn p u) (l .g .un) x (self-none (parOf p h) (l .g .un) none?) k) q)
               ∙ I₁ .mode .no-pair);
         };
-        st = record { on = λ x b k. off-in (itemsIn p u x z) (suc (offsetIn st₁ i x)) (chunk s (M .F s x)) (bits x b); xor = land-flight p h v m ss n l fits d s A .2 .xor };
-        dt = record { d = e; lt = el; data? = np; val = refl };
+        st = record { on = λ x b k. off-in (itemsIn p u x z) (suc (offsetIn st₁ i x)) (chunk s (M .F s x)) (bits x b); word = land-flight p h v m ss n l fits d s A .2 .word };
+        dt = record { d = e; lt = el; data? = apart-code p h s e np; val = refl };
       },
       refl,
     )

@@ -22,15 +22,15 @@ use Rattle.law_basic.specs.Geometry.{Ranged}
 use Rattle.law_basic.specs.Mask.{isIn-with, with-lt, ones-all}
 use Rattle.law_basic.specs.Ranges.{all-in-below, or-left}
 use Rattle.law_drives.specs.Tests.{clash, not-so}
-use Rattle.proof_crash_items.specs.Items.{valueOf}
 use Rattle.proof_crash_machine.specs.Exec.{true≢false}
 use Rattle.proof_crash_machine.specs.Facts.{Off}
-use Rattle.proof_crash_machine.specs.Filling.{shut}
 use Rattle.proof_crash_machine.specs.Memory.{setAt, Mem, ended}
 use Rattle.proof_crash_machine.specs.Put.{length-snoc, off-in, off-left, in-fwd, in-back as Put·in-back, drive-other, each as Put·each}
 use Rattle.proof_crash_machine.specs.Val.{Val}
 use Rattle.proof_crash_machine.specs.View.{Item, View as m-View, upd-same, after, In, chunk-num}
 use Rattle.proof_crash_machine.specs.View.Item.{chunk, foot}
+use Rattle.proof_crash_machine.specs.Filling.{shut}
+use Rattle.proof_crash_items.specs.Items.{valueOf}
 use Rattle.proof_crash_calls.specs.Base.{or-r, setAt-here, setAt-else}
 use Rattle.proof_crash_calls.specs.Cells.{SameSlot, same-used, same-then, land-long, land-number, land-filled, land-entry, land-write, land-landed, land-offset}
 use Rattle.proof_crash_calls.specs.Cells.{land-offset-old, land-same, free-long, free-filled, free-same, closed-same}

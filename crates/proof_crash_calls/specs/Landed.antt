@@ -21,20 +21,15 @@ use Rattle.spec.specs.Lists.{below, consIf, indexOf, flat, isIn}
 use Rattle.spec.specs.Memory.{Memory, slotCount, slots, stripeIn, filledIn, landedIn, entryIn, entriesIn, offsetIn, openSegment, isFree, isFull, stateOk, slotBlock}
 use Rattle.spec.specs.Params.{between, dataCount, footers, capacity, inflightLen, drivesOf}
 use Rattle.spec.specs.Parity.{parityRec}
-use Rattle.law_basic.specs.Geometry.{between-low, between-high, Ranged, position-drive, drive-is-data, data-drive-lt, data-not-parity}
+use Rattle.law_basic.specs.Geometry.{between-low, between-high, Ranged, position-drive, drive-is-data, data-drive-lt}
 use Rattle.law_basic.specs.Ranges.{and-left, and-right, and-fails}
 use Rattle.law_drives.specs.Members.{if-none}
 use Rattle.law_drives.specs.Tests.{cond-true, cond-false}
-use Rattle.proof_crash_items.specs.Codec.{Wide}
-use Rattle.proof_crash_items.specs.Items.{valueOf, itemsIn, storeItem, items-store}
-use Rattle.proof_crash_items.specs.Member.{has-below, any-false}
-use Rattle.proof_crash_items.specs.Ranges.{parOf}
-use Rattle.proof_crash_items.specs.Sound.{Sound, sound-fits, store-put}
-use Rattle.proof_crash_items.specs.ZoneBytes.{Kind, kindItem}
-use Rattle.proof_crash_items.specs.ZoneBytes.Kind.{datum}
+use Rattle.law_drives.specs.Slots.{slot-found}
+use Rattle.law_checks.specs.Passed.{land-passed}
 use Rattle.proof_crash_machine.specs.Facts.{Datum}
-use Rattle.proof_crash_machine.specs.History.Mode.{run}
 use Rattle.proof_crash_machine.specs.History.{Inv}
+use Rattle.proof_crash_machine.specs.History.Mode.{run}
 use Rattle.proof_crash_machine.specs.History.Step.{land as m-land}
 use Rattle.proof_crash_machine.specs.Memory.{Mem, Flight}
 use Rattle.proof_crash_machine.specs.Order.{Track}
@@ -42,8 +37,14 @@ use Rattle.proof_crash_machine.specs.Val.{Val}
 use Rattle.proof_crash_machine.specs.View.Item.{chunk}
 use Rattle.proof_crash_machine.specs.View.Store.{put as m-put}
 use Rattle.proof_crash_machine.specs.View.{after, apply, In}
+use Rattle.proof_crash_items.specs.Codec.{Wide}
+use Rattle.proof_crash_items.specs.Items.{valueOf, itemsIn, storeItem, items-store}
+use Rattle.proof_crash_items.specs.Member.{has-below, any-false}
+use Rattle.proof_crash_items.specs.Ranges.{parOf, data-code, code-word}
+use Rattle.proof_crash_items.specs.Sound.{Sound, sound-fits, store-put}
+use Rattle.proof_crash_items.specs.ZoneBytes.{Kind, kindItem}
+use Rattle.proof_crash_items.specs.ZoneBytes.Kind.{datum}
 use Rattle.proof_crash_calls.specs.Base.{eqb-self, slot-any}
-use Rattle.law_drives.specs.Slots.{slot-found}
 use Rattle.proof_crash_calls.specs.Go.{mst, Go, go-step, go-view}
 use Rattle.proof_crash_calls.specs.Live.{Live, live-inv, live-len}
 use Rattle.proof_crash_calls.specs.Placed.{ready-data, ready-parity, drive-cases}
@@ -51,7 +52,6 @@ use Rattle.proof_crash_calls.specs.Rel.{readyAt, SlotOf, inUse}
 use Rattle.proof_crash_calls.specs.Sending.{opened-low, slots-ok}
 use Rattle.proof_crash_calls.specs.Sends.{value-addr, value-stamp}
 use Rattle.proof_crash_calls.specs.Slots.{slot-long}
-use Rattle.law_checks.specs.Passed.{land-passed}
 use Rattle.proof_crash_calls.specs.Xored.{parity-is, Fits8, good-fits, parity-wide}
 
 -- what a landing's checks say
@@ -211,7 +211,8 @@ module _ (p : Params) (h : Ranged p) (v : View) (m : Memory) (ss : List Send) (n
       e = subst (λ (x : ℕ). M .F s (dataDrive p x k) ≡ valueOf (slotBlock p fl i (dataDrive p x k)) (entryIn st i k)) (A .number) (land-slot .held k b)
 
       f : Fits8 (valueOf (slotBlock p fl i (dataDrive p s k)) (entryIn st i k))
-      f = good (valueOf (slotBlock p fl i (dataDrive p s k)) (entryIn st i k)) (record { d = dataDrive p s k; lt = data-drive-lt p s k b′; data? = λ q. data-not-parity p s k q; val = e })
+      f = good (valueOf (slotBlock p fl i (dataDrive p s k)) (entryIn st i k))
+          (record { d = dataDrive p s k; lt = data-drive-lt p s k b′; data? = data-code p h s (dataDrive p s k) (drive-is-data p s k); val = e })
 
       fit : (entryIn st i k .address < 256 ^ 8) × (entryIn st i k .stamp < 256 ^ 8)
       fit = (
@@ -249,7 +250,7 @@ module _ (p : Params) (h : Ranged p) (v : View) (m : Memory) (ss : List Send) (n
     val = ap (λ (x : ℕ). valueOf (slotBlock p fl i x) (parityRec s (map (entryIn st i) (below (filledIn st i))))) e
         ∙ subst (λ (x : ℕ). valueOf (slotBlock p fl i (parityDrive p x)) (parityRec x (map (entryIn st i) (below (filledIn st i)))) ≡ M .F s (parityDrive p x)) (A .number)
         (parity-is p h (λ e. itemsIn p v e z) (slotBlock p fl i) (entryIn st i) (offsetIn st i) (stripeIn st i) (filledIn st i) (landedIn st i) (M .F s) (M .ready s) land-slot
-        (λ x b. slot-long p fl fits i x (A .low) b) full (land-flight .2 .xor))
+        (λ x b. slot-long p fl fits i x (A .low) b) full (code-word p h s (M .F s) (land-flight .2 .word)))
         ∙ ap (M .F s) (sym e);
     stripe = unfold parityRec in refl;
     wide = parity-wide s (filledIn st i) (entryIn st i) (omega (arith, number-low, h .stripes-high)) (λ j b. land-held j b .1);

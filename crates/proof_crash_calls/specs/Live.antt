@@ -1,8 +1,7 @@
 -- Where a history stands: a machine state with its invariant and the order of its sends, with the drives' items, byte facts, log and memory. Assumes nothing.
-use mathlib.Core.Path.{_≡_, sym, _∙_}
+use mathlib.Core.Path.{_≡_, sym, _∙_, ap}
 use mathlib.Core.List.{List, map}
 use mathlib.Core.Bool.{Bool, false}
-use mathlib.Core.Logic.{_≢_}
 use Prim.Native.Nat.{ℕ, _≤_, _<_}
 use native.Mathlib.Omega.{arith}
 use lib.ListN.{length, take}
@@ -13,17 +12,18 @@ use Rattle.spec.specs.Demands.{sendAt}
 use Rattle.spec.specs.Drives.{View, pointerAt, Store, storeView, storeAll}
 use Rattle.spec.specs.History.{Send, forget}
 use Rattle.law_basic.specs.Geometry.{Ranged}
-use Rattle.proof_crash_items.specs.Items.{itemsIn}
-use Rattle.proof_crash_items.specs.Ranges.{parOf}
-use Rattle.proof_crash_items.specs.Segs.{OnDrives, zone-len}
-use Rattle.proof_crash_items.specs.Shape.{Shape, shape-stores}
-use Rattle.proof_crash_items.specs.Sound.{AllSound, BytesOk, all-fit, bytes-stores, sound-take}
-use Rattle.proof_crash_machine.specs.Facts.{Ghost, InV}
+use Rattle.proof_crash_machine.specs.Facts.{Ghost, InV, None}
 use Rattle.proof_crash_machine.specs.History.{Mode, State as m-State, Inv}
 use Rattle.proof_crash_machine.specs.History.Mode.{off, run}
 use Rattle.proof_crash_machine.specs.Memory.{Mem}
 use Rattle.proof_crash_machine.specs.Order.{Track, Tracked}
 use Rattle.proof_crash_machine.specs.Val.{Val}
+use Rattle.proof_crash_machine.specs.Mask.{Mask}
+use Rattle.proof_crash_items.specs.Items.{itemsIn}
+use Rattle.proof_crash_items.specs.Ranges.{parOf}
+use Rattle.proof_crash_items.specs.Segs.{OnDrives, zone-len}
+use Rattle.proof_crash_items.specs.Shape.{Shape, shape-stores}
+use Rattle.proof_crash_items.specs.Sound.{AllSound, BytesOk, all-fit, bytes-stores, sound-take}
 use Rattle.proof_crash_calls.specs.Fill.{Within}
 use Rattle.proof_crash_calls.specs.Go.{mst, Later, later-same, Go, go-inv, go-tracked}
 use Rattle.proof_crash_calls.specs.Held.{TableOk}
@@ -60,7 +60,7 @@ pub record Stopped (p : Params) (h : Ranged p) (v : View) (ss : List Send) (n : 
   pub c : Bool
   pub T : Track
   pub reached : Reached p h v ss n g a c off T
-  pub healthy : p .N ≤ g .un
+  pub healthy : None (parOf p h) (g .un)
   pub idle : (j : ℕ) → j < length ss → sendAt ss j .waits ≡ false
 
 -- what a call with plan q does from ghost g, uncut and cut
@@ -76,15 +76,15 @@ module _ (p : Params) (h : Ranged p) (v : View) (st : State) (fl tb : List ℕ) 
   pub live-inv : Inv (parOf p h) (mst (l .g) (itemsIn p v) (l .a) (l .c) (run (l .M)))
   live-inv = l .reached .inv
 
-  pub live-none : p .N ≤ l .g .un
+  pub live-none : None (parOf p h) (l .g .un)
   live-none = live-inv .mode .none
 
   pub live-drives : OnDrives p h (l .g) v
   live-drives = record { shape = l .reached .shape; bytes = l .reached .bytes; facts = live-inv .facts }
 
   -- a drive is trusted
-  pub live-trust : (d : ℕ) → d < p .N → d ≢ l .g .un
-  live-trust d b = omega (arith, b, live-none)
+  pub live-trust : (d : ℕ) → d < p .N → l .g .un d ≡ false
+  live-trust d b = live-none d b
 
   pub live-len : (d z : ℕ) → d < p .N → z < p .Z → length (itemsIn p v d z) ≡ pointerAt v d z
   live-len d z b k = zone-len p h (l .g) v live-drives d z b (live-trust d b) k
@@ -105,7 +105,7 @@ module _ (p : Params) (h : Ranged p) (v : View) (st : State) (fl tb : List ℕ) 
         inv = go-inv (parOf p h) σ (mst g′ (itemsIn p (storeAll storeView ws v)) a′ c′ (run M′)) (l .T) T′ go live-inv;
         tracked = go-tracked (parOf p h) σ (mst g′ (itemsIn p (storeAll storeView ws v)) a′ c′ (run M′)) (l .T) T′ go live-inv (l .reached .tracked);
         shape = shape-stores p v ws (l .reached .shape) (all-fit p h v ws (l .reached .shape) sound);
-        bytes = λ d b k. bytes-stores p h v ws (l .reached .shape) sound d (l .reached .bytes d b (λ e. k (e ∙ sym (lt .un))));
+        bytes = λ d b k. bytes-stores p h v ws (l .reached .shape) sound d (l .reached .bytes d b (ap (λ (y : Mask). y d) (sym (lt .un)) ∙ k));
         logged = logged;
         marked = marked;
         still = still;
@@ -131,12 +131,12 @@ module _ (p : Params) (h : Ranged p) (v : View) (st : State) (fl tb : List ℕ) 
         inv = go-inv (parOf p h) σ (mst g′ (itemsIn p (storeAll storeView (take k ws) v)) (l .a) (l .c) off) (l .T) (l .T) go live-inv;
         tracked = go-tracked (parOf p h) σ (mst g′ (itemsIn p (storeAll storeView (take k ws) v)) (l .a) (l .c) off) (l .T) (l .T) go live-inv (l .reached .tracked);
         shape = shape-stores p v (take k ws) (l .reached .shape) (all-fit p h v (take k ws) (l .reached .shape) (sound-take p v ws k sound));
-        bytes = λ d b e. bytes-stores p h v (take k ws) (l .reached .shape) (sound-take p v ws k sound) d (l .reached .bytes d b (λ q. e (q ∙ sym (lt .un))));
+        bytes = λ d b e. bytes-stores p h v (take k ws) (l .reached .shape) (sound-take p v ws k sound) d (l .reached .bytes d b (ap (λ (y : Mask). y d) (sym (lt .un)) ∙ e));
         logged = forget-logged p (l .a) (l .T) ss (l .reached .logged);
         marked = omega (arith, l .reached .marked, length-forget ss);
         still = λ e. l .reached .still (sym (length-forget ss) ∙ e);
       };
-      healthy = omega (arith, lt .un, live-none);
+      healthy = λ d b. ap (λ (y : Mask). y d) (lt .un) ∙ live-none d b;
       idle = forget-waits ss;
     },
     lt,

@@ -1,5 +1,5 @@
 -- A segment is opened: headers in the lowest zone empty on all drives. Assumes nothing.
-use mathlib.Core.Path.{_≡_, refl, sym, ap, ap₂, _∙_}
+use mathlib.Core.Path.{_≡_, refl, sym, ap, _∙_}
 use mathlib.Core.List.{List, [], _∷_}
 use mathlib.Core.Bool.{Bool, true, false, not}
 use mathlib.Core.Logic.{inl, _≢_}
@@ -17,24 +17,17 @@ use Rattle.spec.specs.Lists.Opt.{none}
 use Rattle.spec.specs.Lists.{below, isNil, firstOr}
 use Rattle.spec.specs.Memory.{setOpen}
 use Rattle.spec.specs.Params.{drivesOf}
-use Rattle.law_basic.specs.Geometry.{Ranged}
+use Rattle.law_basic.specs.Geometry.{Ranged, zone-on-lt}
 use Rattle.law_views.specs.Views.{Fits}
 use Rattle.law_drives.specs.Headers.{empty-all}
 use Rattle.law_drives.specs.Tests.{clash}
-use Rattle.proof_crash_items.specs.Items.{itemsFrom, itemsOf, itemsIn, storeItem}
-use Rattle.proof_crash_items.specs.Member.{Has, keep-has, below-has, firstOr-has}
-use Rattle.proof_crash_items.specs.Ranges.{parOf}
-use Rattle.proof_crash_items.specs.Shape.{Shape, zone-set-other, shape-store}
-use Rattle.proof_crash_items.specs.Sound.{Sound, AllSound, sound-fits, Follows, follows-all, follows-cut, store-put, follows-list}
-use Rattle.proof_crash_items.specs.ZoneBytes.{Kind, kindItem}
-use Rattle.proof_crash_items.specs.ZoneBytes.Kind.{header}
 use Rattle.proof_crash_machine.specs.Exec.{true≢false}
 use Rattle.proof_crash_machine.specs.Facts.Pair.{alone}
-use Rattle.proof_crash_machine.specs.Facts.{Ghost}
+use Rattle.proof_crash_machine.specs.Facts.{Ghost, Used}
 use Rattle.proof_crash_machine.specs.History.Mode.{off, run}
 use Rattle.proof_crash_machine.specs.History.{Inv, Opens}
 use Rattle.proof_crash_machine.specs.History.Step.{open-cut, open-done}
-use Rattle.proof_crash_machine.specs.Memory.{Mem, MemOk}
+use Rattle.proof_crash_machine.specs.Memory.{Mem}
 use Rattle.proof_crash_machine.specs.Memory2.{openMem}
 use Rattle.proof_crash_machine.specs.Name.{setN-same, naming}
 use Rattle.proof_crash_machine.specs.OpenSeg.{headers, Fresh, opened}
@@ -43,6 +36,15 @@ use Rattle.proof_crash_machine.specs.Val.{Val}
 use Rattle.proof_crash_machine.specs.View.Item.{hdr}
 use Rattle.proof_crash_machine.specs.View.{View as m-View, Store as m-Store, applyAll}
 use Rattle.proof_crash_machine.specs.View.Store.{put as m-put}
+use Rattle.proof_crash_items.specs.Items.{itemsFrom, itemsOf, itemsIn, storeItem}
+use Rattle.proof_crash_items.specs.Member.{Has, keep-has, below-has, firstOr-has}
+use Rattle.proof_crash_items.specs.Ranges.{parOf}
+use Rattle.proof_crash_items.specs.Shape.{Shape, zone-set-other, shape-store}
+use Rattle.proof_crash_items.specs.Sound.{Sound, AllSound, sound-fits, Follows, follows-all, follows-cut, store-put, follows-list}
+use Rattle.proof_crash_items.specs.ZoneBytes.{Kind, kindItem}
+use Rattle.proof_crash_items.specs.ZoneBytes.Kind.{header}
+use Rattle.proof_crash_items.specs.Segs.{OnDrives, used-zones}
+use Rattle.proof_crash_items.specs.Zoning.{zone-apart}
 use Rattle.proof_crash_calls.specs.Base.{another}
 use Rattle.proof_crash_calls.specs.Cells.{same-used, open-same}
 use Rattle.proof_crash_calls.specs.Go.{mst, Go, go-step, go-view}
@@ -78,19 +80,36 @@ module _ (p : Params) (v : View) (two : 2 ≤ length (emptyZones p v)) where
   pub other-empty : (j : ℕ) × (j < p .Z) × (emptyOnAll p v j ≡ true) × (j ≢ lowest)
   other-empty = another (emptyOnAll p v) (p .Z) lowest (unfold emptyZones segmentNumbers in two)
 
+  pub lowest-none : (d : ℕ) → d < p .N → itemsIn p v d lowest ≡ []
+  lowest-none d l = no-items p v d lowest (empty-all p v lowest (lowest-empty .1) d l)
+
+  pub other-none : (d : ℕ) → d < p .N → itemsIn p v d (other-empty .0) ≡ []
+  other-none d l = no-items p v d (other-empty .0) (empty-all p v (other-empty .0) (other-empty .2) d l)
+
   -- what the machine asks before a segment is opened
-  pub may-open : (h : Ranged p) (g : Ghost) (M : Mem) → M .is-open ≡ false → Opens (parOf p h) g (itemsIn p v) M lowest
-  may-open h g M e = record {
-    shut? = e;
-    inZ = lowest-empty .0;
-    empty = λ d l. no-items p v d lowest (empty-all p v lowest (lowest-empty .1) d l);
-    space = (
-      other-empty .0,
-      other-empty .1,
-      other-empty .3,
-      λ (d, t, b). let z : ⊥ = omega (arith, b, ap length (no-items p v d (other-empty .0) (empty-all p v (other-empty .0) (other-empty .2) d (t .0)))) in z,
-    );
-  }
+  module _ (h : Ranged p) (g : Ghost) (k : OnDrives p h g v) where
+    -- the zones of an empty segment are no other's
+    pub empty-clear : (j : ℕ) → ((d : ℕ) → d < p .N → itemsIn p v d j ≡ []) → (y : ℕ) → Used (parOf p h) (g .un) (itemsIn p v) y → (d : ℕ) → d < p .N → g .hd .zn y d ≢ zoneOn j d
+    empty-clear j bare y (e, t, b) d l q =
+        let i : y ≡ j = zone-apart y j d (sym (ap (λ (f : ℕ → ℕ). f d) (used-zones p h g v k y (e, t, b))) ∙ q) in
+        let n : length (itemsIn p v e y) ≡ 0 = ap (λ (x : ℕ). length (itemsIn p v e x)) i ∙ ap length (bare e (t .0)) in
+        let z : ⊥ = omega (arith, n, b) in z
+
+    abbrev pub may-open : (M : Mem) → M .is-open ≡ false → Opens (parOf p h) g (itemsIn p v) M (firstOr 0 (emptyZones p v))
+    may-open M e = record {
+      shut? = e;
+      zs = zoneOn (firstOr 0 (emptyZones p v));
+      fits = λ d l. (zone-on-lt p (firstOr 0 (emptyZones p v)) d (lowest-empty .0), refl);
+      clear = empty-clear (firstOr 0 (emptyZones p v)) lowest-none;
+      empty = lowest-none;
+      space = λ d l. (
+        zoneOn (other-empty .0) d,
+        zone-on-lt p (other-empty .0) d (other-empty .1),
+        refl,
+        (λ q. other-empty .3 (zone-apart (other-empty .0) (firstOr 0 (emptyZones p v)) d (sym q))),
+        (λ z u. empty-clear (other-empty .0) other-none z u d l),
+      );
+    }
 
 -- ---- the headers are the machine's
 
@@ -99,7 +118,7 @@ module _ (p : Params) (h : Ranged p) (g : Ghost) (w r : ℕ) (wl : w < p .Z) (rl
   headerPut d = put d w (headerBlock p d w r 0) zeroSpare
 
   abbrev headerItem : ℕ → m-Store
-  headerItem d = m-put d w (hdr (naming g w r 0 alone .hd .ser w) (naming g w r 0 alone .hd .cop w))
+  headerItem d = m-put d w (hdr (naming g w r 0 (zoneOn w) alone .hd .ser w) (naming g w r 0 (zoneOn w) alone .hd .cop w) (naming g w r 0 (zoneOn w) alone .hd .zn w))
 
   -- drives from j on are still empty
   pub record EmptyFrom (j : ℕ) (u : View) : Type 0 where
@@ -110,7 +129,7 @@ module _ (p : Params) (h : Ranged p) (g : Ghost) (w r : ℕ) (wl : w < p .Z) (rl
   one-header j u l i = (sound, item?, record { shape = shape-store p u (headerPut j) (i .shape) fits; empty = λ e b c. other e b c ∙ i .empty e (omega arith) c })
     where
       kind : Kind p j w (zoneAt u j w) (headerBlock p j w r 0) zeroSpare
-      kind = header r 0 (unfold pointerAt in i .empty j (omega arith) l) rl (omega arith)
+      kind = header r 0 (unfold pointerAt in i .empty j (omega arith) l) (omega (arith, wl, h .zones-high)) rl (omega arith)
 
       sound : Sound p u (headerPut j)
       sound = (l, wl, kind)
@@ -120,19 +139,19 @@ module _ (p : Params) (h : Ranged p) (g : Ghost) (w r : ℕ) (wl : w < p .Z) (rl
 
       item? : storeItem p u (headerPut j) ≡ headerItem j
       item? = store-put p u j w (headerBlock p j w r 0) zeroSpare kind
-          ∙ (unfold kindItem in ap₂ (λ (x y : ℕ). m-put j w (hdr x y)) (sym (setN-same (g .hd .ser) w r)) (sym (setN-same (g .hd .cop) w 0)))
+          ∙ (unfold kindItem in λ i. m-put j w (hdr (sym (setN-same (g .hd .ser) w r) i) (sym (setN-same (g .hd .cop) w 0) i) (sym (setN-same (g .hd .zn) w (zoneOn w)) i)))
 
       other : (e : ℕ) → suc j ≤ e → e < p .N → pointerAt (storeView (headerPut j) u) e w ≡ pointerAt u e w
       other e b c = unfold pointerAt storeView in
           ap (λ (q : Zone). q .pointer) (zone-set-other p u (i .shape) j w (putZone (headerBlock p j w r 0) zeroSpare (zoneAt u j w)) l e w (inl (let n : e ≢ j = omega arith in n)))
 
-  pub headers-follow : (v : View) → Shape p v → ((e : ℕ) → e < p .N → pointerAt v e w ≡ 0) → Follows p v (headerStores p w r 0) (headers (parOf p h) g w r)
+  pub headers-follow : (v : View) → Shape p v → ((e : ℕ) → e < p .N → pointerAt v e w ≡ 0) → Follows p v (headerStores p w r 0) (headers (parOf p h) g w r (zoneOn w))
   unfolding headerStores zoneOn drivesOf below headers
   headers-follow v s q = follows-list p EmptyFrom headerPut headerItem (p .N) one-header 0 (p .N) (omega arith) v (record { shape = s; empty = λ e a b. q e b })
 
 -- ---- the call's part
 
-module _ (p : Params) (h : Ranged p) (g : Ghost) (v : View) (a : List Val) (c : Bool) (M : Mem) (s : Shape p v) (two : 2 ≤ length (emptyZones p v)) (shut? : M .is-open ≡ false)
+module _ (p : Params) (h : Ranged p) (g : Ghost) (v : View) (a : List Val) (c : Bool) (M : Mem) (on : OnDrives p h g v) (two : 2 ≤ length (emptyZones p v)) (shut? : M .is-open ≡ false)
     (fits : suc (M .serial) < 256 ^ 8) where
   abbrev w : ℕ
   w = firstOr 0 (emptyZones p v)
@@ -141,52 +160,49 @@ module _ (p : Params) (h : Ranged p) (g : Ghost) (v : View) (a : List Val) (c : 
   ss = headerStores p w (suc (M .serial)) 0
 
   abbrev g′ : Ghost
-  g′ = naming g (firstOr 0 (emptyZones p v)) (suc (M .serial)) 0 alone
+  g′ = naming g (firstOr 0 (emptyZones p v)) (suc (M .serial)) 0 (zoneOn (firstOr 0 (emptyZones p v))) alone
 
-  follow : Follows p v ss (headers (parOf p h) g w (suc (M .serial)))
-  follow = headers-follow p h g w (suc (M .serial)) (lowest-empty p v two .0) fits v s (empty-all p v w (lowest-empty p v two .1))
+  follow : Follows p v ss (headers (parOf p h) g w (suc (M .serial)) (zoneOn w))
+  follow = headers-follow p h g w (suc (M .serial)) (lowest-empty p v two .0) fits v (on .shape) (empty-all p v w (lowest-empty p v two .1))
 
   pub open-sound : AllSound p v ss
   open-sound = follow .sound
 
   pub open-go : (T : Track) → Go (parOf p h) (mst g (itemsIn p v) a c (run M)) (mst g′ (itemsIn p (storeAll storeView ss v)) a c (run (openMem M w (suc (M .serial))))) T T
   open-go T =
-      go-view (parOf p h) (mst g (itemsIn p v) a c (run M)) g′ (applyAll (itemsIn p v) (headers (parOf p h) g w (suc (M .serial))))
+      go-view (parOf p h) (mst g (itemsIn p v) a c (run M)) g′ (applyAll (itemsIn p v) (headers (parOf p h) g w (suc (M .serial)) (zoneOn w)))
       (itemsIn p (storeAll storeView ss v)) a c (run (openMem M w (suc (M .serial)))) T T
-      (sym (follows-all p h v ss (headers (parOf p h) g w (suc (M .serial))) s follow))
-      (go-step (parOf p h) (mst g (itemsIn p v) a c (run M)) (mst g′ (applyAll (itemsIn p v) (headers (parOf p h) g w (suc (M .serial)))) a c (run (openMem M w (suc (M .serial))))) T
-      (open-done (mst g (itemsIn p v) a c (run M)) M w refl (may-open p v two h g M shut?)))
+      (sym (follows-all p h v ss (headers (parOf p h) g w (suc (M .serial)) (zoneOn w)) (on .shape) follow))
+      (go-step (parOf p h) (mst g (itemsIn p v) a c (run M)) (mst g′ (applyAll (itemsIn p v) (headers (parOf p h) g w (suc (M .serial)) (zoneOn w))) a c (run (openMem M w (suc (M .serial))))) T
+      (open-done (mst g (itemsIn p v) a c (run M)) M w refl (may-open p v two h g on M shut?)))
 
   pub open-cut-go : (n : ℕ) (T : Track) → Go (parOf p h) (mst g (itemsIn p v) a c (run M)) (mst g′ (itemsIn p (storeAll storeView (take n ss) v)) a c off) T T
   open-cut-go n T =
-      go-view (parOf p h) (mst g (itemsIn p v) a c (run M)) g′ (applyAll (itemsIn p v) (take n (headers (parOf p h) g w (suc (M .serial))))) (itemsIn p (storeAll storeView (take n ss) v)) a c off T T
-      (sym (follows-cut p h v ss (headers (parOf p h) g w (suc (M .serial))) n s follow))
-      (go-step (parOf p h) (mst g (itemsIn p v) a c (run M)) (mst g′ (applyAll (itemsIn p v) (take n (headers (parOf p h) g w (suc (M .serial))))) a c off) T
-      (open-cut (mst g (itemsIn p v) a c (run M)) M w n refl (may-open p v two h g M shut?)))
+      go-view (parOf p h) (mst g (itemsIn p v) a c (run M)) g′ (applyAll (itemsIn p v) (take n (headers (parOf p h) g w (suc (M .serial)) (zoneOn w))))
+      (itemsIn p (storeAll storeView (take n ss) v)) a c off T T
+      (sym (follows-cut p h v ss (headers (parOf p h) g w (suc (M .serial)) (zoneOn w)) n (on .shape) follow))
+      (go-step (parOf p h) (mst g (itemsIn p v) a c (run M)) (mst g′ (applyAll (itemsIn p v) (take n (headers (parOf p h) g w (suc (M .serial)) (zoneOn w)))) a c off) T
+      (open-cut (mst g (itemsIn p v) a c (run M)) M w n refl (may-open p v two h g on M shut?)))
+
+  abbrev fresh : Inv (parOf p h) (mst g (itemsIn p v) a c (run M)) → Fresh (parOf p h) g (itemsIn p v) w (suc (M .serial))
+  fresh I = record {
+    none = I .mode .none;
+    no-pair = I .mode .no-pair;
+    empty = may-open p v two h g on M shut? .empty;
+    zs = zoneOn w;
+    fits = may-open p v two h g on M shut? .fits;
+    clear = may-open p v two h g on M shut? .clear;
+    first = omega arith;
+    space = may-open p v two h g on M shut? .space;
+    newest = λ y k. omega (arith, I .mode .serials y k);
+    sealed = λ y k. true≢false (sym shut? ∙ I .mode .lone y k .0);
+  }
 
   -- no other segment changes
   pub open-other : Inv (parOf p h) (mst g (itemsIn p v) a c (run M)) → (e y : ℕ) → y ≢ w → itemsIn p (storeAll storeView ss v) e y ≡ itemsIn p v e y
   open-other I e y n =
-      ap (λ (u : m-View). u e y) (follows-all p h v ss (headers (parOf p h) g w (suc (M .serial))) s follow)
-      ∙ opened (parOf p h) g (itemsIn p v) w (suc (M .serial)) fresh (I .facts) .2 e y n
-    where
-      m : MemOk (parOf p h) g (itemsIn p v) M
-      m = I .mode
-
-      o : Opens (parOf p h) g (itemsIn p v) M w
-      o = may-open p v two h g M shut?
-
-      fresh : Fresh (parOf p h) g (itemsIn p v) w (suc (M .serial))
-      fresh = record {
-        none = m .none;
-        no-pair = m .no-pair;
-        empty = o .empty;
-        inZ = o .inZ;
-        first = omega arith;
-        space = o .space;
-        newest = λ y k. omega (arith, m .serials y k);
-        sealed = λ y k. true≢false (sym shut? ∙ m .lone y k .0);
-      }
+      ap (λ (u : m-View). u e y) (follows-all p h v ss (headers (parOf p h) g w (suc (M .serial)) (zoneOn w)) (on .shape) follow)
+      ∙ opened (parOf p h) g (itemsIn p v) w (suc (M .serial)) (fresh I) (I .facts) .2 e y n
 
   -- ---- memory: nothing is in flight
   module _ (st : State) (fl : List ℕ) (R : Rel p (itemsIn p v) st fl M) (idle : (i : ℕ) → i < 8 → inUse st i ≡ false) where

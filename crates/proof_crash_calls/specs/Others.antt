@@ -1,5 +1,4 @@
 -- Calls that change nothing: reads at any time, every call but restart while the power is off, and writes, landings, closings and reclaims while a drive is missing. Assumes nothing.
-use Rattle.law_drives.specs.Tests.{clash}
 use mathlib.Core.Path.{_≡_, refl, sym, ap, _∙_}
 use mathlib.Core.List.{List, [], append-nil}
 use mathlib.Core.Bool.{Bool, true, false, _&&_}
@@ -33,13 +32,13 @@ use Rattle.spec.specs.Read.Found.{nowhere, here, away}
 use Rattle.spec.specs.Reclaim.{victim, reclaimChecks}
 use Rattle.spec.specs.Segments.{segments}
 use Rattle.spec.specs.Write.{writeChecks}
+use Rattle.law_drives.specs.Tests.{clash}
 use Rattle.law_basic.specs.Geometry.{ranged}
 use Rattle.law_views.specs.Views.{seen}
 use Rattle.law_drives.specs.Tests.{not-so}
-use Rattle.proof_crash_items.specs.Named.{named-some}
-use Rattle.proof_crash_machine.specs.Exec.{true≢false}
-use Rattle.proof_crash_machine.specs.Untrusted.{untrusted}
 use Rattle.law_checks.specs.Passed.{write-passed, land-passed, close-passed, reclaim-passed, read-passed, fill-passed, rebuild-passed}
+use Rattle.proof_crash_machine.specs.Exec.{true≢false}
+use Rattle.proof_crash_items.specs.Named.{named-some}
 use Rattle.proof_crash_calls.specs.Refusals.{Decides, decides, refused-step}
 
 -- ---- refused calls, whatever their answer

@@ -20,13 +20,13 @@ use Rattle.spec.specs.Write.{placed}
 use Rattle.law_basic.specs.Geometry.{Ranged, data-count-high, position-drive, drive-is-data, data-drive-lt, data-not-parity, drive-position, position-lt}
 use Rattle.law_drives.specs.Slots.{parity-long}
 use Rattle.law_drives.specs.Tests.{cond-true, cond-false}
-use Rattle.proof_crash_items.specs.Items.{valueOf}
 use Rattle.proof_crash_machine.specs.Exec.{true≢false}
 use Rattle.proof_crash_machine.specs.Facts.{Off}
 use Rattle.proof_crash_machine.specs.Memory.{setAt, setAt-elim, Mem, flown}
 use Rattle.proof_crash_machine.specs.Val.{Val}
 use Rattle.proof_crash_machine.specs.View.{Item, View as m-View}
 use Rattle.proof_crash_machine.specs.View.Item.{chunk}
+use Rattle.proof_crash_items.specs.Items.{valueOf}
 use Rattle.proof_crash_calls.specs.Base.{eqb-self, setAt-here, setAt-else}
 use Rattle.proof_crash_calls.specs.Cells.{SameSlot, same-used, add-long, add-filled, add-number, add-entry, add-entry-old, add-same, add-write}
 use Rattle.proof_crash_calls.specs.Rel.{readyAt, SlotRel, SlotOf, slot-keep, Long, inUse, filled-used, RelOn, Waiting}
@@ -123,10 +123,6 @@ module _ (p : Params) (h : Ranged p) (st : State) (L : Long st) (fl : List ℕ) 
   pub placed-state : placed p st fl i a t w b .state ≡ addEntry st i a t w
   unfolding placed
   placed-state = refl
-
-  pub placed-drive : placed p st fl i a t w b .drive ≡ d
-  unfolding placed
-  placed-drive = refl
 
   abbrev first : List ℕ
   first = setSlotBlock p fl i d b

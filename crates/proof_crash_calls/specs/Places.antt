@@ -2,12 +2,12 @@
 use mathlib.Core.Path.{_≡_, refl, sym, ap, ap₂, _∙_, subst}
 use mathlib.Core.List.{List, []}
 use mathlib.Core.Bool.{Bool, true, false}
-use mathlib.Core.Logic.{_⊎_, inl, inr, ⊎-elim, _≢_}
+use mathlib.Core.Logic.{_⊎_, inl, inr, ⊎-elim}
 use Prim.Native.Nat.{ℕ, suc, _+_, _-_, _^_, _≤_, _<_}
 use borrow.Author.Tests.{eq-eqb, eqb-true}
 use native.Mathlib.Omega.{arith}
 use lib.Dec.{eqb}
-use lib.ListN.{length, getD}
+use lib.ListN.{getD}
 use Rattle.spec.specs.declared.Params.{Params}
 use Rattle.spec.specs.Counts.{neverPlace}
 use Rattle.spec.specs.Drives.{noChunk, Zone, View, zoneAt, chunkAt, zoneOn, sealedIn, recordIn, recordAt}
@@ -15,68 +15,63 @@ use Rattle.spec.specs.Layout.{recordOf}
 use Rattle.spec.specs.Lists.Opt.{none, some}
 use Rattle.spec.specs.Lists.{isIn}
 use Rattle.spec.specs.Memory.{placeAt}
-use Rattle.spec.specs.Params.{capacity, placeOf, placeBlock, placeZone, placeDrive, named}
+use Rattle.spec.specs.Params.{capacity, placeOf, placeBlock, placeZone, placeDrive}
 use Rattle.spec.specs.Parity.{mkPiece}
 use Rattle.spec.specs.Rank.{Cand, best, placeOr, candsOf}
 use Rattle.spec.specs.Segments.{segmentOf, segments, offsetOn, hasChunk, offsetOf, candOf, candidates, addressTable}
 use Rattle.law_basic.specs.Geometry.{Ranged, place-block, place-zone, place-drive, place-again, place-lt}
 use Rattle.law_drives.specs.Tables.{place-at}
 use Rattle.law_drives.specs.Tests.{cond-false}
+use Rattle.law_basic.specs.Mask.{isIn-empty}
+use Rattle.proof_crash_machine.specs.Facts.{Par, Heads, Ghost, Choice, Counted, Off, None}
+use Rattle.proof_crash_machine.specs.History.{Mode, Inv}
+use Rattle.proof_crash_machine.specs.Val.{Val}
+use Rattle.proof_crash_machine.specs.View.{Item, View as m-View}
+use Rattle.proof_crash_machine.specs.View.Item.{chunk}
+use Rattle.proof_crash_machine.specs.Mask.{Mask}
 use Rattle.proof_crash_items.specs.Cands.{best-none, candsSeen, From, cands-from, cand-value, of-counted}
 use Rattle.proof_crash_items.specs.Items.{valueOf, chunkItem, itemsIn, items-in, chunk-of}
 use Rattle.proof_crash_items.specs.Member.{Has, keep-has, has-keep}
-use Rattle.proof_crash_items.specs.Named.{named-none, not-named}
-use Rattle.proof_crash_items.specs.Ranges.{capacity-few, parOf}
+use Rattle.proof_crash_items.specs.Named.{zero-choice, none-out}
+use Rattle.proof_crash_items.specs.Ranges.{capacity-few, parOf, data-code}
 use Rattle.proof_crash_items.specs.Reading.{places-many}
 use Rattle.proof_crash_items.specs.Segs.{OnDrives, zone-bytes, zone-low, remaining-has}
 use Rattle.proof_crash_items.specs.Shape.{ZoneShape, shape-zone}
 use Rattle.proof_crash_items.specs.Stripes.{stored-below, pointer-is, sealed-full, offset-on, stored-piece, counted-has, pieceAt, piece-here, counted-stripe}
 use Rattle.proof_crash_items.specs.Values.{pieceValue, value-same}
 use Rattle.proof_crash_items.specs.ZoneBytes.{blockIn, by-footer}
-use Rattle.proof_crash_machine.specs.Facts.{Par, Heads, Ghost, Choice, Counted, Off}
-use Rattle.proof_crash_machine.specs.History.{Mode, Inv}
-use Rattle.proof_crash_machine.specs.Val.{Val}
-use Rattle.proof_crash_machine.specs.View.{Item, View as m-View}
-use Rattle.proof_crash_machine.specs.View.Item.{chunk}
 use Rattle.proof_crash_calls.specs.Go.{mst}
 use Rattle.proof_crash_calls.specs.Held.{Entry, TableOk}
 use Rattle.proof_crash_calls.specs.LandRel.{off-here}
 use Rattle.proof_crash_calls.specs.Sends.{value-stamp}
 
--- counted with none missing, by any two numbers that name none
-abbrev pub counted-none : (P : Par) (hd : Heads) (v : m-View) (m n : ℕ) → P .N ≤ m → P .N ≤ n → (x : Val) → Counted P hd v m x → Counted P hd v n x
+-- counted with none missing, by any two masks without a drive
+abbrev pub counted-none : (P : Par) (hd : Heads) (v : m-View) (m n : Mask) → None P m → None P n → (x : Val) → Counted P hd v m x → Counted P hd v n x
 counted-none P hd v m n a b x q = record {
   z = q .z;
   s = q .s;
   f = q .f;
-  rem = record { left = λ d l k. q .rem .left d l (omega (arith, l, a)); own = λ o w e. q .rem .own o (λ d l k. w d l (omega (arith, l, b))) e };
-  st = record { on = λ d l k. q .st .on d l (omega (arith, l, a)); xor = q .st .xor };
+  rem = record { left = λ d l k. q .rem .left d l (a d l); own = λ o w e. q .rem .own o (λ d l k. w d l (b d l)) e };
+  st = record { on = λ d l k. q .st .on d l (a d l); word = q .st .word };
   dt = q .dt;
 }
 
-module _ (p : Params) (h : Ranged p) (g : Ghost) (v : View) (k : OnDrives p h g v) (none? : p .N ≤ g .un) where
-  -- the number that names no drive
-  abbrev m : ℕ
-  m = 255
-
-  c : Choice (parOf p h) (g .un) 255
-  c = inl none?
-
-  no-name : named 255 ≡ 0
-  no-name = named-none 255 (omega arith)
+module _ (p : Params) (h : Ranged p) (g : Ghost) (v : View) (k : OnDrives p h g v) (none? : None (parOf p h) (g .un)) where
+  c : Choice (parOf p h) (g .un) (isIn 0)
+  c = zero-choice p h (g .un) none?
 
   abbrev pub said : List Cand
   said = candidates p 0 (segments p v 0)
 
-  said-is : candsSeen p h g v k 255 c ≡ said
+  said-is : candsSeen p h g v k 0 c ≡ said
   unfolding candsSeen
-  said-is = ap (λ (n : ℕ). candidates p n (segments p v n)) no-name
+  said-is = refl
 
-  trust : (d : ℕ) → d < p .N → d ≢ g .un
-  trust d l = omega (arith, l, none?)
+  trust : (d : ℕ) → d < p .N → g .un d ≡ false
+  trust d l = none? d l
 
-  not-m : (d : ℕ) → d < p .N → d ≢ 255
-  not-m d l = omega (arith, l, h .drives-high)
+  not-m : (d : ℕ) → d < p .N → isIn 0 d ≡ false
+  not-m d l = isIn-empty d
 
   -- the record at an offset, sealed or not
   pub record-at : (d z o : ℕ) → d < p .N → z < p .Z → o < p .S → recordAt p v 0 d z o ≡ recordOf (blockIn (zoneAt v d z) (suc o) .spare)
@@ -90,7 +85,7 @@ module _ (p : Params) (h : Ranged p) (g : Ghost) (v : View) (k : OnDrives p h g 
       spare = unfold recordIn in ap (λ (i : ℕ). recordOf (getD (zoneAt v d z .blocks) i noChunk .spare)) (let i : 1 + o ≡ suc o = omega arith in i)
 
       full : sealedIn p v 0 z ≡ true → zoneAt v d z .pointer ≡ capacity p
-      full e = pointer-is v d z ∙ sealed-full p h g v k 255 c z d (subst (λ (n : ℕ). sealedIn p v n z ≡ true) (sym no-name) e) l (not-m d l)
+      full e = pointer-is v d z ∙ sealed-full p h g v k 0 c z d e l (not-m d l)
 
       go : (t : Bool) → sealedIn p v 0 z ≡ t → recordIn p t (zoneAt v d z) o ≡ recordOf (blockIn (zoneAt v d z) (suc o) .spare)
       go false e = spare
@@ -99,22 +94,22 @@ module _ (p : Params) (h : Ranged p) (g : Ghost) (v : View) (k : OnDrives p h g 
   -- ---- a record that counts
 
   module _ (x : Cand) (i : Has x said) where
-    from : From p h g v k 255 c x
-    from = cands-from p h g v k 255 c x (subst (λ (l : List Cand). Has x l) (sym said-is) i)
+    from : From p h g v k 0 c x
+    from = cands-from p h g v k 0 c x (subst (λ (l : List Cand). Has x l) (sym said-is) i)
 
     zb : from .z < p .Z
-    zb = remaining-has p h g v k 255 c (from .z) (from .rem) .0
+    zb = remaining-has p h g v k 0 c (from .z) (from .rem) .0
 
-    has : hasChunk (segmentOf p v (named 255) (from .z)) (from .s) (from .d) ≡ true
-    has = counted-has p h g v k 255 c (from .z) (from .s) (from .cnt) .1 (from .d) (from .drv) (not-m (from .d) (from .drv))
+    has : hasChunk (segmentOf p v 0 (from .z)) (from .s) (from .d) ≡ true
+    has = counted-has p h g v k 0 c (from .z) (from .s) (from .cnt) .1 (from .d) (from .drv) (not-m (from .d) (from .drv))
 
     o : ℕ
-    o = offsetOn (segmentOf p v (named 255) (from .z)) (from .d) (from .s)
+    o = offsetOn (segmentOf p v 0 (from .z)) (from .d) (from .s)
 
     o-low : (o < p .S) × (suc o < zoneAt v (from .d) (from .z) .pointer)
     unfolding o
-    o-low = stored-below p (zoneAt v (from .d) (from .z)) (offsetOn (segmentOf p v (named 255) (from .z)) (from .d) (from .s))
-        (offset-on p h g v k 255 c (from .z) (from .s) (from .d) zb (from .drv) (not-m (from .d) (from .drv)) has .0)
+    o-low = stored-below p (zoneAt v (from .d) (from .z)) (offsetOn (segmentOf p v 0 (from .z)) (from .d) (from .s))
+        (offset-on p h g v k 0 c (from .z) (from .s) (from .d) zb (from .drv) (not-m (from .d) (from .drv)) has .0)
 
     b-low : 1 + o < capacity p
     b-low = omega (arith, o-low .0, capacity-few p h)
@@ -122,13 +117,13 @@ module _ (p : Params) (h : Ranged p) (g : Ghost) (v : View) (k : OnDrives p h g 
     place : x .place ≡ placeOf p (from .d) (from .z) (1 + o)
     place = ap (λ (y : Cand). y .place) (from .is) ∙ here
       where
-        off-here : offsetOf (named 255) (segmentOf p v (named 255) (from .z)) (from .s) (from .d) ≡ o
+        off-here : offsetOf 0 (segmentOf p v 0 (from .z)) (from .s) (from .d) ≡ o
         off-here =
-            unfold offsetOf o in cond-false (isIn (named 255) (from .d)) (from .s)
-            (offsetOn (segmentOf p v (named 255) (from .z)) (from .d) (from .s))
-            (not-named p h 255 (from .d) (from .drv) (not-m (from .d) (from .drv)))
+            unfold offsetOf o in cond-false (isIn 0 (from .d)) (from .s)
+            (offsetOn (segmentOf p v 0 (from .z)) (from .d) (from .s))
+            (not-m (from .d) (from .drv))
 
-        here : candOf p (named 255) (segmentOf p v (named 255) (from .z)) (from .s) (from .d) .place ≡ placeOf p (from .d) (from .z) (1 + o)
+        here : candOf p 0 (segmentOf p v 0 (from .z)) (from .s) (from .d) .place ≡ placeOf p (from .d) (from .z) (1 + o)
         here = unfold candOf zoneOn segmentOf in ap (λ (n : ℕ). placeOf p (from .d) (from .z) (1 + n)) off-here
 
     place-d : placeDrive p (x .place) ≡ from .d
@@ -173,38 +168,38 @@ module _ (p : Params) (h : Ranged p) (g : Ghost) (v : View) (k : OnDrives p h g 
         block-is : chunkAt v (from .d) (from .z) (suc o) .block ≡ blockIn (zoneAt v (from .d) (from .z)) (suc o) .block
         block-is = unfold chunkAt in refl
 
-    value-is : valueAt ≡ pieceAt p h g v k 255 c (from .z) (from .s) (from .d)
+    value-is : valueAt ≡ pieceAt p h g v k 0 c (from .z) (from .s) (from .d)
     value-is = value-here
         ∙ sym (piece-value ∙ value-same (blockIn (zoneAt v (from .d) (from .z)) (suc o) .block) (recordOf (blockIn (zoneAt v (from .d) (from .z)) (suc o) .spare)))
       where
         piece-value :
-            pieceAt p h g v k 255 c (from .z) (from .s) (from .d)
+            pieceAt p h g v k 0 c (from .z) (from .s) (from .d)
             ≡ pieceValue
             (mkPiece (blockIn (zoneAt v (from .d) (from .z)) (suc o) .block) (recordOf (blockIn (zoneAt v (from .d) (from .z)) (suc o) .spare)))
-        piece-value = unfold pieceAt o in ap pieceValue (piece-here p h g v k 255 c (from .z) (from .s) (from .d) (from .drv) (not-m (from .d) (from .drv))
-            ∙ stored-piece p h g v k 255 c (from .z) (from .s) (from .d) zb (from .drv) (not-m (from .d) (from .drv)) has)
+        piece-value = unfold pieceAt o in ap pieceValue (piece-here p h g v k 0 c (from .z) (from .s) (from .d) (from .drv) (not-m (from .d) (from .drv))
+            ∙ stored-piece p h g v k 0 c (from .z) (from .s) (from .d) zb (from .drv) (not-m (from .d) (from .drv)) has)
 
-    counts-here : Counted (parOf p h) (g .hd) (itemsIn p v) 255 (pieceAt p h g v k 255 c (from .z) (from .s) (from .d))
+    counts-here : Counted (parOf p h) (g .hd) (itemsIn p v) (isIn 0) (pieceAt p h g v k 0 c (from .z) (from .s) (from .d))
     counts-here = record {
       z = from .z;
       s = from .s;
-      f = pieceAt p h g v k 255 c (from .z) (from .s);
-      rem = remaining-has p h g v k 255 c (from .z) (from .rem) .1;
-      st = counted-stripe p h g v k 255 c (from .z) (from .s) zb (from .cnt);
-      dt = record { d = from .d; lt = from .drv; data? = from .dat; val = refl };
+      f = pieceAt p h g v k 0 c (from .z) (from .s);
+      rem = remaining-has p h g v k 0 c (from .z) (from .rem) .1;
+      st = counted-stripe p h g v k 0 c (from .z) (from .s) zb (from .cnt);
+      dt = record { d = from .d; lt = from .drv; data? = data-code p h (from .s) (from .d) (from .dat); val = refl };
     }
 
     -- it counts, in the segment of its place
     pub counted-at : (q : Counted (parOf p h) (g .hd) (itemsIn p v) (g .un) valueAt) × (q .z ≡ placeZone p (x .place))
     unfolding counts-here
     counted-at = subst (λ (y : Val). (q : Counted (parOf p h) (g .hd) (itemsIn p v) (g .un) y) × (q .z ≡ placeZone p (x .place))) (sym value-is)
-        (counted-none (parOf p h) (g .hd) (itemsIn p v) 255 (g .un) (omega (arith, h .drives-high)) none? (pieceAt p h g v k 255 c (from .z) (from .s) (from .d)) counts-here, sym place-z)
+        (counted-none (parOf p h) (g .hd) (itemsIn p v) (isIn 0) (g .un) (none-out p h) none? (pieceAt p h g v k 0 c (from .z) (from .s) (from .d)) counts-here, sym place-z)
 
     pub value-address : valueAt .addr ≡ x .address
-    value-address = ap (λ (y : Val). y .addr) value-is ∙ sym (cand-value p h g v k 255 c (from .z) (from .s) (from .d) .0) ∙ ap (λ (y : Cand). y .address) (sym (from .is))
+    value-address = ap (λ (y : Val). y .addr) value-is ∙ sym (cand-value p h g v k 0 c (from .z) (from .s) (from .d) .0) ∙ ap (λ (y : Cand). y .address) (sym (from .is))
 
     pub value-stamped : valueAt .stamp ≡ x .stamp
-    value-stamped = ap (λ (y : Val). y .stamp) value-is ∙ sym (cand-value p h g v k 255 c (from .z) (from .s) (from .d) .1) ∙ ap (λ (y : Cand). y .stamp) (sym (from .is))
+    value-stamped = ap (λ (y : Val). y .stamp) value-is ∙ sym (cand-value p h g v k 0 c (from .z) (from .s) (from .d) .1) ∙ ap (λ (y : Cand). y .stamp) (sym (from .is))
 
     -- its stamp takes 8 bytes
     pub stamp-low : x .stamp < 256 ^ 8
@@ -241,9 +236,6 @@ module _ (p : Params) (h : Ranged p) (g : Ghost) (v : View) (k : OnDrives p h g 
             (sym (items-in p v (from .d) (from .z)))
             (unfold chunkItem in chunk-of p (zoneAt v (from .d) (from .z)) (zone-low p h g v k (from .d) (from .z) (from .drv) (trust (from .d) (from .drv)) zb) o (o-low .0) (o-low .1))
 
-    pub block-long : length (chunkAt v (placeDrive p (x .place)) (placeZone p (x .place)) (placeBlock p (x .place)) .block) ≡ p .B
-    block-long = k .shape .long (placeDrive p (x .place)) (placeZone p (x .place)) (placeBlock p (x .place)) (lies .drive) (lies .zone) (omega (arith, lies .block-high, capacity-few p h)) .0
-
   -- ---- the best of an address
 
   of-address : (x : Cand) (a : ℕ) → Has x (candsOf a said) → Has x said × (x .address ≡ a)
@@ -264,8 +256,8 @@ module _ (p : Params) (h : Ranged p) (g : Ghost) (v : View) (k : OnDrives p h g 
       → Counted (parOf p h) (g .hd) (itemsIn p v) (g .un) x
       → (w : Cand) × (best none (candsOf (x .addr) said) ≡ some w) × Has w said × (w .address ≡ x .addr) × (x .stamp ≤ w .stamp)
   counted-beaten x q =
-      let y : (y : Cand) × Has y (candsSeen p h g v k 255 c) × (y .address ≡ x .addr) × (y .stamp ≡ x .stamp) =
-      of-counted p h g v k 255 c x (counted-none (parOf p h) (g .hd) (itemsIn p v) (g .un) 255 none? (omega (arith, h .drives-high)) x q) in
+      let y : (y : Cand) × Has y (candsSeen p h g v k 0 c) × (y .address ≡ x .addr) × (y .stamp ≡ x .stamp) =
+      of-counted p h g v k 0 c x (counted-none (parOf p h) (g .hd) (itemsIn p v) (g .un) (isIn 0) none? (none-out p h) x q) in
       let i : Has (y .0) (candsOf (x .addr) said) = at (y .0) (subst (λ (l : List Cand). Has (y .0) l) said-is (y .1)) (y .2) in
       ⊎-elim (λ (e : candsOf (x .addr) said ≡ []). absurd (subst (λ (l : List Cand). Has (y .0) l) e i))
       (λ (r : (w : Cand) × (best none (candsOf (x .addr) said) ≡ some w) × Has w (candsOf (x .addr) said) × ((c : Cand) → Has c (candsOf (x .addr) said) → c .stamp ≤ w .stamp)).
@@ -285,16 +277,6 @@ module _ (p : Params) (h : Ranged p) (g : Ghost) (v : View) (k : OnDrives p h g 
 
         small : placeOr (best none (candsOf a said)) < 256 ^ 4
         small = omega (arith, is, lies w i .low)
-
-    -- a place of the table is that of a record that counts
-    pub table-place : (a : ℕ) → a < p .L → placeAt tb a ≢ neverPlace → (w : Cand) × Has w said × (w .address ≡ a) × (placeAt tb a ≡ w .place)
-    table-place a l n = ⊎-elim (λ (e : best none (candsOf a said) ≡ none). absurd (n (never e)))
-        (λ (q : (w : Cand) × (best none (candsOf a said) ≡ some w) × Has w said × (w .address ≡ a)). (q .0, q .2, q .3, table-best a l (q .0) (q .1) (q .2))) (best-said a)
-      where
-        never : best none (candsOf a said) ≡ none → placeAt tb a ≡ neverPlace
-        never e =
-            let is : placeOr (best none (candsOf a said)) ≡ neverPlace = ap placeOr e ∙ (let z : placeOr none ≡ neverPlace = unfold placeOr in refl in z) in
-            ap (λ (t : List ℕ). placeAt t a) truth ∙ place-at p said a l (let b : placeOr (best none (candsOf a said)) < 256 ^ 4 = omega (arith, is) in b) ∙ is
 
     -- so its entries are as they should be, at the end of a restart
     pub table-said : (a : List Val) (b : Bool) (m : Mode) → Inv (parOf p h) (mst g (itemsIn p v) a b m) → TableOk p h g (itemsIn p v) tb

@@ -14,12 +14,12 @@ use Rattle.spec.specs.History.{World, Send, Seen, seenAt}
 use Rattle.spec.specs.History.Seen.{unwritten, got}
 use Rattle.law_basic.specs.Geometry.{Ranged}
 use Rattle.law_drives.specs.Tests.{not-so}
-use Rattle.proof_crash_items.specs.Ranges.{parOf}
-use Rattle.proof_crash_machine.specs.Facts.{Ghost, InV}
+use Rattle.proof_crash_machine.specs.Facts.{Ghost, InV, Beyond}
 use Rattle.proof_crash_machine.specs.History.{State as m-State, Inv, Claim}
 use Rattle.proof_crash_machine.specs.Order.{Track, Tracked}
 use Rattle.proof_crash_machine.specs.Val.{Val}
-use Rattle.proof_crash_calls.specs.Go.{Later}
+use Rattle.proof_crash_machine.specs.Mask.{Mask}
+use Rattle.proof_crash_items.specs.Ranges.{parOf}
 use Rattle.proof_crash_calls.specs.Sends.{Logged}
 
 -- the block of a value sent, with stamp k at address a
@@ -41,7 +41,8 @@ Shows p l K a s = ((K a ≡ 0) × (s ≡ unwritten)) ⊎ ShowsBlock p l (K a) a 
 same-block : (b c : List ℕ) → length b ≡ length c → _≡_ {A = ℕ → ℕ} (λ i. getD b i 0) (λ i. getD c i 0) → b ≡ c
 same-block b c e f = ext-getD 0 b c e (λ i l. ap (λ (g : ℕ → ℕ). g i) f)
 
-module _ (p : Params) (h : Ranged p) (σ : m-State) (T : Track) (K : ℕ → ℕ) (ss : List Send) (I : Inv (parOf p h) σ) (tr : Tracked σ T) (cl : Claim σ K) (L : Logged p (σ .acked) T ss) (a : ℕ) where
+module _ (p : Params) (h : Ranged p) (σ : m-State) (T : Track) (m : Mask) (K : ℕ → ℕ) (ss : List Send) (I : Inv (parOf p h) σ) (tr : Tracked σ T) (cl : Claim (parOf p h) σ m K)
+    (L : Logged p (σ .acked) T ss) (a : ℕ) where
   -- an acknowledged send at a is no later than what is read
   acked-low :
       (j : ℕ)
@@ -116,11 +117,8 @@ shows-more p l l′ K J a s f e (inl (x, y)) = inl (sym e ∙ x, y)
 shows-more p l l′ K J a s f e (inr y) =
     inr (record { block = y .block; value = y .value; sent = f (y .value) (y .sent); addr = y .addr; stamp = y .stamp ∙ e; long = y .long; is = y .is; shows = y .shows })
 
--- it stays so through a healthy run, cut or not
-pub mark-later : (p : Params) (g g′ : Ghost) (w : World) → Later g g′ → MarkShows p g w → MarkShows p g′ w
-mark-later p g g′ w l k a b = shows-more p (g .sent) (g′ .sent) (g .last) (g′ .last) a (seenAt p w a) (l .sent) (ap (λ (f : ℕ → ℕ). f a) (sym (l .last))) (k a b)
-
 -- "and it reads as the finished restart before it did if no block was sent between": σ before the restart, K what it reads, w the world that the one before it left
-pub same-reads : (p : Params) (h : Ranged p) (σ : m-State) (K : ℕ → ℕ) → Inv (parOf p h) σ → Claim σ K → σ .since ≡ false → (w : World) → MarkShows p (σ .g) w
+pub same-reads : (p : Params) (h : Ranged p) (σ : m-State) (m : Mask) (K : ℕ → ℕ) → Inv (parOf p h) σ → Claim (parOf p h) σ m K → (Beyond (parOf p h) (σ .g .said) m → ⊥) → σ .since ≡ false
+    → (w : World) → MarkShows p (σ .g) w
     → (a : ℕ) → a < p .L → (s : Seen) → Shows p (σ .g .sent) K a s → s ≡ seenAt p w a
-same-reads p h σ K I c still w k a b s x = shows-same p (σ .g .sent) (I .uniq) (λ y m. I .ones y m .0) K (σ .g .last) a s (seenAt p w a) (c .same still a) x (k a b)
+same-reads p h σ m K I c fair still w k a b s x = shows-same p (σ .g .sent) (I .uniq) (λ y m. I .ones y m .0) K (σ .g .last) a s (seenAt p w a) (c .same still fair a) x (k a b)

@@ -1,5 +1,4 @@
 -- Reclaim: a reset, or a copy. Assumes nothing.
-use Rattle.law_basic.specs.Ranges.{nil-is}
 use mathlib.Core.Path.{_≡_, refl, sym, ap, _∙_, subst}
 use mathlib.Core.List.{List, [], _∷_, map}
 use mathlib.Core.Bool.{Bool, true, false, cond, not}
@@ -23,16 +22,13 @@ use Rattle.spec.specs.Memory.{Memory, stripeIn, filledIn, landedIn, entryIn, of
 use Rattle.spec.specs.Params.{capacity, inflightLen, placeBlock, placeZone, placeDrive, drivesOf}
 use Rattle.spec.specs.Reclaim.{placesIn, liveIn, flying, Victim, victim, isNone, victimSegment, victimLive, idle, reclaimChecks, resetPlan, copyPlan}
 use Rattle.spec.specs.Write.{opens, noSerial, mustWait, scarce, placed, openedBy, slotFor, begunBy, sending}
+use Rattle.law_basic.specs.Ranges.{nil-is}
 use Rattle.law_basic.specs.Geometry.{Ranged}
 use Rattle.law_basic.specs.Ranges.{Test, test}
 use Rattle.law_basic.specs.Ranges.Test.{yes!, no! }
 use Rattle.law_drives.specs.Tests.{clash, cond-true, cond-false}
-use Rattle.proof_crash_items.specs.Items.{valueOf, itemsIn, storeItem, storeItems}
-use Rattle.proof_crash_items.specs.Member.{Has, keep-has, firstOr-has}
-use Rattle.proof_crash_items.specs.Ranges.{parOf}
-use Rattle.proof_crash_items.specs.Segs.{OnDrives}
-use Rattle.proof_crash_items.specs.Sound.{Follows, follows-all, follows-cut}
-use Rattle.proof_crash_machine.specs.Facts.{Ghost, InV, Counted, Off, Facts}
+use Rattle.law_checks.specs.Passed.{ReclaimPassed, reclaim-passed}
+use Rattle.proof_crash_machine.specs.Facts.{Ghost, InV, Counted, Off, Facts, None}
 use Rattle.proof_crash_machine.specs.History.Mode.{off, run}
 use Rattle.proof_crash_machine.specs.History.{State as m-State, Inv}
 use Rattle.proof_crash_machine.specs.History.Step.{reset-cut, reset-done}
@@ -44,6 +40,11 @@ use Rattle.proof_crash_machine.specs.Val.{Val}
 use Rattle.proof_crash_machine.specs.View.{Item, View as m-View, Store as m-Store, applyAll, In, resets}
 use Rattle.proof_crash_machine.specs.View.Item.{chunk}
 use Rattle.proof_crash_machine.specs.View.Store.{reset as m-reset}
+use Rattle.proof_crash_items.specs.Items.{valueOf, itemsIn, storeItem, storeItems}
+use Rattle.proof_crash_items.specs.Member.{Has, keep-has, firstOr-has}
+use Rattle.proof_crash_items.specs.Ranges.{parOf}
+use Rattle.proof_crash_items.specs.Segs.{OnDrives}
+use Rattle.proof_crash_items.specs.Sound.{Follows, follows-all, follows-cut}
 use Rattle.proof_crash_calls.specs.Entries.{entry-value, entry-long}
 use Rattle.proof_crash_calls.specs.Go.{mst, later-same, go-step, go-then, go-view, go-inv}
 use Rattle.proof_crash_calls.specs.Held.{Entry, table-to}
@@ -52,7 +53,6 @@ use Rattle.proof_crash_calls.specs.Rel.{slot-keep, Rel, Waiting}
 use Rattle.proof_crash_calls.specs.Sending.{Asked, Target, sendStores, target, target-entries}
 use Rattle.proof_crash_calls.specs.Take.{takenMem, taken-rel, taken-waits, copied-go}
 use Rattle.proof_crash_calls.specs.Victim.{VictimIs, victim-is, place-has, live-has, open-unsealed, quiet, table-left}
-use Rattle.law_checks.specs.Passed.{ReclaimPassed, reclaim-passed}
 
 -- ---- the resets are the machine's
 
@@ -161,7 +161,7 @@ module _ (p : Params) (h : Ranged p) (v : View) (m : Memory) (ss : List Send) (n
     k : OnDrives p h (l .g) v
     k = live-drives p h v st fl (m .addresses) ss n l
 
-    none? : p .N ≤ l .g .un
+    none? : None (parOf p h) (l .g .un)
     none? = live-none p h v st fl (m .addresses) ss n l
 
     found : (a : ℕ) × Entry p h (l .g) (itemsIn p v) q a
@@ -194,7 +194,8 @@ module _ (p : Params) (h : Ranged p) (v : View) (m : Memory) (ss : List Send) (n
     v₂ = storeAll storeView (sendStores p v (m .state)) v
 
     abbrev aim : Target p h (l .g) v (l .a) (l .c) (m .state) (m .inflight) (l .M) (sendStores p v (m .state)) (begunBy p (m .state) (openedBy p v (m .state))) (slotFor p (m .state))
-    aim = target p h (l .g) v (l .a) (l .c) (m .state) (m .inflight) (l .M) (l .rel) (live-inv p h v (m .state) (m .inflight) (m .addresses) ss n l) (l .reached .shape) A
+    aim = target p h (l .g) v (l .a) (l .c) (m .state) (m .inflight) (l .M) (l .rel) (live-inv p h v (m .state) (m .inflight) (m .addresses) ss n l)
+        (live-drives p h v (m .state) (m .inflight) (m .addresses) ss n l) A
 
     I₂ : Inv (parOf p h) (mst (aim .g′) (itemsIn p v₂) (l .a) (l .c) (run (aim .M₂)))
     I₂ = go-inv (parOf p h) σ (mst (aim .g′) (itemsIn p v₂) (l .a) (l .c) (run (aim .M₂))) noTrack noTrack (aim .go noTrack) I

@@ -1,5 +1,4 @@
 -- A refused call, and a restart that isn't in order, leave a history as it is. Assumes nothing.
-use Rattle.law_drives.specs.Tests.{clash}
 use mathlib.Core.Path.{_≡_, refl, sym, ap, _∙_}
 use mathlib.Core.List.{List, [], _∷_, _++_}
 use mathlib.Core.Bool.{Bool, true, false, cond, _&&_}
@@ -30,13 +29,13 @@ use Rattle.spec.specs.Reclaim.{victim, victimSegment, victimLive, idle, reclaim
 use Rattle.spec.specs.Restart.{namesDrive, restartChecks, restartPlan, restartVerdict}
 use Rattle.spec.specs.Segments.{segments}
 use Rattle.spec.specs.Write.{writeChecks, writePlan, writeVerdict}
+use Rattle.law_drives.specs.Tests.{clash}
 use Rattle.law_basic.specs.Ranges.{and-both}
 use Rattle.law_views.specs.Views.{seen}
 use Rattle.law_calls.specs.Refusals.{refusal-kind, refused-unfinished}
 use Rattle.law_drives.specs.Tests.{cond-true, cond-false}
-use Rattle.proof_crash_machine.specs.Exec.{true≢false}
-use Rattle.proof_crash_machine.specs.Untrusted.{untrusted}
 use Rattle.law_checks.specs.Passed.{restart-passed}
+use Rattle.proof_crash_machine.specs.Exec.{true≢false}
 use Rattle.proof_crash_calls.specs.Join.{sent-refused}
 
 -- ---- every verdict is decided by checks

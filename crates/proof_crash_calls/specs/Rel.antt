@@ -4,7 +4,7 @@ use mathlib.Core.List.{List, map}
 use mathlib.Core.Bool.{Bool, true, false, cond, not}
 use mathlib.Core.Logic.{_≢_}
 use Prim.Native.Nat.{ℕ, suc, _^_, _≤_, _<_}
-use borrow.Author.Tests.{ne-eqb, eqb-true, eqb-false, not-true, not-false}
+use borrow.Author.Tests.{ne-eqb, eqb-false, not-true}
 use native.Mathlib.Omega.{arith}
 use lib.Dec.{leb, ltb, eqb}
 use lib.ListN.{length}
@@ -18,13 +18,13 @@ use Rattle.spec.specs.Memory.{stripeIn, filledIn, landedIn, isWrite, entryIn, o
 use Rattle.spec.specs.Params.{dataCount}
 use Rattle.law_basic.specs.Geometry.{Ranged, data-count-high, data-drive-lt}
 use Rattle.law_basic.specs.Ranges.{map-below-same, map-map}
-use Rattle.proof_crash_items.specs.Items.{valueOf}
-use Rattle.proof_crash_items.specs.Ranges.{parity-on}
 use Rattle.proof_crash_machine.specs.Facts.{Off}
 use Rattle.proof_crash_machine.specs.Memory.{Mem}
 use Rattle.proof_crash_machine.specs.Val.{Val, pads}
 use Rattle.proof_crash_machine.specs.View.{Item, View as m-View, In}
 use Rattle.proof_crash_machine.specs.View.Item.{chunk}
+use Rattle.proof_crash_items.specs.Items.{valueOf}
+use Rattle.proof_crash_items.specs.Ranges.{parity-on}
 
 -- ---- one eighth
 
@@ -93,10 +93,6 @@ used-filled st i e = let q : filledIn st i ≢ 0 = eqb-false (filledIn st i) 0 (
 pub filled-used : (st : State) (i : ℕ) → 0 < filledIn st i → inUse st i ≡ true
 unfolding inUse isFree
 filled-used st i l = ap not (ne-eqb (filledIn st i) 0 (omega arith))
-
-pub unused-filled : (st : State) (i : ℕ) → inUse st i ≡ false → filledIn st i ≡ 0
-unfolding inUse isFree
-unused-filled st i e = eqb-true (filledIn st i) 0 (not-false (eqb (filledIn st i) 0) e)
 
 pub free-unused : (st : State) (i : ℕ) → isFree st i ≡ true → inUse st i ≡ false
 unfolding inUse

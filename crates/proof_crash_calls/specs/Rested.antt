@@ -14,16 +14,16 @@ use Rattle.spec.specs.History.{Send}
 use Rattle.spec.specs.Memory.{idleState}
 use Rattle.law_basic.specs.Geometry.{Ranged}
 use Rattle.law_drives.specs.Tests.{clash, not-so}
-use Rattle.proof_crash_items.specs.Items.{itemsIn}
-use Rattle.proof_crash_items.specs.RestMem.{idle-filled}
 use Rattle.proof_crash_machine.specs.Exec.{true≢false}
 use Rattle.proof_crash_machine.specs.Facts.{Ghost}
-use Rattle.proof_crash_machine.specs.History.Mode.{run}
 use Rattle.proof_crash_machine.specs.Memory2.{restMem}
 use Rattle.proof_crash_machine.specs.Order.{Track}
 use Rattle.proof_crash_machine.specs.Val.{Val}
 use Rattle.proof_crash_machine.specs.View.Item.{chunk}
 use Rattle.proof_crash_machine.specs.View.{View as m-View, In}
+use Rattle.proof_crash_machine.specs.History.Mode.{run}
+use Rattle.proof_crash_items.specs.Items.{itemsIn}
+use Rattle.proof_crash_items.specs.RestMem.{idle-filled}
 use Rattle.proof_crash_calls.specs.Held.{TableOk}
 use Rattle.proof_crash_calls.specs.Live.{Reached, Live}
 use Rattle.proof_crash_calls.specs.Rel.{Long, inUse, used-filled, Rel}

@@ -13,8 +13,13 @@ use Rattle.spec.specs.History.{mkWorld, Send, forget, seenAt}
 use Rattle.spec.specs.History.Seen.{unwritten}
 use Rattle.spec.specs.Memory.{Memory}
 use Rattle.spec.specs.Params.{inRange}
+use Rattle.spec.specs.Lists.{isIn}
 use Rattle.law_basic.specs.Geometry.{Ranged, addresses-all}
 use Rattle.law_views.specs.Views.{Whole, seen}
+use Rattle.proof_crash_machine.specs.Facts.{Ghost, InV, Choice, Counted}
+use Rattle.proof_crash_machine.specs.History.{Mode, Inv}
+use Rattle.proof_crash_machine.specs.Order.{Track, less}
+use Rattle.proof_crash_machine.specs.Val.{Val, pads}
 use Rattle.proof_crash_items.specs.Cands.{stampRead}
 use Rattle.proof_crash_items.specs.Items.{itemsIn}
 use Rattle.proof_crash_items.specs.Ranges.{parOf}
@@ -22,10 +27,6 @@ use Rattle.proof_crash_items.specs.Reading.{Tabled, ReadsBlock, seen-is}
 use Rattle.proof_crash_items.specs.Segs.{OnDrives}
 use Rattle.proof_crash_items.specs.Shape.{Shape}
 use Rattle.proof_crash_items.specs.Sound.{BytesOk}
-use Rattle.proof_crash_machine.specs.Facts.{Ghost, InV, Choice, Counted}
-use Rattle.proof_crash_machine.specs.History.{Mode, Inv}
-use Rattle.proof_crash_machine.specs.Order.{Track, less}
-use Rattle.proof_crash_machine.specs.Val.{Val, pads}
 use Rattle.proof_crash_calls.specs.Go.{mst}
 use Rattle.proof_crash_calls.specs.Live.{Reached}
 use Rattle.proof_crash_calls.specs.Readings.{Shows}
@@ -59,7 +60,7 @@ module _ (p : Params) (h : Ranged p) (v : View) (ss : List Send) (n : ℕ) (g : 
 
 -- what the read calls give on a restart's tables, m missing: the block of a value sent
 pub shows-read : (p : Params) (h : Ranged p) (g : Ghost) (dk : Disk) (w : Whole p dk) (k : OnDrives p h g (seen p dk)) (known : (x : Val) → InV x (g .sent) → (0 < x .stamp) × (x .addr < p .L))
-    (m : ℕ) (c : Choice (parOf p h) (g .un) m) (mem : Memory) (t : Tabled p (seen p dk) m mem) (h₁ : inRange p ≡ true) (h₂ : lentOk p dk mem ≡ true)
+    (m : ℕ) (c : Choice (parOf p h) (g .un) (isIn m)) (mem : Memory) (t : Tabled p (seen p dk) m mem) (h₁ : inRange p ≡ true) (h₂ : lentOk p dk mem ≡ true)
     (a : ℕ) → a < p .L → Shows p (g .sent) (stampRead p h g (seen p dk) k m c) a (seenAt p (mkWorld dk mem) a)
 shows-read p h g dk w k known m c mem t h₁ h₂ a l = ⊎-elim
     (λ (e : (stampRead p h g (seen p dk) k m c a ≡ 0) × (seenAt p (mkWorld dk mem) a ≡ unwritten)). inl e)
@@ -74,9 +75,9 @@ shows-read p h g dk w k known m c mem t h₁ h₂ a l = ⊎-elim
       shows = y .shows;
     })) (seen-is p h g dk w k known m c mem t h₁ h₂ a l)
   where
-    sent? : (y : Val) → Counted (parOf p h) (g .hd) (itemsIn p (seen p dk)) m y → y .addr < p .L → InV y (g .sent)
+    sent? : (y : Val) → Counted (parOf p h) (g .hd) (itemsIn p (seen p dk)) (isIn m) y → y .addr < p .L → InV y (g .sent)
     sent? y q b = ⊎-elim (λ (e : y ≡ pads). absurd (let i : ⊥ = omega (arith, pads-high y e, b, addresses-all p h) in i)) (λ (i : InV y (g .sent)). i)
-        (k .facts .parity .sound m c (q .z) (q .s) (q .f) (q .st) y (q .dt))
+        (k .facts .parity .sound (isIn m) c (q .z) (q .s) (q .f) (q .st) y (q .dt))
       where
         pads-high : (y : Val) → y ≡ pads → y .addr ≡ 18446744073709551615
         pads-high y e = unfold pads in ap (λ (x : Val). x .addr) e

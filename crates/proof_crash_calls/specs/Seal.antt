@@ -19,15 +19,9 @@ use Rattle.law_basic.specs.Geometry.{Ranged}
 use Rattle.law_basic.specs.Stores.{storeAll-append}
 use Rattle.law_views.specs.Views.{Fits}
 use Rattle.law_drives.specs.Counting.{pigeon}
-use Rattle.proof_crash_items.specs.Items.{itemAt, itemsOf, itemsIn, items-in, item-foot, length-of, storeItem, items-store}
-use Rattle.proof_crash_items.specs.Ranges.{parOf}
-use Rattle.proof_crash_items.specs.Shape.{Shape, zone-set, zone-set-other, shape-store}
-use Rattle.proof_crash_items.specs.Sound.{Sound, sound-fits}
-use Rattle.proof_crash_items.specs.ZoneBytes.{sparesIn, Kind}
-use Rattle.proof_crash_items.specs.ZoneBytes.Kind.{footer}
 use Rattle.proof_crash_machine.specs.Facts.{Par, Ghost, Off, Zone as m-Zone}
-use Rattle.proof_crash_machine.specs.History.Mode.{run}
 use Rattle.proof_crash_machine.specs.History.{State as m-State}
+use Rattle.proof_crash_machine.specs.History.Mode.{run}
 use Rattle.proof_crash_machine.specs.History.Step.{footer as m-footer}
 use Rattle.proof_crash_machine.specs.Memory.{Mem}
 use Rattle.proof_crash_machine.specs.Order.{Track}
@@ -37,6 +31,12 @@ use Rattle.proof_crash_machine.specs.Val.{Val}
 use Rattle.proof_crash_machine.specs.View.{Item, View as m-View, after, apply, In, chunk-num, chunk-hdr}
 use Rattle.proof_crash_machine.specs.View.Item.{chunk, foot}
 use Rattle.proof_crash_machine.specs.View.Store.{put as m-put}
+use Rattle.proof_crash_items.specs.Items.{itemAt, itemsOf, itemsIn, items-in, item-foot, length-of, storeItem, items-store}
+use Rattle.proof_crash_items.specs.Ranges.{parOf}
+use Rattle.proof_crash_items.specs.Shape.{Shape, zone-set, zone-set-other, shape-store}
+use Rattle.proof_crash_items.specs.Sound.{Sound, sound-fits}
+use Rattle.proof_crash_items.specs.ZoneBytes.{sparesIn, Kind}
+use Rattle.proof_crash_items.specs.ZoneBytes.Kind.{footer}
 use Rattle.proof_crash_calls.specs.Go.{mst, Go, go-step, go-view, Chain, chain-append}
 use Rattle.proof_crash_calls.specs.Held.{Grown, grown-same, grown-then, grown-put}
 

@@ -12,7 +12,7 @@ use lib.Seq.{take-nil}
 use lib.Count.{ones}
 use Rattle.spec.specs.declared.Params.{Params}
 use Rattle.spec.specs.declared.State.{State}
-use Rattle.spec.specs.Drives.{View, Store, storeView, storeAll, emptyZones, headerStores}
+use Rattle.spec.specs.Drives.{View, Store, storeView, storeAll, emptyZones, headerStores, zoneOn}
 use Rattle.spec.specs.Lists.{all, any, keep, isNil, indexOf, firstOr}
 use Rattle.spec.specs.Memory.{slotCount, slots, stripeIn, filledIn, landedIn, isFree, isFull, isFilling, inFlight, freeSlot, fillingSlot, hasFilling, slotOk, stateOk, setOpen, beginStripe}
 use Rattle.spec.specs.Params.{dataCount, placeBlock, placeZone, placeDrive}
@@ -23,11 +23,6 @@ use Rattle.law_basic.specs.Ranges.Test.{yes!, no! }
 use Rattle.law_calls.specs.Refusals.{next-low}
 use Rattle.law_drives.specs.Slots.{slot-found}
 use Rattle.law_drives.specs.Tests.{cond-true, cond-false, clash, not-so}
-use Rattle.proof_crash_items.specs.Items.{itemsIn}
-use Rattle.proof_crash_items.specs.Member.{Has, and-false-1, has-keep, all-has}
-use Rattle.proof_crash_items.specs.Ranges.{parOf}
-use Rattle.proof_crash_items.specs.Shape.{Shape}
-use Rattle.proof_crash_items.specs.Sound.{AllSound}
 use Rattle.proof_crash_machine.specs.Exec.{or-cases}
 use Rattle.proof_crash_machine.specs.Facts.Pair.{alone}
 use Rattle.proof_crash_machine.specs.Facts.{Ghost, Counted, Off}
@@ -41,12 +36,17 @@ use Rattle.proof_crash_machine.specs.Order.{Track, noTrack}
 use Rattle.proof_crash_machine.specs.Val.{Val}
 use Rattle.proof_crash_machine.specs.View.{Item}
 use Rattle.proof_crash_machine.specs.View.Item.{chunk, foot}
+use Rattle.proof_crash_items.specs.Items.{itemsIn}
+use Rattle.proof_crash_items.specs.Member.{Has, and-false-1, has-keep, all-has}
+use Rattle.proof_crash_items.specs.Ranges.{parOf}
+use Rattle.proof_crash_items.specs.Sound.{AllSound}
+use Rattle.proof_crash_items.specs.Segs.{OnDrives}
 use Rattle.proof_crash_calls.specs.Base.{or-r, has-slot, keep-rest}
 use Rattle.proof_crash_calls.specs.Begin.{begunMem, withSlot, with-here, begin-rel, begin-waits, begin-cover}
 use Rattle.proof_crash_calls.specs.Cells.{same-used, begin-filled, open-same}
 use Rattle.proof_crash_calls.specs.Go.{mst, Later, later-same, Go, go-none, go-step, go-more, go-inv}
 use Rattle.proof_crash_calls.specs.Held.{counted-kept, Entry, entry-to}
-use Rattle.proof_crash_calls.specs.Opened.{may-open, open-sound, open-go, open-cut-go, open-other, open-rel, open-waits}
+use Rattle.proof_crash_calls.specs.Opened.{lowest-none, open-sound, open-go, open-cut-go, open-other, open-rel, open-waits}
 use Rattle.proof_crash_calls.specs.Rel.{inUse, free-unused, RelOn, Rel, Waiting}
 
 -- what the call's checks say
@@ -145,7 +145,7 @@ pub record Target (p : Params) (h : Ranged p) (g : Ghost) (v : View) (a : List V
   pub cut : (n : ℕ) → (g″ : Ghost) × Later g g″ × ((T : Track) → Go (parOf p h) (mst g (itemsIn p v) a c (run M)) (mst g″ (itemsIn p (storeAll storeView (take n ss) v)) a c off) T T)
 
 module _ (p : Params) (h : Ranged p) (g : Ghost) (v : View) (a : List Val) (c : Bool) (st : State) (fl : List ℕ) (M : Mem) (R : Rel p (itemsIn p v) st fl M)
-    (I : Inv (parOf p h) (mst g (itemsIn p v) a c (run M))) (sh : Shape p v) where
+    (I : Inv (parOf p h) (mst g (itemsIn p v) a c (run M))) (on : OnDrives p h g v) where
   abbrev σ : m-State
   σ = mst g (itemsIn p v) a c (run M)
 
@@ -204,7 +204,7 @@ module _ (p : Params) (h : Ranged p) (g : Ghost) (v : View) (a : List Val) (c : 
 
 -- a segment is opened, and a stripe begins in it
 module _ (p : Params) (h : Ranged p) (g : Ghost) (v : View) (a : List Val) (c : Bool) (st : State) (fl : List ℕ) (M : Mem) (R : Rel p (itemsIn p v) st fl M)
-    (I : Inv (parOf p h) (mst g (itemsIn p v) a c (run M))) (sh : Shape p v) (shut? : M .is-open ≡ false) (two : 2 ≤ length (emptyZones p v)) (fits : suc (M .serial) < 256 ^ 8)
+    (I : Inv (parOf p h) (mst g (itemsIn p v) a c (run M))) (on : OnDrives p h g v) (shut? : M .is-open ≡ false) (two : 2 ≤ length (emptyZones p v)) (fits : suc (M .serial) < 256 ^ 8)
     (idle : (i : ℕ) → i < 8 → inUse st i ≡ false) (i : ℕ) (il : i < 8) where
   abbrev w : ℕ
   w = firstOr 0 (emptyZones p v)
@@ -222,32 +222,32 @@ module _ (p : Params) (h : Ranged p) (g : Ghost) (v : View) (a : List Val) (c : 
   M₁ = openMem M (firstOr 0 (emptyZones p v)) (suc (M .serial))
 
   abbrev g₁ : Ghost
-  g₁ = naming g (firstOr 0 (emptyZones p v)) (suc (M .serial)) 0 alone
+  g₁ = naming g (firstOr 0 (emptyZones p v)) (suc (M .serial)) 0 (zoneOn (firstOr 0 (emptyZones p v))) alone
 
   go₁ : (T : Track) → Go (parOf p h) (mst g (itemsIn p v) a c (run M)) (mst g₁ (itemsIn p v₁) a c (run M₁)) T T
-  go₁ = open-go p h g v a c M sh two shut? fits
+  go₁ = open-go p h g v a c M on two shut? fits
 
   inv₁ : Inv (parOf p h) (mst g₁ (itemsIn p v₁) a c (run M₁))
   inv₁ = go-inv (parOf p h) (mst g (itemsIn p v) a c (run M)) (mst g₁ (itemsIn p v₁) a c (run M₁)) noTrack noTrack (go₁ noTrack) I
 
   rel₁ : Rel p (itemsIn p v₁) st₁ fl M₁
-  rel₁ = open-rel p h g v a c M sh two shut? fits st fl R idle
+  rel₁ = open-rel p h g v a c M on two shut? fits st fl R idle
 
   free₁ : inUse st₁ i ≡ false
   free₁ = same-used st st₁ i (open-same st w (suc (M .serial)) i) ∙ idle i il
 
   other : (e y : ℕ) → y ≢ w → itemsIn p v₁ e y ≡ itemsIn p v e y
-  other = open-other p h g v a c M sh two shut? fits I
+  other = open-other p h g v a c M on two shut? fits I
 
   -- w was empty
   used-apart : (e y j : ℕ) (t : Item) → e < p .N → Off (itemsIn p v e y) j t → y ≢ w
-  used-apart e y j t l o q = let z : ⊥ = omega (arith, o .0, ap (λ (x : ℕ). length (itemsIn p v e x)) q, ap length (may-open p v two h g M shut? .empty e l)) in z
+  used-apart e y j t l o q = let z : ⊥ = omega (arith, o .0, ap (λ (x : ℕ). length (itemsIn p v e x)) q, ap length (lowest-none p v two e l)) in z
 
   counts : (x : Val) (q : Counted (parOf p h) (g .hd) (itemsIn p v) (g .un) x) → (c : Counted (parOf p h) (g₁ .hd) (itemsIn p v₁) (g₁ .un) x) × (c .z ≡ q .z)
   counts x q = (counted-kept (parOf p h) g g₁ (itemsIn p v) (itemsIn p v₁) (inv₁ .facts) (inv₁ .mode .no-pair) refl x q (λ d l. other d (q .z) apart), refl)
     where
       apart : q .z ≢ w
-      apart = let b : 0 < length (itemsIn p v 0 (q .z)) = q .rem .left 0 (omega (arith, h .drives-low)) (omega (arith, I .mode .none, h .drives-low)) in
+      apart = let b : 0 < length (itemsIn p v 0 (q .z)) = q .rem .left 0 (omega (arith, h .drives-low)) (I .mode .none 0 (omega (arith, h .drives-low))) in
           used-apart 0 (q .z) 0 (getD (itemsIn p v 0 (q .z)) 0 (foot 0)) (omega (arith, h .drives-low)) (b, refl)
 
   pub target-open : Target p h g v a c st fl M hs (beginStripe st₁ i) i
@@ -255,7 +255,7 @@ module _ (p : Params) (h : Ranged p) (g : Ghost) (v : View) (a : List Val) (c : 
     g′ = g₁;
     M₂ = begunMem (parOf p h) M₁;
     U = withSlot st₁ i;
-    sound = open-sound p h g v a c M sh two shut? fits;
+    sound = open-sound p h g v a c M on two shut? fits;
     go = λ T. go-more (parOf p h) (mst g (itemsIn p v) a c (run M)) (mst g₁ (itemsIn p v₁) a c (run M₁)) (mst g₁ (itemsIn p v₁) a c (run (begunMem (parOf p h) M₁))) T T (go₁ T)
         (History·begin (mst g₁ (itemsIn p v₁) a c (run M₁)) M₁ refl refl (omega (arith, h .stripes-low)));
     rel = begin-rel p h g₁ (itemsIn p v₁) st₁ fl M₁ rel₁ (inv₁ .mode) refl i il free₁;
@@ -263,14 +263,14 @@ module _ (p : Params) (h : Ranged p) (g : Ghost) (v : View) (a : List Val) (c : 
     used? = with-here st₁ i;
     room = omega (arith, begin-filled st₁ (rel₁ .long) i il, data-count-low p h);
     cover = begin-cover p h g₁ (itemsIn p v₁) st₁ fl M₁ rel₁ (inv₁ .mode) refl i il free₁;
-    waits = λ x s q. begin-waits p h g₁ (itemsIn p v₁) st₁ fl M₁ rel₁ (inv₁ .mode) refl i il free₁ x s (open-waits p h g v a c M sh two shut? fits st fl R idle x s q);
+    waits = λ x s q. begin-waits p h g₁ (itemsIn p v₁) st₁ fl M₁ rel₁ (inv₁ .mode) refl i il free₁ x s (open-waits p h g v a c M on two shut? fits st fl R idle x s q);
     stamp = refl;
     sent = refl;
     later = record { un = refl; last = refl; sent = λ x m. m };
     base = refl;
     counts = counts;
     kept = λ e y j t l o. subst (λ (x : List Item). Off x j t) (sym (other e y (used-apart e y j t l o))) o;
-    cut = λ n. (g₁, record { un = refl; last = refl; sent = λ x m. m }, open-cut-go p h g v a c M sh two shut? fits n);
+    cut = λ n. (g₁, record { un = refl; last = refl; sent = λ x m. m }, open-cut-go p h g v a c M on two shut? fits n);
   }
 
 -- ---- as `sending` does it
@@ -318,7 +318,7 @@ target-as p h g v a c st fl M ss ss′ st₂ st₃ i j e f q t =
     (subst (λ (x : State). Target p h g v a c st fl M ss′ x i) (sym f) (subst (λ (x : ℕ). Target p h g v a c st fl M ss′ st₃ x) (sym q) t))
 
 module _ (p : Params) (h : Ranged p) (g : Ghost) (v : View) (a : List Val) (c : Bool) (st : State) (fl : List ℕ) (M : Mem) (R : Rel p (itemsIn p v) st fl M)
-    (I : Inv (parOf p h) (mst g (itemsIn p v) a c (run M))) (sh : Shape p v) (A : Asked p v st) where
+    (I : Inv (parOf p h) (mst g (itemsIn p v) a c (run M))) (on : OnDrives p h g v) (A : Asked p v st) where
   module _ (not-filling : hasFilling p st ≡ false) where
     waits? : ((leb slotCount (length (inFlight st)) || (mustOpen p st && not (isNil (inFlight st)))) || (not (mustOpen p st) && any (otherGroup p st) (inFlight st))) ≡ false
     waits? = and-fails (not (hasFilling p st)) ((leb slotCount (length (inFlight st)) || (mustOpen p st && not (isNil (inFlight st)))) || (not (mustOpen p st) && any (otherGroup p st) (inFlight st)))
@@ -331,7 +331,7 @@ module _ (p : Params) (h : Ranged p) (g : Ghost) (v : View) (a : List Val) (c : 
     free = free-slot st (leb-false 8 (length (inFlight st)) (unfold slotCount in or-left (leb slotCount (length (inFlight st))) (mustOpen p st && not (isNil (inFlight st))) few))
 
     begins : mustOpen p st ≡ false → Target p h g v a c st fl M [] (beginStripe st (freeSlot st)) (freeSlot st)
-    begins e = target-begin p h g v a c st fl M R I sh o
+    begins e = target-begin p h g v a c st fl M R I on o
         (omega (arith, R .next o, next-low p st (A .ok), eqb-false (st .next) (p .S) (or-r (eqb (st .opened) 0) (eqb (st .next) (p .S)) (unfold mustOpen in e)))) (freeSlot st) (free .0) (free .1)
       where
         o : M .is-open ≡ true
@@ -345,7 +345,7 @@ module _ (p : Params) (h : Ranged p) (g : Ghost) (v : View) (a : List Val) (c : 
     opens-now e =
         subst (λ (n : ℕ). Target p h g v a c st fl M (headerStores p (firstOr 0 (emptyZones p v)) (suc n) 0)
         (beginStripe (setOpen st (firstOr 0 (emptyZones p v)) (suc n)) (freeSlot st)) (freeSlot st)) (R .serial)
-        (target-open p h g v a c st fl M R I sh shut? (A .room op) (omega (arith, R .serial, R .serial-fits, last)) idle (freeSlot st) (free .0))
+        (target-open p h g v a c st fl M R I on shut? (A .room op) (omega (arith, R .serial, R .serial-fits, last)) idle (freeSlot st) (free .0))
       where
         op : opens p st ≡ true
         op = unfold opens in and-both (not (hasFilling p st)) (mustOpen p st) (ap not not-filling) e
@@ -380,7 +380,7 @@ module _ (p : Params) (h : Ranged p) (g : Ghost) (v : View) (a : List Val) (c : 
       go (yes! e) m =
           target-as p h g v a c st fl M (sendStores p v st) [] (begunBy p st (openedBy p v st)) st (slotFor p st) (fillingSlot p st)
           (stores-none p v st (unfold opens in and-false-1 (not (hasFilling p st)) (mustOpen p st) (ap not e))) (begun-old p st (openedBy p v st) e) (slot-filling p st e)
-          (target-filling p h g v a c st fl M R I sh e)
+          (target-filling p h g v a c st fl M R I on e)
       go (no! e) (yes! m) =
           let o : opens p st ≡ true = unfold opens in and-both (not (hasFilling p st)) (mustOpen p st) (ap not e) m in
           target-as p h g v a c st fl M (sendStores p v st) (headerStores p (firstOr 0 (emptyZones p v)) (suc (st .serial .0)) 0)

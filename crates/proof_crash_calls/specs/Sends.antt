@@ -18,11 +18,11 @@ use Rattle.spec.specs.Layout.{Rec}
 use Rattle.law_basic.specs.Ranges.{Test, test, and-left, and-right, and-both, getD-map, and-fails}
 use Rattle.law_basic.specs.Ranges.Test.{yes!, no! }
 use Rattle.law_drives.specs.Tests.{cond-true, cond-false, clash}
-use Rattle.proof_crash_items.specs.Items.{valueOf}
 use Rattle.proof_crash_machine.specs.Facts.{Ghost, InV}
 use Rattle.proof_crash_machine.specs.Memory.{setAt, Mem}
 use Rattle.proof_crash_machine.specs.Order.{Track, sentTo}
 use Rattle.proof_crash_machine.specs.Val.{Val}
+use Rattle.proof_crash_items.specs.Items.{valueOf}
 use Rattle.proof_crash_calls.specs.Base.{setAt-here, setAt-else}
 use Rattle.proof_crash_calls.specs.Rel.{Waiting}
 
@@ -63,12 +63,6 @@ Waits p g st M T ss = (j : ℕ) → j < length ss → sendAt ss j .waits ≡ tru
 
 module _ (p : Params) (a : List Val) (T : Track) (ss : List Send) (L : Logged p a T ss) (x : Val) (y : Send) (sx : SameSend p x y) (fresh : y .acked ≡ false) (t : ℕ) (up : t < x .stamp)
     (low : (z : Val) → InV z a → z .stamp ≤ t) where
-  abbrev ss′ : List Send
-  ss′ = ss ++ (y ∷ [])
-
-  abbrev T′ : Track
-  T′ = sentTo T x
-
   pub length-sent : length (ss ++ (y ∷ [])) ≡ suc (length ss)
   length-sent = length-append ss (y ∷ []) ∙ (let e : length ss + 1 ≡ suc (length ss) = omega arith in e)
 

@@ -15,19 +15,19 @@ use Rattle.spec.specs.Lists.{isIn}
 use Rattle.spec.specs.Memory.{stripeIn, filledIn, landedIn, entryIn, offsetIn, setStamp, addEntry}
 use Rattle.spec.specs.Params.{dataCount, inflightLen}
 use Rattle.spec.specs.Write.{placed}
-use Rattle.law_basic.specs.Geometry.{Ranged, data-count-high, data-drive-lt, data-not-parity}
-use Rattle.proof_crash_items.specs.Items.{valueOf}
-use Rattle.proof_crash_items.specs.Ranges.{parity-on, parOf}
+use Rattle.law_basic.specs.Geometry.{Ranged, data-count-high, data-drive-lt, drive-is-data}
 use Rattle.proof_crash_machine.specs.Facts.{Ghost, Counted}
 use Rattle.proof_crash_machine.specs.Filling.{filled, at-d, at-else}
 use Rattle.proof_crash_machine.specs.Ghosts.{withSent}
-use Rattle.proof_crash_machine.specs.History.Mode.{run}
 use Rattle.proof_crash_machine.specs.History.{Inv, Into}
+use Rattle.proof_crash_machine.specs.History.Mode.{run}
 use Rattle.proof_crash_machine.specs.History.Step.{send, copy}
 use Rattle.proof_crash_machine.specs.Memory.{Mem, Flight, flown}
 use Rattle.proof_crash_machine.specs.Order.{Track, sentTo}
 use Rattle.proof_crash_machine.specs.Val.{Val, pads}
 use Rattle.proof_crash_machine.specs.View.{View as m-View}
+use Rattle.proof_crash_items.specs.Items.{valueOf}
+use Rattle.proof_crash_items.specs.Ranges.{parity-on, parOf, data-code, codeOf, code-lone}
 use Rattle.proof_crash_calls.specs.Base.{setAt-here}
 use Rattle.proof_crash_calls.specs.Cells.{same-used, add-filled, add-number, add-write-new, stamp-same}
 use Rattle.proof_crash_calls.specs.Fill.{risen, risen-more, risen-is, landed-may}
@@ -114,8 +114,8 @@ module _ (p : Params) (h : Ranged p) (g : Ghost) (v : m-View) (a : List Val) (c 
   dn : d < p .N
   dn = data-drive-lt p s k kl
 
-  dp : d ≢ parityDrive p s
-  dp e = data-not-parity p s k e
+  dp : codeOf p h .par s d ≡ false
+  dp = data-code p h s d (drive-is-data p s k)
 
   blank : M .F s d ≡ pads
   blank = R .slot i il u .blank k (omega arith) kl
@@ -123,18 +123,18 @@ module _ (p : Params) (h : Ranged p) (g : Ghost) (v : m-View) (a : List Val) (c 
   free : M .ready s d ≡ false
   free = R .slot i il u .may d dn ∙ ready-data p s k k ∙ le-ltb k k (omega arith)
 
-  early : M .ready s (parityDrive p s) ≡ false
-  early = R .slot i il u .may (parityDrive p s) (parity-on p h s) ∙ ready-parity p s k ∙ lt-leb (dataCount p) k kl
+  early : (e : ℕ) → codeOf p h .par s e ≡ true → M .ready s e ≡ false
+  early e q = ap (M .ready s) (code-lone p h s e q) ∙ R .slot i il u .may (parityDrive p s) (parity-on p h s) ∙ ready-parity p s k ∙ lt-leb (dataCount p) k kl
 
   pub taken-into : Into (parOf p h) M s d r
   taken-into = record { fly = R .flying i il u; drive = dn; data? = dp; blank = blank; free = free; early = early; more = risen-more p s (suc k) (M .ready s) }
 
   new : G d ≡ x
-  new = at-d (parOf p h) g v (M .zone) s (M .F s) (M .ready s) (flight .2) d x dn (parity-on p h s) dp blank free early
+  new = at-d (parOf p h) g v (M .zone) s (M .F s) (M .ready s) (flight .2) d x dn dp free early
 
   old : (j : ℕ) → j < dataCount p → j ≢ k → G (dataDrive p s j) ≡ M .F s (dataDrive p s j)
-  old j l n = at-else (parOf p h) g v (M .zone) s (M .F s) (M .ready s) (flight .2) d x dn (parity-on p h s) dp blank free early (dataDrive p s j)
-      (λ e. n (data-drive-once p s j k e)) (λ e. data-not-parity p s j e)
+  old j l n = at-else (parOf p h) g v (M .zone) s (M .F s) (M .ready s) (flight .2) d x dn dp free early (dataDrive p s j)
+      (data-drive-lt p s j l) (λ e. n (data-drive-once p s j k e)) (data-code p h s (dataDrive p s j) (drive-is-data p s j))
 
   mine : (e : ℕ) → e < p .N → isIn (landedIn st i) e ≡ true → M .ready s e ≡ true
   mine = landed-may p h g v st fl M U (I .mode) R i il u

@@ -25,18 +25,18 @@ use Rattle.law_basic.specs.Ranges.{Test, test}
 use Rattle.law_basic.specs.Ranges.Test.{yes!, no! }
 use Rattle.law_drives.specs.Best.{fewer-is}
 use Rattle.law_drives.specs.Tests.{clash}
-use Rattle.proof_crash_items.specs.Items.{itemsIn}
-use Rattle.proof_crash_items.specs.Member.{Has, keep-has, has-keep, below-has, has-below, all-has, has-all, any-has, has-any, any-false, has-flat, map-has, has-map}
-use Rattle.proof_crash_items.specs.Ranges.{capacity-few, parOf}
-use Rattle.proof_crash_items.specs.Segs.{OnDrives}
-use Rattle.proof_crash_machine.specs.Facts.{InV, Counted, Off, Facts}
-use Rattle.proof_crash_machine.specs.History.Mode.{run}
+use Rattle.proof_crash_machine.specs.Facts.{InV, Counted, Off, Facts, None, self-none}
 use Rattle.proof_crash_machine.specs.History.{Inv}
+use Rattle.proof_crash_machine.specs.History.Mode.{run}
 use Rattle.proof_crash_machine.specs.Memory.{Mem}
 use Rattle.proof_crash_machine.specs.Reclaim.{Quiet}
 use Rattle.proof_crash_machine.specs.Val.{Val, pads, pads-stamp}
 use Rattle.proof_crash_machine.specs.View.{Item, View as m-View, In}
 use Rattle.proof_crash_machine.specs.View.Item.{chunk}
+use Rattle.proof_crash_items.specs.Items.{itemsIn}
+use Rattle.proof_crash_items.specs.Member.{Has, keep-has, has-keep, below-has, has-below, all-has, has-all, any-has, has-any, any-false, has-flat, map-has, has-map}
+use Rattle.proof_crash_items.specs.Ranges.{capacity-few, parOf}
+use Rattle.proof_crash_items.specs.Segs.{OnDrives}
 use Rattle.proof_crash_calls.specs.Base.{eqb-self}
 use Rattle.proof_crash_calls.specs.Entries.{entry-within, entry-low}
 use Rattle.proof_crash_calls.specs.Go.{mst}
@@ -179,7 +179,7 @@ module _ (p : Params) (h : Ranged p) (v : View) (st : State) (fl tb : List ℕ) 
   k : OnDrives p h (l .g) v
   k = live-drives p h v st fl tb ss n l
 
-  none? : p .N ≤ l .g .un
+  none? : None (parOf p h) (l .g .un)
   none? = live-none p h v st fl tb ss n l
 
   -- an entry of the table lies elsewhere
@@ -206,7 +206,7 @@ module _ (p : Params) (h : Ranged p) (v : View) (st : State) (fl tb : List ℕ) 
           -- the address is in range
           sent : a < p .L
           sent = subst (λ (y : ℕ). y < p .L) xa (⊎-elim (λ (b : x ≡ pads). absurd (let r : ⊥ = omega (arith, pads-stamp x b, xs, e) in r)) (λ (b : InV x (l .g .sent)). I .ones x b .1)
-              (I .facts .parity .sound (l .g .un) (inr refl) (c .z) (c .s) (c .f) (c .st) x (c .dt)))
+              (I .facts .parity .sound (l .g .un) (self-none (parOf p h) (l .g .un) none?) (c .z) (c .s) (c .f) (c .st) x (c .dt)))
 
   -- what is left when such a segment is emptied
   pub table-left : (z : ℕ) → liveIn p (placesIn p tb) z ≡ [] → (u : m-View) → Facts (parOf p h) (l .g) u → ((e y : ℕ) → y ≢ z → u e y ≡ itemsIn p v e y) → TableOk p h (l .g) u tb

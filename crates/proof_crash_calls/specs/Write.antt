@@ -24,8 +24,7 @@ use Rattle.spec.specs.Memory.{Memory, stripeIn, filledIn, fillingSlot, hasFilli
 use Rattle.spec.specs.Params.{dataCount, inflightLen}
 use Rattle.spec.specs.Write.{opens, noStamp, scarce, placed, openedBy, slotFor, begunBy, sending, writeChecks, writePlan}
 use Rattle.law_basic.specs.Geometry.{Ranged}
-use Rattle.proof_crash_items.specs.Items.{valueOf, itemsIn}
-use Rattle.proof_crash_items.specs.Ranges.{parOf}
+use Rattle.law_checks.specs.Passed.{close-passed, write-passed}
 use Rattle.proof_crash_machine.specs.Facts.{Ghost, InV}
 use Rattle.proof_crash_machine.specs.Ghosts.{withSent}
 use Rattle.proof_crash_machine.specs.History.Mode.{off, run}
@@ -34,11 +33,12 @@ use Rattle.proof_crash_machine.specs.History.Step.{lose}
 use Rattle.proof_crash_machine.specs.Memory.{Mem}
 use Rattle.proof_crash_machine.specs.Order.{sentTo, noTrack}
 use Rattle.proof_crash_machine.specs.Val.{Val}
-use Rattle.law_checks.specs.Passed.{close-passed, write-passed}
+use Rattle.proof_crash_items.specs.Items.{valueOf, itemsIn}
+use Rattle.proof_crash_items.specs.Ranges.{parOf}
 use Rattle.proof_crash_calls.specs.Fill.{pad-all}
 use Rattle.proof_crash_calls.specs.Go.{mst, Later, later-same, Go, go-step, go-then, go-view, go-inv}
 use Rattle.proof_crash_calls.specs.Held.{TableOk, entry-sent, table-to}
-use Rattle.proof_crash_calls.specs.Live.{Live, Stopped, CallOk, live-inv, live-after, live-cut, live-stamps, live-acks, live-within}
+use Rattle.proof_crash_calls.specs.Live.{Live, Stopped, CallOk, live-inv, live-after, live-cut, live-stamps, live-acks, live-within, live-drives}
 use Rattle.proof_crash_calls.specs.Rel.{inUse, Rel, Waiting}
 use Rattle.proof_crash_calls.specs.Sending.{Asked, filling-slot, Target, sendStores, target, target-entries}
 use Rattle.proof_crash_calls.specs.Sends.{value-addr, value-stamp, value-blk, SameSend, Logged, Waits, length-sent, old-send, new-send, old-log, new-log, old-pos, new-pos, sent-logged}
@@ -136,7 +136,8 @@ module _ (p : Params) (h : Ranged p) (v : View) (m : Memory) (ss : List Send) (n
   I = live-inv p h v (m .state) (m .inflight) (m .addresses) ss n l
 
   abbrev pub aim : Target p h (l .g) v (l .a) (l .c) (m .state) (m .inflight) (l .M) (sendStores p v (m .state)) (begunBy p (m .state) (openedBy p v (m .state))) (slotFor p (m .state))
-  aim = target p h (l .g) v (l .a) (l .c) (m .state) (m .inflight) (l .M) (l .rel) (live-inv p h v (m .state) (m .inflight) (m .addresses) ss n l) (l .reached .shape) (A .asked)
+  aim = target p h (l .g) v (l .a) (l .c) (m .state) (m .inflight) (l .M) (l .rel) (live-inv p h v (m .state) (m .inflight) (m .addresses) ss n l)
+      (live-drives p h v (m .state) (m .inflight) (m .addresses) ss n l) (A .asked)
 
   I₂ : Inv (parOf p h) (mst (aim .g′) (itemsIn p v₂) (l .a) (l .c) (run (aim .M₂)))
   I₂ = go-inv (parOf p h) (mst (l .g) (itemsIn p v) (l .a) (l .c) (run (l .M))) (mst (aim .g′) (itemsIn p v₂) (l .a) (l .c) (run (aim .M₂))) noTrack noTrack (aim .go noTrack) I

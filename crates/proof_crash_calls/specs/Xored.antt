@@ -19,16 +19,16 @@ use Rattle.law_basic.specs.Geometry.{Ranged, addresses-all, data-drive-lt}
 use Rattle.law_basic.specs.Ranges.{length-below, map-below-same, map-map, getD-map-below, keep-hit, keep-miss, keep-none}
 use Rattle.law_basic.specs.Xor.{xorAll-lt}
 use Rattle.law_drives.specs.Tests.{cond-true, cond-false}
-use Rattle.proof_crash_items.specs.Codec.{Wide}
-use Rattle.proof_crash_items.specs.Items.{valueOf}
-use Rattle.proof_crash_items.specs.Member.{below-has}
-use Rattle.proof_crash_items.specs.Ranges.{parity-on, parOf}
-use Rattle.proof_crash_items.specs.Values.{pieceValue, value-same, xorL, PiecesLong, pieces-long, parity-value, onlyWhere, only-there, only-else, xor-below}
 use Rattle.proof_crash_machine.specs.Facts.{Good}
 use Rattle.proof_crash_machine.specs.History.{State as m-State, Inv}
 use Rattle.proof_crash_machine.specs.Memory.{Mem, MemOk}
 use Rattle.proof_crash_machine.specs.Val.{Val, 𝟘, pads, ⊕-self, ⊕-left, xorN, xorN-put}
 use Rattle.proof_crash_machine.specs.View.{Item}
+use Rattle.proof_crash_items.specs.Codec.{Wide}
+use Rattle.proof_crash_items.specs.Items.{valueOf}
+use Rattle.proof_crash_items.specs.Member.{below-has}
+use Rattle.proof_crash_items.specs.Ranges.{parity-on, parOf}
+use Rattle.proof_crash_items.specs.Values.{pieceValue, value-same, xorL, PiecesLong, pieces-long, parity-value, onlyWhere, only-there, only-else, xor-below}
 use Rattle.proof_crash_calls.specs.Base.{eqb-self}
 use Rattle.proof_crash_calls.specs.Rel.{SlotRel}
 

@@ -1,32 +1,30 @@
 -- The records of counted stripes, and which of an address holds: what a restart reads is the machine's Reads. Assumes nothing.
 use mathlib.Core.Path.{_≡_, refl, sym, ap, _∙_, subst}
 use mathlib.Core.List.{List, [], _∷_, map}
-use mathlib.Core.Bool.{Bool, true, false, not, _&&_, _||_}
-use mathlib.Core.Logic.{_⊎_, inl, inr, ⊎-elim, _≢_}
+use mathlib.Core.Bool.{Bool, true, false, _&&_, _||_}
+use mathlib.Core.Logic.{_⊎_, inl, inr, ⊎-elim}
 use Prim.Native.Nat.{ℕ, _≤_, _<_}
-use borrow.Author.Tests.{eq-eqb, ne-eqb, ltb-true, ltb-false, eqb-true}
+use borrow.Author.Tests.{eq-eqb, ltb-true, ltb-false, eqb-true}
 use native.Mathlib.Omega.{arith}
 use lib.Dec.{ltb, eqb}
 use Rattle.spec.specs.declared.Params.{Params}
 use Rattle.spec.specs.Drives.{View}
-use Rattle.spec.specs.Layout.{parityDrive, dataDrive, dataPosition, isData, dataDrives, Rec}
-use Rattle.spec.specs.Lists.{Opt, below, flat, greatest}
+use Rattle.spec.specs.Layout.{dataDrive, dataPosition, isData, dataDrives, Rec}
+use Rattle.spec.specs.Lists.{Opt, below, flat, greatest, isIn}
 use Rattle.spec.specs.Lists.Opt.{none, some}
-use Rattle.spec.specs.Params.{dataCount, named}
+use Rattle.spec.specs.Params.{dataCount}
 use Rattle.spec.specs.Rank.{Cand, beats, better, best, candsOf}
 use Rattle.spec.specs.Segments.{remaining, Segment, segmentOf, segments, counted, candOf, segmentCands, candidates, greatestStamp}
-use Rattle.law_basic.specs.Geometry.{Ranged, data-drive-lt, data-not-parity, drive-position, position-lt}
+use Rattle.law_basic.specs.Geometry.{Ranged, data-drive-lt, drive-position, position-lt, drive-is-data}
 use Rattle.law_drives.specs.Segs.{piece-rec}
 use Rattle.law_drives.specs.Tests.{cond-true, cond-false}
 use Rattle.proof_crash_machine.specs.Exec.{and-1, or-cases}
 use Rattle.proof_crash_machine.specs.Facts.{Ghost, Choice, R, Counted}
 use Rattle.proof_crash_machine.specs.Finish.{Reads}
-use Rattle.proof_crash_machine.specs.Reset.{same}
-use Rattle.proof_crash_machine.specs.Rewrite.{st}
 use Rattle.proof_crash_machine.specs.Val.{Val}
 use Rattle.proof_crash_items.specs.Items.{valueOf, itemsIn}
 use Rattle.proof_crash_items.specs.Member.{Has, keep-has, has-keep, below-has, has-below, flat-has, has-flat, map-has, has-map, greatest-most}
-use Rattle.proof_crash_items.specs.Ranges.{parOf}
+use Rattle.proof_crash_items.specs.Ranges.{parOf, data-code, code-data}
 use Rattle.proof_crash_items.specs.Segs.{OnDrives, has-remaining, remaining-has}
 use Rattle.proof_crash_items.specs.Stripes.{pieceAt, counted-stripe, stripe-counted}
 use Rattle.proof_crash_items.specs.Values.{pieceValue}
@@ -113,101 +111,96 @@ best-none (b ∷ l) =
 
 -- ---- data drives
 
-pub data-drives : (p : Params) → Ranged p → (s d : ℕ) → Has d (dataDrives p s) → (d < p .N) × (d ≢ parityDrive p s)
+pub data-drives : (p : Params) → Ranged p → (s d : ℕ) → Has d (dataDrives p s) → (d < p .N) × (isData p s d ≡ true)
 unfolding dataDrives
 data-drives p r s d i =
     let q : (j : ℕ) × Has j (below (dataCount p)) × (d ≡ dataDrive p s j) = map-has (dataDrive p s) d (below (dataCount p)) i in
-    (subst (λ (x : ℕ). x < p .N) (sym (q .2)) (data-drive-lt p s (q .0) (below-has (q .0) (dataCount p) (q .1))), λ e. data-not-parity p s (q .0) (sym (q .2) ∙ e))
+    (subst (λ (x : ℕ). x < p .N) (sym (q .2)) (data-drive-lt p s (q .0) (below-has (q .0) (dataCount p) (q .1))), ap (isData p s) (q .2) ∙ drive-is-data p s (q .0))
 
-pub is-data : (p : Params) (s d : ℕ) → d ≢ parityDrive p s → isData p s d ≡ true
-unfolding isData
-is-data p s d n = ap not (ne-eqb d (parityDrive p s) n)
-
-pub has-data-drive : (p : Params) → Ranged p → (s d : ℕ) → d < p .N → d ≢ parityDrive p s → Has d (dataDrives p s)
+pub has-data-drive : (p : Params) → Ranged p → (s d : ℕ) → d < p .N → isData p s d ≡ true → Has d (dataDrives p s)
 unfolding dataDrives
-has-data-drive p r s d l n =
-    let e : isData p s d ≡ true = is-data p s d n in
+has-data-drive p r s d l e =
     subst (λ (x : ℕ). Has x (map (dataDrive p s) (below (dataCount p)))) (drive-position p s d e)
     (has-map (dataDrive p s) (below (dataCount p)) (dataPosition p s d) (has-below (dataPosition p s d) (dataCount p) (position-lt p s d e l)))
 
 -- ---- the record of a piece
 
-module _ (p : Params) (r : Ranged p) (g : Ghost) (v : View) (k : OnDrives p r g v) (m : ℕ) (c : Choice (parOf p r) (g .un) m) where
+module _ (p : Params) (r : Ranged p) (g : Ghost) (v : View) (k : OnDrives p r g v) (m : ℕ) (c : Choice (parOf p r) (g .un) (isIn m)) where
   abbrev G : ℕ → Segment
-  G z = segmentOf p v (named m) z
+  G z = segmentOf p v m z
 
   unfoldable pub candsSeen : List Cand
-  candsSeen = candidates p (named m) (segments p v (named m))
+  candsSeen = candidates p m (segments p v m)
 
   -- where a record comes from
   pub record From (x : Cand) : Type 0 where
     pub z : ℕ
     pub s : ℕ
     pub d : ℕ
-    pub rem : Has z (remaining p v (named m))
-    pub cnt : Has s (counted p (named m) (segmentOf p v (named m) z))
+    pub rem : Has z (remaining p v m)
+    pub cnt : Has s (counted p m (segmentOf p v m z))
     pub drv : d < p .N
-    pub dat : d ≢ parityDrive p s
-    pub is : x ≡ candOf p (named m) (segmentOf p v (named m) z) s d
+    pub dat : isData p s d ≡ true
+    pub is : x ≡ candOf p m (segmentOf p v m z) s d
 
   pub cands-from : (x : Cand) → Has x candsSeen → From x
   unfolding candsSeen candidates segmentCands segments
   cands-from x i =
-      let a : (q : Segment) × Has q (map (segmentOf p v (named m)) (remaining p v (named m))) × Has x (flat (λ s. map (candOf p (named m) q s) (dataDrives p s)) (counted p (named m) q)) =
-      flat-has (segmentCands p (named m)) x (map (segmentOf p v (named m)) (remaining p v (named m))) i in
-      let b : (z : ℕ) × Has z (remaining p v (named m)) × (a .0 ≡ G z) = map-has (segmentOf p v (named m)) (a .0) (remaining p v (named m)) (a .1) in
-      let t : Has x (flat (λ s. map (candOf p (named m) (G (b .0)) s) (dataDrives p s)) (counted p (named m) (G (b .0)))) =
-      subst (λ (q : Segment). Has x (flat (λ s. map (candOf p (named m) q s) (dataDrives p s)) (counted p (named m) q))) (b .2) (a .2) in
-      let e : (s : ℕ) × Has s (counted p (named m) (G (b .0))) × Has x (map (candOf p (named m) (G (b .0)) s) (dataDrives p s)) =
-      flat-has (λ s. map (candOf p (named m) (G (b .0)) s) (dataDrives p s)) x (counted p (named m) (G (b .0))) t in
-      let f : (d : ℕ) × Has d (dataDrives p (e .0)) × (x ≡ candOf p (named m) (G (b .0)) (e .0) d) = map-has (candOf p (named m) (G (b .0)) (e .0)) x (dataDrives p (e .0)) (e .2) in
+      let a : (q : Segment) × Has q (map (segmentOf p v m) (remaining p v m)) × Has x (flat (λ s. map (candOf p m q s) (dataDrives p s)) (counted p m q)) =
+      flat-has (segmentCands p m) x (map (segmentOf p v m) (remaining p v m)) i in
+      let b : (z : ℕ) × Has z (remaining p v m) × (a .0 ≡ G z) = map-has (segmentOf p v m) (a .0) (remaining p v m) (a .1) in
+      let t : Has x (flat (λ s. map (candOf p m (G (b .0)) s) (dataDrives p s)) (counted p m (G (b .0)))) =
+      subst (λ (q : Segment). Has x (flat (λ s. map (candOf p m q s) (dataDrives p s)) (counted p m q))) (b .2) (a .2) in
+      let e : (s : ℕ) × Has s (counted p m (G (b .0))) × Has x (map (candOf p m (G (b .0)) s) (dataDrives p s)) =
+      flat-has (λ s. map (candOf p m (G (b .0)) s) (dataDrives p s)) x (counted p m (G (b .0))) t in
+      let f : (d : ℕ) × Has d (dataDrives p (e .0)) × (x ≡ candOf p m (G (b .0)) (e .0) d) = map-has (candOf p m (G (b .0)) (e .0)) x (dataDrives p (e .0)) (e .2) in
       record { z = b .0; s = e .0; d = f .0; rem = b .1; cnt = e .1; drv = data-drives p r (e .0) (f .0) (f .1) .0; dat = data-drives p r (e .0) (f .0) (f .1) .1; is = f .2 }
 
-  pub has-cand : (z s d : ℕ) → Has z (remaining p v (named m)) → Has s (counted p (named m) (G z)) → d < p .N → d ≢ parityDrive p s → Has (candOf p (named m) (G z) s d) candsSeen
+  pub has-cand : (z s d : ℕ) → Has z (remaining p v m) → Has s (counted p m (G z)) → d < p .N → isData p s d ≡ true → Has (candOf p m (G z) s d) candsSeen
   unfolding candsSeen candidates segmentCands segments
   has-cand z s d i j l n =
-      has-flat (segmentCands p (named m)) (candOf p (named m) (G z) s d) (map (segmentOf p v (named m)) (remaining p v (named m))) (G z)
-      (has-map (segmentOf p v (named m)) (remaining p v (named m)) z i)
-      (has-flat (λ s. map (candOf p (named m) (G z) s) (dataDrives p s)) (candOf p (named m) (G z) s d) (counted p (named m) (G z)) s j
-      (has-map (candOf p (named m) (G z) s) (dataDrives p s) d (has-data-drive p r s d l n)))
+      has-flat (segmentCands p m) (candOf p m (G z) s d) (map (segmentOf p v m) (remaining p v m)) (G z)
+      (has-map (segmentOf p v m) (remaining p v m) z i)
+      (has-flat (λ s. map (candOf p m (G z) s) (dataDrives p s)) (candOf p m (G z) s d) (counted p m (G z)) s j
+      (has-map (candOf p m (G z) s) (dataDrives p s) d (has-data-drive p r s d l n)))
 
   -- its address and stamp are those of the piece
-  pub cand-value : (z s d : ℕ) → (candOf p (named m) (G z) s d .address ≡ pieceAt p r g v k m c z s d .addr) × (candOf p (named m) (G z) s d .stamp ≡ pieceAt p r g v k m c z s d .stamp)
+  pub cand-value : (z s d : ℕ) → (candOf p m (G z) s d .address ≡ pieceAt p r g v k m c z s d .addr) × (candOf p m (G z) s d .stamp ≡ pieceAt p r g v k m c z s d .stamp)
   unfolding candOf pieceAt pieceValue valueOf
-  cand-value z s d = (ap (λ (x : Rec). x .address) (sym (piece-rec p (named m) (G z) s d)), ap (λ (x : Rec). x .stamp) (sym (piece-rec p (named m) (G z) s d)))
+  cand-value z s d = (ap (λ (x : Rec). x .address) (sym (piece-rec p m (G z) s d)), ap (λ (x : Rec). x .stamp) (sym (piece-rec p m (G z) s d)))
 
   pub cand-counted : (x : Cand) (f : From x)
-      → Counted (parOf p r) (g .hd) (itemsIn p v) m (pieceAt p r g v k m c (f .z) (f .s) (f .d)) × (pieceAt p r g v k m c (f .z) (f .s) (f .d) .addr ≡ x .address)
+      → Counted (parOf p r) (g .hd) (itemsIn p v) (isIn m) (pieceAt p r g v k m c (f .z) (f .s) (f .d)) × (pieceAt p r g v k m c (f .z) (f .s) (f .d) .addr ≡ x .address)
       × (pieceAt p r g v k m c (f .z) (f .s) (f .d) .stamp ≡ x .stamp)
   cand-counted x f =
-      let b : (f .z < p .Z) × R (parOf p r) (g .hd) (itemsIn p v) m (f .z) = remaining-has p r g v k m c (f .z) (f .rem) in (
+      let b : (f .z < p .Z) × R (parOf p r) (g .hd) (itemsIn p v) (isIn m) (f .z) = remaining-has p r g v k m c (f .z) (f .rem) in (
         record {
           z = f .z;
           s = f .s;
           f = pieceAt p r g v k m c (f .z) (f .s);
           rem = b .1;
           st = counted-stripe p r g v k m c (f .z) (f .s) (b .0) (f .cnt);
-          dt = record { d = f .d; lt = f .drv; data? = f .dat; val = refl };
+          dt = record { d = f .d; lt = f .drv; data? = data-code p r (f .s) (f .d) (f .dat); val = refl };
         },
         sym (ap (λ (y : Cand). y .address) (f .is) ∙ cand-value (f .z) (f .s) (f .d) .0),
         sym (ap (λ (y : Cand). y .stamp) (f .is) ∙ cand-value (f .z) (f .s) (f .d) .1),
       )
 
-  pub counted-of : (x : Cand) → From x → (y : Val) × Counted (parOf p r) (g .hd) (itemsIn p v) m y × (y .addr ≡ x .address) × (y .stamp ≡ x .stamp)
+  pub counted-of : (x : Cand) → From x → (y : Val) × Counted (parOf p r) (g .hd) (itemsIn p v) (isIn m) y × (y .addr ≡ x .address) × (y .stamp ≡ x .stamp)
   counted-of x f = (pieceAt p r g v k m c (f .z) (f .s) (f .d), cand-counted x f .0, cand-counted x f .1, cand-counted x f .2)
 
-  pub of-counted : (x : Val) → Counted (parOf p r) (g .hd) (itemsIn p v) m x → (y : Cand) × Has y candsSeen × (y .address ≡ x .addr) × (y .stamp ≡ x .stamp)
+  pub of-counted : (x : Val) → Counted (parOf p r) (g .hd) (itemsIn p v) (isIn m) x → (y : Cand) × Has y candsSeen × (y .address ≡ x .addr) × (y .stamp ≡ x .stamp)
   of-counted x q =
-      let e : Has (q .s) (counted p (named m) (G (q .z))) × ((d : ℕ) → d < p .N → pieceAt p r g v k m c (q .z) (q .s) d ≡ q .f d) = stripe-counted p r g v k m c (q .z) (q .s) (q .f) (q .st) in
+      let e : Has (q .s) (counted p m (G (q .z))) × ((d : ℕ) → d < p .N → pieceAt p r g v k m c (q .z) (q .s) d ≡ q .f d) = stripe-counted p r g v k m c (q .z) (q .s) (q .f) (q .st) in
       let w : pieceAt p r g v k m c (q .z) (q .s) (q .dt .d) ≡ x = e .1 (q .dt .d) (q .dt .lt) ∙ q .dt .val in (
-        candOf p (named m) (G (q .z)) (q .s) (q .dt .d),
-        has-cand (q .z) (q .s) (q .dt .d) (has-remaining p r g v k m c (q .z) (q .rem)) (e .0) (q .dt .lt) (q .dt .data?),
+        candOf p m (G (q .z)) (q .s) (q .dt .d),
+        has-cand (q .z) (q .s) (q .dt .d) (has-remaining p r g v k m c (q .z) (q .rem)) (e .0) (q .dt .lt) (code-data p r (q .s) (q .dt .d) (q .dt .data?)),
         cand-value (q .z) (q .s) (q .dt .d) .0 ∙ ap (λ (y : Val). y .addr) w,
         cand-value (q .z) (q .s) (q .dt .d) .1 ∙ ap (λ (y : Val). y .stamp) w,
       )
 
   -- ---- the greatest stamps
-  pub greatest-counted : (x : Val) → Counted (parOf p r) (g .hd) (itemsIn p v) m x → x .stamp ≤ greatestStamp candsSeen
+  pub greatest-counted : (x : Val) → Counted (parOf p r) (g .hd) (itemsIn p v) (isIn m) x → x .stamp ≤ greatestStamp candsSeen
   unfolding greatestStamp
   greatest-counted x q =
       let y : (y : Cand) × Has y candsSeen × (y .address ≡ x .addr) × (y .stamp ≡ x .stamp) = of-counted x q in
@@ -217,7 +210,7 @@ module _ (p : Params) (r : Ranged p) (g : Ghost) (v : View) (k : OnDrives p r g 
 
   -- the stamp that a restart's table reads
   unfoldable pub stampRead : ℕ → ℕ
-  stampRead a = stampOf (best none (candsOf a (candidates p (named m) (segments p v (named m)))))
+  stampRead a = stampOf (best none (candsOf a (candidates p m (segments p v m))))
 
   of-address : (x : Cand) (a : ℕ) → Has x (candsOf a candsSeen) → Has x candsSeen × (x .address ≡ a)
   unfolding candsOf
@@ -235,20 +228,20 @@ module _ (p : Params) (r : Ranged p) (g : Ghost) (v : View) (k : OnDrives p r g 
       nothing : best none [] ≡ none
       nothing = unfold best in refl
 
-  pub reads : Reads (parOf p r) (g .hd) (itemsIn p v) m stampRead
+  pub reads : Reads (parOf p r) (g .hd) (itemsIn p v) (isIn m) stampRead
   unfolding stampRead
   reads = record { most = most; some = some? }
     where
-      same : candidates p (named m) (segments p v (named m)) ≡ candsSeen
+      same : candidates p m (segments p v m) ≡ candsSeen
       same = unfold candsSeen in refl
 
       K : ℕ → ℕ
       K a = stampOf (best none (candsOf a candsSeen))
 
-      is : (a : ℕ) → stampOf (best none (candsOf a (candidates p (named m) (segments p v (named m))))) ≡ K a
+      is : (a : ℕ) → stampOf (best none (candsOf a (candidates p m (segments p v m)))) ≡ K a
       is a = ap (λ (l : List Cand). stampOf (best none (candsOf a l))) same
 
-      most : (x : Val) → Counted (parOf p r) (g .hd) (itemsIn p v) m x → x .stamp ≤ stampOf (best none (candsOf (x .addr) (candidates p (named m) (segments p v (named m)))))
+      most : (x : Val) → Counted (parOf p r) (g .hd) (itemsIn p v) (isIn m) x → x .stamp ≤ stampOf (best none (candsOf (x .addr) (candidates p m (segments p v m))))
       most x q =
           let y : (y : Cand) × Has y candsSeen × (y .address ≡ x .addr) × (y .stamp ≡ x .stamp) = of-counted x q in
           let i : Has (y .0) (candsOf (x .addr) candsSeen) = at-address (y .0) (x .addr) (y .1) (y .2) in
@@ -256,9 +249,9 @@ module _ (p : Params) (r : Ranged p) (g : Ghost) (v : View) (k : OnDrives p r g 
           (λ (h : (w : Cand) × (best none (candsOf (x .addr) candsSeen) ≡ some w) × Has w (candsOf (x .addr) candsSeen) × ((c : Cand) → Has c (candsOf (x .addr) candsSeen) → c .stamp ≤ w .stamp)).
           rw (h .1, stamp-some) (omega (arith, h .3 (y .0) i, y .3))) (best-none (candsOf (x .addr) candsSeen)))
 
-      some? : (a : ℕ) → (stampOf (best none (candsOf a (candidates p (named m) (segments p v (named m))))) ≡ 0)
-          ⊎ ((x : Val) × Counted (parOf p r) (g .hd) (itemsIn p v) m x × (x .addr ≡ a) × (x .stamp ≡ stampOf (best none (candsOf a (candidates p (named m) (segments p v (named m)))))))
+      some? : (a : ℕ) → (stampOf (best none (candsOf a (candidates p m (segments p v m)))) ≡ 0)
+          ⊎ ((x : Val) × Counted (parOf p r) (g .hd) (itemsIn p v) (isIn m) x × (x .addr ≡ a) × (x .stamp ≡ stampOf (best none (candsOf a (candidates p m (segments p v m))))))
       some? a = rw (is a) (⊎-elim (λ (e : best none (candsOf a candsSeen) ≡ none). inl (ap stampOf e ∙ stamp-none))
           (λ (h : (w : Cand) × (best none (candsOf a candsSeen) ≡ some w) × From w × (w .address ≡ a)).
-          let y : (y : Val) × Counted (parOf p r) (g .hd) (itemsIn p v) m y × (y .addr ≡ h .0 .address) × (y .stamp ≡ h .0 .stamp) = counted-of (h .0) (h .2) in
+          let y : (y : Val) × Counted (parOf p r) (g .hd) (itemsIn p v) (isIn m) y × (y .addr ≡ h .0 .address) × (y .stamp ≡ h .0 .stamp) = counted-of (h .0) (h .2) in
           inr (y .0, y .1, y .2 ∙ h .3, y .3 ∙ sym (ap stampOf (h .1) ∙ stamp-some (h .0)))) (winner a))

@@ -4,11 +4,12 @@ use mathlib.Core.List.{List, [], _∷_, _++_, append-nil, append-assoc}
 use Prim.Native.Nat.{ℕ, zero, suc, _+_, _-_, _*_, _/_, _%_, _^_, min, _≤_, _<_}
 use native.Mathlib.Nat.{mod-lt, suc-mul, mul-suc, zero-mul, mul-le-mul-right, div-add-mod'}
 use native.Mathlib.Omega.{arith}
+use lib.Dec.{lit<}
 use lib.ListN.{length, getD, take, drop, replicate, length-append, length-take, length-drop, length-replicate}
 use lib.Seq.{getD-take, getD-drop, take-at, drop-append-add}
 use Rattle.spec.specs.declared.Params.{Params}
 use Rattle.spec.specs.Bytes.{toBe, part, field, bytesOf, readField}
-use Rattle.spec.specs.Drives.{zeroSpare}
+use Rattle.spec.specs.Drives.{zeroSpare, zoneOn}
 use Rattle.spec.specs.Layout.{headerWidths, headerValues, headerFields, headerBlock, Rec, mkRec, recordFields, recordBytes, recordOf, footerBlock}
 use Rattle.spec.specs.Lists.{flat, total, padTo, zipped}
 use Rattle.spec.specs.Params.{recordWidths, spareLen, perFooter}
@@ -17,6 +18,7 @@ use Rattle.law_basic.specs.Fields.{readField-bytesOf}
 use Rattle.law_basic.specs.Geometry.{Ranged, per-footer-low, per-footer-fits}
 use Rattle.law_basic.specs.Ranges.{length-padTo}
 use Rattle.law_basic.specs.Xor.{AllLong}
+use Rattle.proof_crash_items.specs.Items.{headerZones}
 
 -- ---- fields
 
@@ -56,6 +58,15 @@ record-bytes r w = λ j. mkRec (a j) (t j) (s j)
 
     s : readField recordWidths 2 (fieldBytes recordWidths vs) ≡ r .stripe
     s = back 2 ∙ readField-bytesOf recordWidths vs 2 [] (omega arith) (omega arith) (w .stripe)
+
+-- ---- headers
+
+pub header-zones : (p : Params) (d z r c : ℕ) → z < 256 ^ 4 → headerZones (headerBlock p d z r c) ≡ zoneOn z
+unfolding headerZones headerBlock padTo headerFields headerWidths headerValues
+header-zones p d z r c h =
+    let vs = headerValues p d z r c in
+    let t : List ℕ = replicate (p .B - length (bytesOf (zipped field headerWidths vs))) 0 in
+    ap zoneOn (readField-bytesOf headerWidths vs 7 t (lit< tt) (lit< tt) h)
 
 pub length-zeroSpare : length zeroSpare ≡ spareLen
 unfolding zeroSpare

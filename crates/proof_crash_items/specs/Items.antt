@@ -7,16 +7,16 @@ use native.Mathlib.Decide.{decLt}
 use borrow.Author.Tests.{lt-ltb, le-ltb}
 use native.Mathlib.Omega.{arith}
 use lib.Dec.{ltb}
-use lib.ListN.{length, getD, take}
+use lib.ListN.{length, getD, take, List·getD-eq-default}
 use lib.Seq.{getD-take, take-suc-set, length-take-le}
 use Rattle.spec.specs.declared.Params.{Params}
-use Rattle.spec.specs.Drives.{Chunk, mkChunk, noChunk, Zone, stored, View, zoneAt, pointerAt, Store, putZone, resetZone, setZone, storeView, storeAll}
+use Rattle.spec.specs.Bytes.{readField}
+use Rattle.spec.specs.Drives.{Chunk, mkChunk, noChunk, Zone, stored, View, zoneAt, pointerAt, Store, putZone, resetZone, setZone, storeView, storeAll, zoneOn, noZone}
 use Rattle.spec.specs.Drives.Store.{put, reset}
-use Rattle.spec.specs.Layout.{headerSerial, headerCopied, Rec, recordOf}
+use Rattle.spec.specs.Layout.{headerWidths, headerSerial, headerCopied, Rec, recordOf}
 use Rattle.spec.specs.Params.{capacity}
 use Rattle.law_views.specs.Views.{Fits, AllFit}
 use Rattle.law_drives.specs.Tests.{cond-true, cond-false}
-use Rattle.proof_crash_machine.specs.Exec.{low}
 use Rattle.proof_crash_machine.specs.Facts.{Off}
 use Rattle.proof_crash_machine.specs.Val.{Val}
 use Rattle.proof_crash_machine.specs.View.{Item, View as m-View, Store as m-Store, upd, upd-elim, after, cleared as m-cleared, apply, applyAll, chunk-val, chunk-num, chunk-hdr, chunk-foot}
@@ -32,9 +32,13 @@ valueOf b r = record { addr = r .address; stamp = r .stamp; blk = λ i. getD b i
 unfoldable pub chunkItem : Chunk → Item
 chunkItem c = chunk (recordOf (c .spare) .stripe) (valueOf (c .block) (recordOf (c .spare)))
 
+-- the zones that a header names, by drive: those of the segment with its zone's number
+unfoldable pub headerZones : List ℕ → ℕ → ℕ
+headerZones b = zoneOn (readField headerWidths 7 b)
+
 -- block 0 is the header, 1 to S are data, then footers
 unfoldable pub itemAt : Params → ℕ → Chunk → Item
-itemAt p zero c = hdr (headerSerial (c .block)) (headerCopied (c .block))
+itemAt p zero c = hdr (headerSerial (c .block)) (headerCopied (c .block)) (headerZones (c .block))
 itemAt p (suc k) c = cond (ltb k (p .S)) (chunkItem c) (foot (k - p .S))
 
 -- blocks k, k + 1, ..
@@ -52,6 +56,25 @@ itemsIn p v d z = itemsOf p (zoneAt v d z)
 pub items-in : (p : Params) (v : View) (d z : ℕ) → itemsIn p v d z ≡ itemsOf p (zoneAt v d z)
 unfolding itemsIn
 items-in p v d z = refl
+
+-- beyond the drives, or their zones, there is nothing
+pub outside-nothing : (p : Params) (v : View) → Shape p v → (d z : ℕ) → (d < p .N → z < p .Z → ⊥) → itemsIn p v d z ≡ []
+unfolding itemsIn zoneAt
+outside-nothing p v h d z n = go (decLt d (p .N))
+  where
+    nothing : itemsOf p noZone ≡ []
+    nothing = unfold itemsOf stored itemsFrom noZone in refl
+
+    go : Dec (d < p .N) → itemsOf p (getD (getD v d []) z noZone) ≡ []
+    go (no q) = ap (λ (x : List Zone). itemsOf p (getD x z noZone)) (List·getD-eq-default v [] {n = d} (omega (arith, h .drives))) ∙ nothing
+    go (yes q) = ap (itemsOf p) (List·getD-eq-default (getD v d []) noZone {n = z} (omega (arith, h .zones d q, above))) ∙ nothing
+      where
+        above : p .Z ≤ z
+        above = low (decLt z (p .Z))
+          where
+            low : Dec (z < p .Z) → p .Z ≤ z
+            low (yes b) = absurd (n q b)
+            low (no b) = omega arith
 
 -- ---- lists of items
 

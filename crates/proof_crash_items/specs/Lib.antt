@@ -2,6 +2,7 @@ pub mod Member
 pub mod Ranges
 pub mod Named
 pub mod Shape
+pub mod Zoning
 pub mod Items
 pub mod Codec
 pub mod ZoneBytes

@@ -1,7 +1,7 @@
 -- Tests over a list, and membership in it: both directions. Assumes nothing.
 use mathlib.Core.Path.{_≡_, refl, sym, ap, ap₂, _∙_, subst}
 use mathlib.Core.List.{List, [], _∷_, _++_, map}
-use mathlib.Core.Bool.{Bool, true, false, not, _&&_, _||_}
+use mathlib.Core.Bool.{Bool, true, false, _&&_, _||_}
 use mathlib.Core.Logic.{_⊎_, inl, inr, ⊎-elim}
 use Prim.Native.Nat.{ℕ, zero, suc, _+_, max, _≤_, _<_}
 use native.Mathlib.Decide.{decLe, ℕ-discrete}
@@ -22,12 +22,6 @@ or-false a b p q = ap₂ _||_ p q
 
 pub and-false-1 : (a b : Bool) → a ≡ false → (a && b) ≡ false
 and-false-1 a b p = ap (λ (x : Bool). x && b) p
-
-pub not-of-true : (b : Bool) → b ≡ true → not b ≡ false
-not-of-true b e = ap not e
-
-pub not-of-false : (b : Bool) → b ≡ false → not b ≡ true
-not-of-false b e = ap not e
 
 -- ---- lists
 
@@ -160,11 +154,6 @@ pub isNil-has : {A : Type 0} (l : List A) (a : A) → Has a l → isNil l ≡ fa
 unfolding isNil
 isNil-has [] a m = absurd m
 isNil-has (b ∷ l) a m = refl
-
-pub not-nil-has : {A : Type 0} (l : List A) → isNil l ≡ false → (a : A) × Has a l
-unfolding isNil
-not-nil-has [] e = true≢false (sym e)
-not-nil-has (b ∷ l) e = (b, inl refl)
 
 pub firstOr-has : (n : ℕ) (l : List ℕ) → isNil l ≡ false → Has (firstOr n l) l
 unfolding isNil firstOr

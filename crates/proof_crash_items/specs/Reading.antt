@@ -2,10 +2,9 @@
 use mathlib.Core.Path.{_≡_, refl, sym, ap, ap₂, _∙_, subst}
 use mathlib.Core.List.{List, [], _∷_, map}
 use mathlib.Core.Bool.{Bool, true, false, cond, not, _&&_, _||_}
-use mathlib.Core.Logic.{_⊎_, inl, inr, ⊎-elim, _≢_}
+use mathlib.Core.Logic.{_⊎_, inl, inr, ⊎-elim}
 use Prim.Native.Nat.{ℕ, suc, _+_, _-_, _*_, _^_, _≤_, _<_}
 use native.Mathlib.Nat.{mul-le-mul}
-use native.Mathlib.Decide.{ℕ-discrete}
 use borrow.Author.Tests.{lt-leb, eq-eqb, ne-eqb}
 use native.Mathlib.Omega.{arith}
 use lib.Dec.{leb, eqb}
@@ -25,7 +24,7 @@ use Rattle.spec.specs.History.Seen.{unwritten, got}
 use Rattle.spec.specs.Lists.{Opt, any, consIf, isNil, firstOr, isIn}
 use Rattle.spec.specs.Lists.Opt.{none, some}
 use Rattle.spec.specs.Memory.{Memory, stateOk, placeAt, shownAt}
-use Rattle.spec.specs.Params.{between, inRange, capacity, placeOf, placeBlock, placeZone, placeDrive, named, present}
+use Rattle.spec.specs.Params.{between, inRange, capacity, placeOf, placeBlock, placeZone, placeDrive, present}
 use Rattle.spec.specs.Parity.{Piece, parityPiece}
 use Rattle.spec.specs.Rank.{Cand, best, placeOr, candsOf}
 use Rattle.spec.specs.Read.{placeFaults, Found, lookup, foundFaults, shown, decodeFaults, storedAt, decodedAt, readPiece, readAnswer, readVerdict, fillVerdict}
@@ -39,16 +38,13 @@ use Rattle.law_views.specs.Views.{Whole, seen}
 use Rattle.law_calls.specs.Refusals.{state-fine}
 use Rattle.law_drives.specs.Tables.{place-at}
 use Rattle.law_drives.specs.Tests.{cond-true, cond-false}
-use Rattle.proof_crash_machine.specs.Exec.{true≢false, found}
+use Rattle.proof_crash_machine.specs.Exec.{true≢false}
 use Rattle.proof_crash_machine.specs.Facts.{Ghost, InV, Choice, Counted}
-use Rattle.proof_crash_machine.specs.History.{at}
-use Rattle.proof_crash_machine.specs.History.Step.{missing}
-use Rattle.proof_crash_machine.specs.Reset.{same}
 use Rattle.proof_crash_machine.specs.Val.{Val, pads}
 use Rattle.proof_crash_items.specs.Cands.{stampOf, stamp-some, stamp-none, candsSeen, From, cand-counted, stampRead, winner}
 use Rattle.proof_crash_items.specs.Items.{valueOf, itemsIn}
 use Rattle.proof_crash_items.specs.Member.{Has, or-false, and-false-1, none-any, map-has}
-use Rattle.proof_crash_items.specs.Named.{is-named, not-named, present-has}
+use Rattle.proof_crash_items.specs.Named.{present-has}
 use Rattle.proof_crash_items.specs.Ranges.{capacity-few, parOf}
 use Rattle.proof_crash_items.specs.Segs.{OnDrives, remaining-has}
 use Rattle.proof_crash_items.specs.Stripes.{stored-below, pointer-is, offset-on, stored-piece, stored-long, counted-has, pieceAt, piece-here, piece-lost}
@@ -57,9 +53,9 @@ use Rattle.proof_crash_items.specs.Values.{pieceValue, blocks-of-long, p
 
 -- memory whose tables are what the drives say, m missing
 pub record Tabled (p : Params) (v : View) (m : ℕ) (mem : Memory) : Type 0 where
-  pub addresses : mem .addresses ≡ addressTable p (candidates p (named m) (segments p v (named m)))
-  pub compact : mem .compact ≡ compactTable p (segments p v (named m))
-  pub missing : mem .state .missing ≡ named m
+  pub addresses : mem .addresses ≡ addressTable p (candidates p m (segments p v m))
+  pub compact : mem .compact ≡ compactTable p (segments p v m)
+  pub missing : mem .state .missing ≡ m
   pub ok : stateOk p (mem .state) ≡ true
 
 -- ---- the calls, where nothing is wrong
@@ -135,41 +131,41 @@ places-many p r =
     omega (arith, b)
 
 module _ (p : Params) (r : Ranged p) (g : Ghost) (dk : Disk) (w : Whole p dk) (k : OnDrives p r g (seen p dk)) (known : (x : Val) → InV x (g .sent) → (0 < x .stamp) × (x .addr < p .L))
-    (m : ℕ) (c : Choice (parOf p r) (g .un) m) (mem : Memory) (t : Tabled p (seen p dk) m mem) (h₁ : inRange p ≡ true) (h₂ : lentOk p dk mem ≡ true) where
+    (m : ℕ) (c : Choice (parOf p r) (g .un) (isIn m)) (mem : Memory) (t : Tabled p (seen p dk) m mem) (h₁ : inRange p ≡ true) (h₂ : lentOk p dk mem ≡ true) where
   abbrev v : View
   v = seen p dk
 
   abbrev G : ℕ → Segment
-  G z = segmentOf p v (named m) z
+  G z = segmentOf p v m z
 
   abbrev cands : List Cand
-  cands = candidates p (named m) (segments p v (named m))
+  cands = candidates p m (segments p v m)
 
   -- where a record's piece lies
   module _ (x : Cand) (f : From p r g v k m c x) where
     zb : f .z < p .Z
     zb = remaining-has p r g v k m c (f .z) (f .rem) .0
 
-    chunk-on : (d : ℕ) → d < p .N → d ≢ m → hasChunk (G (f .z)) (f .s) d ≡ true
+    chunk-on : (d : ℕ) → d < p .N → isIn m d ≡ false → hasChunk (G (f .z)) (f .s) d ≡ true
     chunk-on = counted-has p r g v k m c (f .z) (f .s) (f .cnt) .1
 
     off : ℕ
-    off = offsetOf (named m) (G (f .z)) (f .s) (f .d)
+    off = offsetOf m (G (f .z)) (f .s) (f .d)
 
-    off-here : f .d ≢ m → off ≡ offsetOn (G (f .z)) (f .d) (f .s)
+    off-here : isIn m (f .d) ≡ false → off ≡ offsetOn (G (f .z)) (f .d) (f .s)
     unfolding off offsetOf
-    off-here n = cond-false (isIn (named m) (f .d)) (f .s) (offsetOn (G (f .z)) (f .d) (f .s)) (not-named p r m (f .d) (f .drv) n)
+    off-here n = cond-false (isIn m (f .d)) (f .s) (offsetOn (G (f .z)) (f .d) (f .s)) n
 
-    off-lost : f .d ≡ m → off ≡ f .s
+    off-lost : isIn m (f .d) ≡ true → off ≡ f .s
     unfolding off offsetOf
-    off-lost e = cond-true (isIn (named m) (f .d)) (f .s) (offsetOn (G (f .z)) (f .d) (f .s)) (is-named p r m (f .d) (f .drv) ∙ eq-eqb (f .d) m e)
+    off-lost e = cond-true (isIn m (f .d)) (f .s) (offsetOn (G (f .z)) (f .d) (f .s)) e
 
     off-few : off < p .S
-    off-few = go (ℕ-discrete (f .d) m)
+    off-few = go (isIn m (f .d)) refl
       where
-        go : Dec (f .d ≡ m) → off < p .S
-        go (yes e) = subst (λ (x : ℕ). x < p .S) (sym (off-lost e)) (counted-has p r g v k m c (f .z) (f .s) (f .cnt) .0)
-        go (no n) =
+        go : (y : Bool) → isIn m (f .d) ≡ y → off < p .S
+        go true e = subst (λ (x : ℕ). x < p .S) (sym (off-lost e)) (counted-has p r g v k m c (f .z) (f .s) (f .cnt) .0)
+        go false n =
             subst (λ (x : ℕ). x < p .S) (sym (off-here n))
             (stored-below p (zoneAt v (f .d) (f .z)) (offsetOn (G (f .z)) (f .d) (f .s))
             (offset-on p r g v k m c (f .z) (f .s) (f .d) zb (f .drv) n (chunk-on (f .d) (f .drv) n) .0) .0)
@@ -180,7 +176,7 @@ module _ (p : Params) (r : Ranged p) (g : Ghost) (dk : Disk) (w : Whole p dk) (k
     place-is : x .place ≡ placeOf p (f .d) (f .z) (1 + off)
     place-is = ap (λ (y : Cand). y .place) (f .is) ∙ go
       where
-        go : candOf p (named m) (G (f .z)) (f .s) (f .d) .place ≡ placeOf p (f .d) (f .z) (1 + off)
+        go : candOf p m (G (f .z)) (f .s) (f .d) .place ≡ placeOf p (f .d) (f .z) (1 + off)
         go = unfold candOf off zoneOn segmentOf in refl
 
     place-d : placeDrive p (x .place) ≡ f .d
@@ -195,30 +191,30 @@ module _ (p : Params) (r : Ranged p) (g : Ghost) (dk : Disk) (w : Whole p dk) (k
     place-low : x .place < neverPlace
     place-low = let q : placeOf p (f .d) (f .z) (1 + off) < p .N * p .Z * capacity p = place-lt p (f .d) (f .z) (1 + off) (f .drv) zb block-few in omega (arith, place-is, q, places-many p r)
 
-    no-place-fault : placeFaults p v (named m) (x .place) ≡ []
+    no-place-fault : placeFaults p v m (x .place) ≡ []
     unfolding placeFaults
     no-place-fault =
         cond-false (leb (p .N) (placeDrive p (x .place))) (0 ∷ [])
         (consIf (not (between 1 (p .S) (placeBlock p (x .place)))
-        || (not (isIn (named m) (placeDrive p (x .place)))
+        || (not (isIn m (placeDrive p (x .place)))
         && leb (pointerAt v (placeDrive p (x .place)) (placeZone p (x .place))) (placeBlock p (x .place)))) (placeZone p (x .place)) [])
         (lt-leb (p .N) (placeDrive p (x .place)) (omega (arith, place-d, f .drv)))
         ∙ nothing (not (between 1 (p .S) (placeBlock p (x .place)))
-        || (not (isIn (named m) (placeDrive p (x .place)))
+        || (not (isIn m (placeDrive p (x .place)))
         && leb (pointerAt v (placeDrive p (x .place)) (placeZone p (x .place))) (placeBlock p (x .place)))) (placeZone p (x .place))
         (or-false (not (between 1 (p .S) (placeBlock p (x .place))))
-        (not (isIn (named m) (placeDrive p (x .place)))
+        (not (isIn m (placeDrive p (x .place)))
         && leb (pointerAt v (placeDrive p (x .place)) (placeZone p (x .place))) (placeBlock p (x .place)))
         (ap not (between-of 1 (p .S) (placeBlock p (x .place)) (omega (arith, place-b)) (omega (arith, place-b, off-few))))
-        (rw (place-d, place-z, place-b) (go (ℕ-discrete (f .d) m))))
+        (rw (place-d, place-z, place-b) (go (isIn m (f .d)) refl)))
       where
         nothing : (b : Bool) (z : ℕ) → b ≡ false → consIf b z [] ≡ []
         nothing true z e = true≢false (sym e)
         nothing false z e = unfold consIf in refl
 
-        go : Dec (f .d ≡ m) → (not (isIn (named m) (f .d)) && leb (pointerAt v (f .d) (f .z)) (1 + off)) ≡ false
-        go (yes e) = and-false-1 (not (isIn (named m) (f .d))) (leb (pointerAt v (f .d) (f .z)) (1 + off)) (ap not (is-named p r m (f .d) (f .drv) ∙ eq-eqb (f .d) m e))
-        go (no n) = and-false (not (isIn (named m) (f .d))) (leb (pointerAt v (f .d) (f .z)) (1 + off)) (lt-leb (pointerAt v (f .d) (f .z)) (1 + off)
+        go : (y : Bool) → isIn m (f .d) ≡ y → (not (isIn m (f .d)) && leb (pointerAt v (f .d) (f .z)) (1 + off)) ≡ false
+        go true e = and-false-1 (not (isIn m (f .d))) (leb (pointerAt v (f .d) (f .z)) (1 + off)) (ap not e)
+        go false n = and-false (not (isIn m (f .d))) (leb (pointerAt v (f .d) (f .z)) (1 + off)) (lt-leb (pointerAt v (f .d) (f .z)) (1 + off)
             (omega (
               arith,
               off-here n,
@@ -228,7 +224,7 @@ module _ (p : Params) (r : Ranged p) (g : Ghost) (dk : Disk) (w : Whole p dk) (k
             )))
 
     -- the block that is read is the piece's
-    read-stored : f .d ≢ m → readPiece p v (named m) (compactTable p (segments p v (named m))) (here (x .place)) .block ≡ pieceOf p (named m) (G (f .z)) (f .s) (f .d) .block
+    read-stored : isIn m (f .d) ≡ false → readPiece p v m (compactTable p (segments p v m)) (here (x .place)) .block ≡ pieceOf p m (G (f .z)) (f .s) (f .d) .block
     unfolding readPiece storedAt chunkAt
     read-stored n =
         rw (place-d, place-z, place-b) (
@@ -236,8 +232,8 @@ module _ (p : Params) (r : Ranged p) (g : Ghost) (dk : Disk) (w : Whole p dk) (k
         ∙ sym (ap (λ (y : Piece). y .block) (stored-piece p r g v k m c (f .z) (f .s) (f .d) zb (f .drv) n (chunk-on (f .d) (f .drv) n)))
         ∙ sym (ap (λ (y : Piece). y .block) (piece-here p r g v k m c (f .z) (f .s) (f .d) (f .drv) n)))
 
-    block-at : (d : ℕ) → d < p .N → d ≢ m
-        → storedAt p v (named m) d (f .z) (firstOr 0 (shownAt p v (compactTable p (segments p v (named m))) d (f .z) (f .s))) .block ≡ storedPiece (G (f .z)) (f .s) d .block
+    block-at : (d : ℕ) → d < p .N → isIn m d ≡ false
+        → storedAt p v m d (f .z) (firstOr 0 (shownAt p v (compactTable p (segments p v m)) d (f .z) (f .s))) .block ≡ storedPiece (G (f .z)) (f .s) d .block
     unfolding storedAt chunkAt
     block-at d l n =
         ap (λ (i : ℕ). getD (zoneAt v d (f .z) .blocks) i noChunk .block)
@@ -245,81 +241,81 @@ module _ (p : Params) (r : Ranged p) (g : Ghost) (dk : Disk) (w : Whole p dk) (k
         ∙ (let e : 1 + offsetOn (G (f .z)) d (f .s) ≡ suc (offsetOn (G (f .z)) d (f .s)) = omega arith in e))
         ∙ sym (ap (λ (y : Piece). y .block) (stored-piece p r g v k m c (f .z) (f .s) d zb l n (chunk-on d l n)))
 
-    read-decoded : f .d ≡ m → readPiece p v (named m) (compactTable p (segments p v (named m))) (away (x .place)) .block ≡ pieceOf p (named m) (G (f .z)) (f .s) (f .d) .block
+    read-decoded : isIn m (f .d) ≡ true → readPiece p v m (compactTable p (segments p v m)) (away (x .place)) .block ≡ pieceOf p m (G (f .z)) (f .s) (f .d) .block
     unfolding readPiece decodedAt parityPiece
     read-decoded e =
         rw (place-z, place-b) (
         ap (λ (s : ℕ). parity (p .B) (map (λ (q : Piece). q .block)
-        (map (λ d. storedAt p v (named m) d (f .z) (firstOr 0 (shownAt p v (compactTable p (segments p v (named m))) d (f .z) s)))
-        (present p (named m)))))
+        (map (λ d. storedAt p v m d (f .z) (firstOr 0 (shownAt p v (compactTable p (segments p v m)) d (f .z) s)))
+        (present p m))))
         (let i : 1 + off - 1 ≡ f .s = omega (arith, off-lost e) in i)
-        ∙ ap (parity (p .B)) (same (present p (named m)) (λ d i. present-has p r m d i))
-        ∙ sym (ap (λ (y : Piece). y .block) (ap (pieceOf p (named m) (G (f .z)) (f .s)) e ∙ piece-lost p r g v k m c (f .z) (f .s) (subst (λ (y : ℕ). y < p .N) e (f .drv)))))
+        ∙ ap (parity (p .B)) (same (present p m) (λ d i. present-has p m d i))
+        ∙ sym (ap (λ (y : Piece). y .block) (piece-lost p r g v k m c (f .z) (f .s) (f .d) e)))
       where
-        same : (l : List ℕ) → ((d : ℕ) → Has d l → (d < p .N) × (d ≢ m))
-            → map (λ (q : Piece). q .block) (map (λ d. storedAt p v (named m) d (f .z) (firstOr 0 (shownAt p v (compactTable p (segments p v (named m))) d (f .z) (f .s)))) l)
+        same : (l : List ℕ) → ((d : ℕ) → Has d l → (d < p .N) × (isIn m d ≡ false))
+            → map (λ (q : Piece). q .block) (map (λ d. storedAt p v m d (f .z) (firstOr 0 (shownAt p v (compactTable p (segments p v m)) d (f .z) (f .s)))) l)
             ≡ map (λ (q : Piece). q .block) (map (storedPiece (G (f .z)) (f .s)) l)
         same [] h = refl
         same (d ∷ l) h = ap₂ (λ (b : List ℕ) (bs : List (List ℕ)). b ∷ bs) (block-at d (h d (inl refl) .0) (h d (inl refl) .1)) (same l (λ e i. h e (inr i)))
 
-    no-decode-fault : f .d ≡ m → decodeFaults p v (named m) (compactTable p (segments p v (named m))) (away (x .place)) ≡ []
+    no-decode-fault : isIn m (f .d) ≡ true → decodeFaults p v m (compactTable p (segments p v m)) (away (x .place)) ≡ []
     unfolding decodeFaults shown
     no-decode-fault e =
-        nothing (any isNil (map (λ d. shownAt p v (compactTable p (segments p v (named m))) d (placeZone p (x .place)) (placeBlock p (x .place) - 1))
-        (present p (named m)))) (placeZone p (x .place)) go
+        nothing (any isNil (map (λ d. shownAt p v (compactTable p (segments p v m)) d (placeZone p (x .place)) (placeBlock p (x .place) - 1))
+        (present p m))) (placeZone p (x .place)) go
       where
         nothing : (b : Bool) (z : ℕ) → b ≡ false → consIf b z [] ≡ []
         nothing true z e = true≢false (sym e)
         nothing false z e = unfold consIf in refl
 
         at : ℕ → List ℕ
-        at d = shownAt p v (compactTable p (segments p v (named m))) d (f .z) (f .s)
+        at d = shownAt p v (compactTable p (segments p v m)) d (f .z) (f .s)
 
-        go : any isNil (map (λ d. shownAt p v (compactTable p (segments p v (named m))) d (placeZone p (x .place)) (placeBlock p (x .place) - 1)) (present p (named m))) ≡ false
-        go = ap₂ (λ (z s : ℕ). any isNil (map (λ d. shownAt p v (compactTable p (segments p v (named m))) d z s) (present p (named m)))) place-z
+        go : any isNil (map (λ d. shownAt p v (compactTable p (segments p v m)) d (placeZone p (x .place)) (placeBlock p (x .place) - 1)) (present p m)) ≡ false
+        go = ap₂ (λ (z s : ℕ). any isNil (map (λ d. shownAt p v (compactTable p (segments p v m)) d z s) (present p m))) place-z
             (ap (λ (y : ℕ). y - 1) place-b ∙ (let i : 1 + off - 1 ≡ f .s = omega (arith, off-lost e) in i))
-            ∙ none-any isNil (map at (present p (named m))) (λ y i.
-            let d : (d : ℕ) × Has d (present p (named m)) × (y ≡ at d) = map-has at y (present p (named m)) i in
-            let l : (d .0 < p .N) × (d .0 ≢ m) = present-has p r m (d .0) (d .1) in
+            ∙ none-any isNil (map at (present p m)) (λ y i.
+            let d : (d : ℕ) × Has d (present p m) × (y ≡ at d) = map-has at y (present p m) i in
+            let l : (d .0 < p .N) × (isIn m (d .0) ≡ false) = present-has p m (d .0) (d .1) in
             ap isNil (d .2) ∙ shown-some p r g v k m c (f .z) (f .s) (d .0) (f .rem) (l .0) (l .1) (chunk-on (d .0) (l .0) (l .1)))
 
     -- the block has its length
-    pub piece-long : length (pieceOf p (named m) (G (f .z)) (f .s) (f .d) .block) ≡ p .B
-    piece-long = go (ℕ-discrete (f .d) m)
+    pub piece-long : length (pieceOf p m (G (f .z)) (f .s) (f .d) .block) ≡ p .B
+    piece-long = go (isIn m (f .d)) refl
       where
-        go : Dec (f .d ≡ m) → length (pieceOf p (named m) (G (f .z)) (f .s) (f .d) .block) ≡ p .B
-        go (no n) =
+        go : (y : Bool) → isIn m (f .d) ≡ y → length (pieceOf p m (G (f .z)) (f .s) (f .d) .block) ≡ p .B
+        go false n =
             ap (λ (y : Piece). length (y .block)) (piece-here p r g v k m c (f .z) (f .s) (f .d) (f .drv) n) ∙ stored-long p r g v k m c (f .z) (f .s) (f .d) zb (f .drv) n (chunk-on (f .d) (f .drv) n)
-        go (yes e) = ap (λ (y : Piece). length (y .block)) (ap (pieceOf p (named m) (G (f .z)) (f .s)) e ∙ piece-lost p r g v k m c (f .z) (f .s) (subst (λ (y : ℕ). y < p .N) e (f .drv)))
+        go true e = ap (λ (y : Piece). length (y .block)) (piece-lost p r g v k m c (f .z) (f .s) (f .d) e)
             ∙ parity-long
           where
-            parity-long : length (parityPiece p (f .s) (map (storedPiece (G (f .z)) (f .s)) (present p (named m))) .block) ≡ p .B
-            parity-long = unfold parityPiece in length-parity (p .B) (map (λ (q : Piece). q .block) (map (storedPiece (G (f .z)) (f .s)) (present p (named m))))
-                (blocks-of-long (p .B) (map (storedPiece (G (f .z)) (f .s)) (present p (named m))) (pieces-long (p .B) (storedPiece (G (f .z)) (f .s)) (present p (named m))
-                (λ d i. stored-long p r g v k m c (f .z) (f .s) d zb (present-has p r m d i .0) (present-has p r m d i .1) (chunk-on d (present-has p r m d i .0) (present-has p r m d i .1)))))
+            parity-long : length (parityPiece p (f .s) (map (storedPiece (G (f .z)) (f .s)) (present p m)) .block) ≡ p .B
+            parity-long = unfold parityPiece in length-parity (p .B) (map (λ (q : Piece). q .block) (map (storedPiece (G (f .z)) (f .s)) (present p m)))
+                (blocks-of-long (p .B) (map (storedPiece (G (f .z)) (f .s)) (present p m)) (pieces-long (p .B) (storedPiece (G (f .z)) (f .s)) (present p m)
+                (λ d i. stored-long p r g v k m c (f .z) (f .s) d zb (present-has p m d i .0) (present-has p m d i .1) (chunk-on d (present-has p m d i .0) (present-has p m d i .1)))))
 
     -- ---- what the calls give
-    pub seen-record : (a : ℕ) → a < p .L → best none (candsOf a cands) ≡ some x → seenAt p (mkWorld dk mem) a ≡ got (pieceOf p (named m) (G (f .z)) (f .s) (f .d) .block)
-    seen-record a l e = go (ℕ-discrete (f .d) m)
+    pub seen-record : (a : ℕ) → a < p .L → best none (candsOf a cands) ≡ some x → seenAt p (mkWorld dk mem) a ≡ got (pieceOf p m (G (f .z)) (f .s) (f .d) .block)
+    seen-record a l e = go (isIn m (f .d)) refl
       where
         entry : placeAt (mem .addresses) a ≡ x .place
         entry = ap (λ (tb : List ℕ). placeAt tb a) (t .addresses)
             ∙ place-at p cands a l (subst (λ (y : Opt Cand). placeOr y < 256 ^ 4) (sym e) (unfold placeOr in omega (arith, place-low)))
             ∙ (unfold placeOr in ap placeOr e)
 
-        found : (b : Bool) → isIn (named m) (f .d) ≡ b → lookup p (mem .state .missing) (mem .addresses) a ≡ cond b (away (x .place)) (here (x .place))
+        found : (b : Bool) → isIn m (f .d) ≡ b → lookup p (mem .state .missing) (mem .addresses) a ≡ cond b (away (x .place)) (here (x .place))
         found b q = unfold lookup in (
             ap₂ (λ (n i : ℕ). cond (eqb i neverPlace) nowhere (cond (isIn n (placeDrive p i)) (away i) (here i))) (t .missing) entry
-            ∙ cond-false (eqb (x .place) neverPlace) nowhere (cond (isIn (named m) (placeDrive p (x .place))) (away (x .place)) (here (x .place)))
+            ∙ cond-false (eqb (x .place) neverPlace) nowhere (cond (isIn m (placeDrive p (x .place))) (away (x .place)) (here (x .place)))
             (ne-eqb (x .place) neverPlace (omega (arith, place-low)))
-            ∙ ap (λ (y : Bool). cond y (away (x .place)) (here (x .place))) (ap (isIn (named m)) place-d ∙ q))
+            ∙ ap (λ (y : Bool). cond y (away (x .place)) (here (x .place))) (ap (isIn m) place-d ∙ q))
 
-        go : Dec (f .d ≡ m) → seenAt p (mkWorld dk mem) a ≡ got (pieceOf p (named m) (G (f .z)) (f .s) (f .d) .block)
-        go (no n) =
-            seen-here p dk mem a h₁ h₂ l (t .ok) (x .place) (found false (not-named p r m (f .d) (f .drv) n)) (ap (λ (i : ℕ). placeFaults p v i (x .place)) (t .missing) ∙ no-place-fault)
+        go : (y : Bool) → isIn m (f .d) ≡ y → seenAt p (mkWorld dk mem) a ≡ got (pieceOf p m (G (f .z)) (f .s) (f .d) .block)
+        go false n =
+            seen-here p dk mem a h₁ h₂ l (t .ok) (x .place) (found false n) (ap (λ (i : ℕ). placeFaults p v i (x .place)) (t .missing) ∙ no-place-fault)
             ∙ ap got (ap₂ (λ (i : ℕ) (cs : List ℕ). readPiece p v i cs (here (x .place)) .block) (t .missing) (t .compact) ∙ read-stored n)
-        go (yes n) =
-            seen-away p dk mem a h₁ h₂ l (t .ok) (x .place) (found true (is-named p r m (f .d) (f .drv) ∙ eq-eqb (f .d) m n))
+        go true n =
+            seen-away p dk mem a h₁ h₂ l (t .ok) (x .place) (found true n)
             (ap (λ (i : ℕ). placeFaults p v i (x .place)) (t .missing) ∙ no-place-fault)
             (ap₂ (λ (i : ℕ) (cs : List ℕ). decodeFaults p v i cs (away (x .place))) (t .missing) (t .compact) ∙ no-decode-fault n)
             ∙ ap got (ap₂ (λ (i : ℕ) (cs : List ℕ). readPiece p v i cs (away (x .place)) .block) (t .missing) (t .compact) ∙ read-decoded n)
@@ -341,7 +337,7 @@ module _ (p : Params) (r : Ranged p) (g : Ghost) (dk : Disk) (w : Whole p dk) (k
   pub record ReadsBlock (a : ℕ) : Type 0 where
     pub block : List ℕ
     pub value : Val
-    pub counts : Counted (parOf p r) (g .hd) (itemsIn p v) m value
+    pub counts : Counted (parOf p r) (g .hd) (itemsIn p v) (isIn m) value
     pub addr : value .addr ≡ a
     pub stamp : value .stamp ≡ stampRead p r g v k m c a
     pub given : 0 < value .stamp
@@ -354,10 +350,10 @@ module _ (p : Params) (r : Ranged p) (g : Ghost) (dk : Disk) (w : Whole p dk) (k
       (λ (e : best none (candsOf a (candsSeen p r g v k m c)) ≡ none). inl (zero-of e, seen-nothing a l (same ∙ e)))
       (λ (h : (y : Cand) × (best none (candsOf a (candsSeen p r g v k m c)) ≡ some y) × From p r g v k m c y × (y .address ≡ a)).
       let f : From p r g v k m c (h .0) = h .2 in
-      let y : Counted (parOf p r) (g .hd) (itemsIn p v) m (pieceAt p r g v k m c (f .z) (f .s) (f .d)) × (pieceAt p r g v k m c (f .z) (f .s) (f .d) .addr ≡ h .0 .address)
+      let y : Counted (parOf p r) (g .hd) (itemsIn p v) (isIn m) (pieceAt p r g v k m c (f .z) (f .s) (f .d)) × (pieceAt p r g v k m c (f .z) (f .s) (f .d) .addr ≡ h .0 .address)
       × (pieceAt p r g v k m c (f .z) (f .s) (f .d) .stamp ≡ h .0 .stamp) = cand-counted p r g v k m c (h .0) f in
       inr (record {
-        block = pieceOf p (named m) (G (f .z)) (f .s) (f .d) .block;
+        block = pieceOf p m (G (f .z)) (f .s) (f .d) .block;
         value = pieceAt p r g v k m c (f .z) (f .s) (f .d);
         counts = y .0;
         addr = y .1 ∙ h .3;
@@ -377,9 +373,9 @@ module _ (p : Params) (r : Ranged p) (g : Ghost) (dk : Disk) (w : Whole p dk) (k
       stamp-of : (y : Cand) → best none (candsOf a (candsSeen p r g v k m c)) ≡ some y → stampRead p r g v k m c a ≡ y .stamp
       stamp-of y e = unfold stampRead in (ap stampOf (same ∙ e) ∙ stamp-some y)
 
-      positive : (y : Val) → Counted (parOf p r) (g .hd) (itemsIn p v) m y → y .addr < p .L → 0 < y .stamp
+      positive : (y : Val) → Counted (parOf p r) (g .hd) (itemsIn p v) (isIn m) y → y .addr < p .L → 0 < y .stamp
       positive y q b = ⊎-elim (λ (e : y ≡ pads). absurd (let i : ⊥ = omega (arith, pads-high y e, b, addresses-all p r) in i)) (λ (i : InV y (g .sent)). known y i .0)
-          (k .facts .parity .sound m c (q .z) (q .s) (q .f) (q .st) y (q .dt))
+          (k .facts .parity .sound (isIn m) c (q .z) (q .s) (q .f) (q .st) y (q .dt))
         where
           pads-high : (y : Val) → y ≡ pads → y .addr ≡ 18446744073709551615
           pads-high y e = unfold pads in ap (λ (x : Val). x .addr) e

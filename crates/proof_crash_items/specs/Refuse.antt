@@ -5,7 +5,7 @@ use mathlib.Core.Bool.{Bool, true, false, not, _&&_, _||_}
 use mathlib.Core.Logic.{inl, inr, _≢_}
 use Prim.Native.Nat.{ℕ, zero, suc, _+_, _≤_, _<_}
 use native.Mathlib.Decide.{ℕ-discrete}
-use borrow.Author.Tests.{lt-leb, lt-ltb, le-ltb, eq-eqb, ne-eqb, eqb-false, not-true}
+use borrow.Author.Tests.{lt-leb, lt-ltb, le-ltb, eq-eqb, ne-eqb, not-true}
 use native.Mathlib.Omega.{arith}
 use lib.Dec.{leb, ltb, eqb}
 use lib.ListN.{length, getD, take, drop, length-drop, length-map}
@@ -16,9 +16,9 @@ use Rattle.spec.specs.Counts.{paddingAddress, lastCount}
 use Rattle.spec.specs.Drives.{Chunk, mkChunk, noChunk, Zone, noZone, View, zoneAt, pointerAt, chunkAt, segmentNumbers, zoneOn, dataStored, blocksOf, footersOf, zeroSpare}
 use Rattle.spec.specs.Faults.{pointerFaults, sameChunk, headerFault, serialFault, outside, twice, stripeFault, badRec, storedBad, decodedBad, addressFault}
 use Rattle.spec.specs.Faults.{footersStored, sameBlocks, footerFaultIn, footerFault, clashes, segmentFault, segmentFaults}
-use Rattle.spec.specs.Layout.{parityDrive, isData, group, inGroupOf, headerBlock, headerSerial, headerCopied, Rec, mkRec, recordOf, footerBlock}
+use Rattle.spec.specs.Layout.{isData, group, inGroupOf, headerBlock, headerSerial, headerCopied, Rec, mkRec, recordOf, footerBlock}
 use Rattle.spec.specs.Lists.Opt.{none}
-use Rattle.spec.specs.Lists.{upFrom, below, all, any, consIf, keep, isNil, sameList}
+use Rattle.spec.specs.Lists.{upFrom, below, all, any, consIf, keep, isNil, sameList, isIn}
 use Rattle.spec.specs.Params.{inRange, footers, capacity, named, present, absent}
 use Rattle.spec.specs.Restart.{freeZones, namesDrive, rewrites, restartChecks}
 use Rattle.spec.specs.Segments.{lowDrive, headerAt, leftBy1, isCopy, remaining, Segment, segmentOf, segments, recsOn, counted, pieceOf, recOf, greatestSerial, unsealed}
@@ -30,24 +30,22 @@ use Rattle.law_drives.specs.Records.{blocks-at}
 use Rattle.law_drives.specs.Segs.{piece-rec}
 use Rattle.law_drives.specs.Tests.{not-so}
 use Rattle.proof_crash_machine.specs.Accept.{accepted}
-use Rattle.proof_crash_machine.specs.Facts.{Ghost, InV, Good, Choice, R, Off}
-use Rattle.proof_crash_machine.specs.Final.{right}
-use Rattle.proof_crash_machine.specs.History.{at}
+use Rattle.proof_crash_machine.specs.Facts.{Ghost, InV, Good, Choice, R, Off, used}
 use Rattle.proof_crash_machine.specs.Put.{off-in}
-use Rattle.proof_crash_machine.specs.Reset.{gone}
 use Rattle.proof_crash_machine.specs.Val.{Val, pads}
 use Rattle.proof_crash_machine.specs.View.{Item}
 use Rattle.proof_crash_machine.specs.View.Item.{chunk}
 use Rattle.proof_crash_items.specs.Items.{valueOf, chunkItem, itemsIn, items-in, chunk-of}
 use Rattle.proof_crash_items.specs.Member.{Has, or-false, and-false-1, keep-has, has-keep, keep-nil, upFrom-has, below-has, has-below, none-any, map-has, has-getD, isNil-has}
 use Rattle.proof_crash_items.specs.Named.{has-absent, none-present}
-use Rattle.proof_crash_items.specs.Ranges.{parOf}
+use Rattle.proof_crash_items.specs.Ranges.{parOf, data-code}
 use Rattle.proof_crash_items.specs.SegFacts.{segment-fields, seg-low, seg-R, begun-on, serial-is, copied-is, seg-used, ragged-of}
-use Rattle.proof_crash_items.specs.Segs.{OnDrives, zone-bytes, zone-low, zone-facts, head-serials, trusted, low-serials}
+use Rattle.proof_crash_items.specs.Segs.{OnDrives, zone-bytes, zone-low, zone-facts, head-serials, trusted, low-serials, used-zones}
 use Rattle.proof_crash_items.specs.Shape.{ZoneShape, shape-zone}
 use Rattle.proof_crash_items.specs.Stripes.{spareRecs, length-spareRecs, getD-spareRecs, stored-below, pointer-is, zones-by, recs-on, pieceAt, counted-stripe}
 use Rattle.proof_crash_items.specs.Values.{pieceValue}
 use Rattle.proof_crash_items.specs.ZoneBytes.{sparesIn, blockIn, ZoneBytes}
+use Rattle.proof_crash_items.specs.Zoning.{zone-found}
 
 -- ---- rising lists
 
@@ -152,41 +150,41 @@ footers-made p r d z q s f = ap not (same-blocks (blocksOf (take (footersStored 
     same = ext-getD [] (blocksOf (take n (drop (1 + p .S) (q .blocks)))) (footersOf p q 0 n) (long-a ∙ sym long-b) (λ j l. each j (omega (arith, l, long-a)))
 
 module _ (p : Params) (r : Ranged p) (g : Ghost) (v : View) (k : OnDrives p r g v) (known : (x : Val) → InV x (g .sent) → (0 < x .stamp) × (x .addr < p .L))
-    (m : ℕ) (c : Choice (parOf p r) (g .un) m) where
+    (m : ℕ) (c : Choice (parOf p r) (g .un) (isIn m)) where
   abbrev G : ℕ → Segment
-  G z = segmentOf p v (named m) z
+  G z = segmentOf p v m z
 
   -- ---- pointers
-  pub pointers-fine : pointerFaults p v (named m) ≡ []
+  pub pointers-fine : pointerFaults p v m ≡ []
   unfolding pointerFaults
-  pointers-fine = keep-nil (λ z. any (λ d. ltb (capacity p) (pointerAt v d z)) (present p (named m))) (below (p .Z)) (λ z i.
-      none-present p r m (λ d. ltb (capacity p) (pointerAt v d z)) (λ d l n.
+  pointers-fine = keep-nil (λ z. any (λ d. ltb (capacity p) (pointerAt v d z)) (present p m)) (below (p .Z)) (λ z i.
+      none-present p m (λ d. ltb (capacity p) (pointerAt v d z)) (λ d l n.
       le-ltb (capacity p) (pointerAt v d z) (subst (λ (x : ℕ). x ≤ capacity p) (pointer-is v d z) (zone-bytes p r g v k d z l (trusted p r g v k m c d l n) (below-has z (p .Z) i) .low))))
 
-  module _ (z : ℕ) (i : Has z (remaining p v (named m))) where
+  module _ (z : ℕ) (i : Has z (remaining p v m)) where
     b : z < p .Z
     b = seg-low p r g v k m c z i
 
-    R? : R (parOf p r) (g .hd) (itemsIn p v) m z
+    R? : R (parOf p r) (g .hd) (itemsIn p v) (isIn m) z
     R? = seg-R p r g v k m c z i
 
-    begun : (d : ℕ) → d < p .N → d ≢ m → 0 < pointerAt v d z
+    begun : (d : ℕ) → d < p .N → isIn m d ≡ false → 0 < pointerAt v d z
     begun = begun-on p r g v k m c z i
 
     -- ---- headers
-    header-fine : headerFault p (named m) (G z) ≡ false
+    header-fine : headerFault p m (G z) ≡ false
     unfolding headerFault
-    header-fine = none-present p r m
+    header-fine = none-present p m
         (λ d. not (sameChunk (getD (getD (G z .zonesBy) d noZone .blocks) 0 noChunk) (headerBlock p d (zoneOn (G z .seg) d) (G z .serial) (G z .copied)) zeroSpare)) (λ d l n.
         ap not (subst (λ (q : Zone). sameChunk (getD (q .blocks) 0 noChunk) (headerBlock p d (zoneOn (G z .seg) d) (G z .serial) (G z .copied))
         zeroSpare
         ≡ true) (sym (zones-by p r g v k m c z d l)) (one d l n)))
       where
-        one : (d : ℕ) → d < p .N → d ≢ m → sameChunk (getD (zoneAt v d z .blocks) 0 noChunk) (headerBlock p d (zoneOn (G z .seg) d) (G z .serial) (G z .copied)) zeroSpare ≡ true
+        one : (d : ℕ) → d < p .N → isIn m d ≡ false → sameChunk (getD (zoneAt v d z .blocks) 0 noChunk) (headerBlock p d (zoneOn (G z .seg) d) (G z .serial) (G z .copied)) zeroSpare ≡ true
         one d l n =
-            let t : d ≢ g .un = trusted p r g v k m c d l n in
+            let t : g .un d ≡ false = trusted p r g v k m c d l n in
             let a : (headerSerial (headerAt v d z) ≡ g .hd .ser z) × (headerCopied (headerAt v d z) ≡ g .hd .cop z) = head-serials p r g v k d z l t b (begun d l n) in
-            let w : (headerSerial (headerAt v (lowDrive p (named m)) z) ≡ g .hd .ser z) × (headerCopied (headerAt v (lowDrive p (named m)) z) ≡ g .hd .cop z) =
+            let w : (headerSerial (headerAt v (lowDrive p m) z) ≡ g .hd .ser z) × (headerCopied (headerAt v (lowDrive p m) z) ≡ g .hd .cop z) =
             low-serials p r g v k m c z (R? .left) in
             let h : blockIn (zoneAt v d z) 0 ≡ mkChunk (headerBlock p d z (headerSerial (headerAt v d z)) (headerCopied (headerAt v d z))) zeroSpare = whole d l n in
             let e : mkChunk (headerBlock p d z (headerSerial (headerAt v d z)) (headerCopied (headerAt v d z))) zeroSpare
@@ -199,14 +197,14 @@ module _ (p : Params) (r : Ranged p) (g : Ghost) (v : View) (k : OnDrives p r g 
             on : (d : ℕ) → zoneOn (G z .seg) d ≡ z
             on d = unfold zoneOn in segment-fields p r g v k m c z .0
 
-            whole : (d : ℕ) → d < p .N → d ≢ m → blockIn (zoneAt v d z) 0 ≡ mkChunk (headerBlock p d z (headerSerial (headerAt v d z)) (headerCopied (headerAt v d z))) zeroSpare
+            whole : (d : ℕ) → d < p .N → isIn m d ≡ false → blockIn (zoneAt v d z) 0 ≡ mkChunk (headerBlock p d z (headerSerial (headerAt v d z)) (headerCopied (headerAt v d z))) zeroSpare
             whole d l n = unfold headerAt chunkAt zoneOn in zone-bytes p r g v k d z l (trusted p r g v k m c d l n) b .head (subst (λ (x : ℕ). 0 < x) (sym (pointer-is v d z)) (begun d l n))
 
             chunk-self : (x y : List ℕ) → sameChunk (mkChunk x y) x y ≡ true
             chunk-self x y = unfold sameChunk in and-both (sameList x x) (sameList y y) (sameList-refl x) (sameList-refl y)
 
     -- ---- stripe numbers
-    off-rec : (d o : ℕ) → d < p .N → d ≢ m → o < dataStored p (zoneAt v d z)
+    off-rec : (d o : ℕ) → d < p .N → isIn m d ≡ false → o < dataStored p (zoneAt v d z)
         → Off (itemsIn p v d z) (suc o) (chunk (recordOf (blockIn (zoneAt v d z) (suc o) .spare) .stripe)
         (valueOf (blockIn (zoneAt v d z) (suc o) .block) (recordOf (blockIn (zoneAt v d z) (suc o) .spare))))
     off-rec d o l n w =
@@ -215,16 +213,16 @@ module _ (p : Params) (r : Ranged p) (g : Ghost) (v : View) (k : OnDrives p r g 
         (valueOf (blockIn (zoneAt v d z) (suc o) .block) (recordOf (blockIn (zoneAt v d z) (suc o) .spare)))))
         (sym (items-in p v d z)) (unfold chunkItem in chunk-of p (zoneAt v d z) (zone-low p r g v k d z l (trusted p r g v k m c d l n) b) o (s .0) (s .1))
 
-    stripes-fine : stripeFault p (named m) (G z) ≡ false
+    stripes-fine : stripeFault p m (G z) ≡ false
     unfolding stripeFault
-    stripes-fine = none-present p r m (λ d. outside p 0 (recsOn (G z) d) || twice (recsOn (G z) d)) (λ d l n.
+    stripes-fine = none-present p m (λ d. outside p 0 (recsOn (G z) d) || twice (recsOn (G z) d)) (λ d l n.
         subst (λ (x : List Rec). (outside p 0 x || twice x) ≡ false) (sym (recs-on p r g v k m c z d b l n))
         (or-false (outside p 0 (spareRecs p (zoneAt v d z))) (twice (spareRecs p (zoneAt v d z))) (out d l n) (once d l n)))
       where
         at : (d o : ℕ) → o < length (spareRecs p (zoneAt v d z)) → getD (spareRecs p (zoneAt v d z)) o (mkRec 0 0 0) ≡ recordOf (blockIn (zoneAt v d z) (suc o) .spare)
         at d o w = getD-spareRecs p (zoneAt v d z) o (mkRec 0 0 0) (omega (arith, w, length-spareRecs p (zoneAt v d z)))
 
-        out : (d : ℕ) → d < p .N → d ≢ m → outside p 0 (spareRecs p (zoneAt v d z)) ≡ false
+        out : (d : ℕ) → d < p .N → isIn m d ≡ false → outside p 0 (spareRecs p (zoneAt v d z)) ≡ false
         out d l n = outside-none p 0 (spareRecs p (zoneAt v d z)) (λ o w.
             let f : (recordOf (blockIn (zoneAt v d z) (suc o) .spare) .stripe < p .S) × (o < p .S) × (group p (recordOf (blockIn (zoneAt v d z) (suc o) .spare) .stripe) ≡ group p o) =
             zone-facts p r g v k d z l (trusted p r g v k m c d l n) .num o (recordOf (blockIn (zoneAt v d z) (suc o) .spare) .stripe)
@@ -235,7 +233,7 @@ module _ (p : Params) (r : Ranged p) (g : Ghost) (v : View) (k : OnDrives p r g 
             inside : (o s : ℕ) → s < p .S → group p s ≡ group p o → inGroupOf p o s ≡ true
             inside o s a e = unfold inGroupOf in and-both (ltb s (p .S)) (eqb (group p s) (group p o)) (lt-ltb s (p .S) a) (eq-eqb (group p s) (group p o) e)
 
-        once : (d : ℕ) → d < p .N → d ≢ m → twice (spareRecs p (zoneAt v d z)) ≡ false
+        once : (d : ℕ) → d < p .N → isIn m d ≡ false → twice (spareRecs p (zoneAt v d z)) ≡ false
         once d l n = twice-none (spareRecs p (zoneAt v d z)) (λ i j a a′ e.
             let ia : i < dataStored p (zoneAt v d z) = omega (arith, a, length-spareRecs p (zoneAt v d z)) in
             let ja : j < dataStored p (zoneAt v d z) = omega (arith, a′, length-spareRecs p (zoneAt v d z)) in
@@ -272,16 +270,13 @@ module _ (p : Params) (r : Ranged p) (g : Ghost) (v : View) (k : OnDrives p r g 
         stamp-is : (b : List ℕ) (x : Rec) → 0 < valueOf b x .stamp → 0 < x .stamp
         stamp-is b x l = unfold valueOf in l
 
-    data-drive : (s d : ℕ) → isData p s d ≡ true → d ≢ parityDrive p s
-    unfolding isData
-    data-drive s d e = eqb-false d (parityDrive p s) (not-true (eqb d (parityDrive p s)) e)
-
-    stored-fine : any (λ d. any (storedBad p d) (recsOn (G z) d)) (present p (named m)) ≡ false
-    stored-fine = none-present p r m (λ d. any (storedBad p d) (recsOn (G z) d)) (λ d l n.
+    stored-fine : any (λ d. any (storedBad p d) (recsOn (G z) d)) (present p m) ≡ false
+    stored-fine = none-present p m (λ d. any (storedBad p d) (recsOn (G z) d)) (λ d l n.
         subst (λ (y : List Rec). any (storedBad p d) y ≡ false) (sym (recs-on p r g v k m c z d b l n))
         (none-any (storedBad p d) (spareRecs p (zoneAt v d z)) (λ x i. one d l n x (has-getD (spareRecs p (zoneAt v d z)) x (mkRec 0 0 0) i))))
       where
-        one : (d : ℕ) → d < p .N → d ≢ m → (x : Rec) → (j : ℕ) × (j < length (spareRecs p (zoneAt v d z))) × (getD (spareRecs p (zoneAt v d z)) j (mkRec 0 0 0) ≡ x) → storedBad p d x ≡ false
+        one : (d : ℕ) → d < p .N → isIn m d ≡ false → (x : Rec) → (j : ℕ) × (j < length (spareRecs p (zoneAt v d z))) × (getD (spareRecs p (zoneAt v d z)) j (mkRec 0 0 0) ≡ x)
+            → storedBad p d x ≡ false
         one d l n x (j, a, e) =
             let w : j < dataStored p (zoneAt v d z) = omega (arith, a, length-spareRecs p (zoneAt v d z)) in
             let q : recordOf (blockIn (zoneAt v d z) (suc j) .spare) ≡ x = sym (getD-spareRecs p (zoneAt v d z) j (mkRec 0 0 0) w) ∙ e in
@@ -293,46 +288,46 @@ module _ (p : Params) (r : Ranged p) (g : Ghost) (v : View) (k : OnDrives p r g 
             case false e f = unfold storedBad in and-false-1 (isData p (x .stripe) d) (badRec p x) e
             case true e f = unfold storedBad in and-false (isData p (x .stripe) d) (badRec p x) (good-rec (blockIn (zoneAt v d z) (suc j) .block) x
                 (zone-facts p r g v k d z l (trusted p r g v k m c d l n) .origin (x .stripe) (valueOf (blockIn (zoneAt v d z) (suc j) .block) x)
-                (off-in (itemsIn p v d z) (suc j) (chunk (x .stripe) (valueOf (blockIn (zoneAt v d z) (suc j) .block) x)) f) (data-drive (x .stripe) d e)))
+                (off-in (itemsIn p v d z) (suc j) (chunk (x .stripe) (valueOf (blockIn (zoneAt v d z) (suc j) .block) x)) f) (data-code p r (x .stripe) d e)))
 
-    decoded-fine : any (λ d. any (decodedBad p (named m) (G z) d) (counted p (named m) (G z))) (absent p (named m)) ≡ false
-    decoded-fine = none-any (λ d. any (decodedBad p (named m) (G z) d) (counted p (named m) (G z))) (absent p (named m)) (λ d j.
-        none-any (decodedBad p (named m) (G z) d) (counted p (named m) (G z)) (λ s i. one d (has-absent p r m d j .0) s i (isData p s d) refl))
+    decoded-fine : any (λ d. any (decodedBad p m (G z) d) (counted p m (G z))) (absent p m) ≡ false
+    decoded-fine = none-any (λ d. any (decodedBad p m (G z) d) (counted p m (G z))) (absent p m) (λ d j.
+        none-any (decodedBad p m (G z) d) (counted p m (G z)) (λ s i. one d (has-absent p m d j .0) s i (isData p s d) refl))
       where
-        one : (d : ℕ) → d < p .N → (s : ℕ) → Has s (counted p (named m) (G z)) → (t : Bool) → isData p s d ≡ t → decodedBad p (named m) (G z) d s ≡ false
-        one d l s i false e = unfold decodedBad in and-false-1 (isData p s d) (badRec p (recOf p (named m) (G z) s d)) e
-        one d l s i true e = unfold decodedBad in and-false (isData p s d) (badRec p (recOf p (named m) (G z) s d)) (
-            subst (λ (x : Rec). badRec p x ≡ false) (piece-rec p (named m) (G z) s d) (good-rec (pieceOf p (named m) (G z) s d .block) (pieceOf p (named m) (G z) s d .rec) (good d l s i e)))
+        one : (d : ℕ) → d < p .N → (s : ℕ) → Has s (counted p m (G z)) → (t : Bool) → isData p s d ≡ t → decodedBad p m (G z) d s ≡ false
+        one d l s i false e = unfold decodedBad in and-false-1 (isData p s d) (badRec p (recOf p m (G z) s d)) e
+        one d l s i true e = unfold decodedBad in and-false (isData p s d) (badRec p (recOf p m (G z) s d)) (
+            subst (λ (x : Rec). badRec p x ≡ false) (piece-rec p m (G z) s d) (good-rec (pieceOf p m (G z) s d .block) (pieceOf p m (G z) s d .rec) (good d l s i e)))
           where
-            good : (d : ℕ) → d < p .N → (s : ℕ) → Has s (counted p (named m) (G z)) → isData p s d ≡ true → Good g (valueOf (pieceOf p (named m) (G z) s d .block) (pieceOf p (named m) (G z) s d .rec))
-            good d l s i e = unfold pieceAt pieceValue in k .facts .parity .sound m c z s (pieceAt p r g v k m c z s) (counted-stripe p r g v k m c z s b i) (pieceAt p r g v k m c z s d)
-                (record { d = d; lt = l; data? = data-drive s d e; val = refl })
+            good : (d : ℕ) → d < p .N → (s : ℕ) → Has s (counted p m (G z)) → isData p s d ≡ true → Good g (valueOf (pieceOf p m (G z) s d .block) (pieceOf p m (G z) s d .rec))
+            good d l s i e = unfold pieceAt pieceValue in k .facts .parity .sound (isIn m) c z s (pieceAt p r g v k m c z s) (counted-stripe p r g v k m c z s b i) (pieceAt p r g v k m c z s d)
+                (record { d = d; lt = l; data? = data-code p r s d e; val = refl })
 
-    addresses-fine : addressFault p (named m) (G z) ≡ false
+    addresses-fine : addressFault p m (G z) ≡ false
     unfolding addressFault
     addresses-fine =
-        or-false (any (λ d. any (storedBad p d) (recsOn (G z) d)) (present p (named m)))
-        (any (λ d. any (decodedBad p (named m) (G z) d) (counted p (named m) (G z))) (absent p (named m))) stored-fine decoded-fine
+        or-false (any (λ d. any (storedBad p d) (recsOn (G z) d)) (present p m))
+        (any (λ d. any (decodedBad p m (G z) d) (counted p m (G z))) (absent p m)) stored-fine decoded-fine
 
     -- ---- footers
-    footers-fine : footerFault p (named m) (G z) ≡ false
+    footers-fine : footerFault p m (G z) ≡ false
     unfolding footerFault
-    footers-fine = and-false (not (G z .full)) (any (λ d. footerFaultIn p (getD (G z .zonesBy) d noZone)) (present p (named m)))
-        (none-present p r m (λ d. footerFaultIn p (getD (G z .zonesBy) d noZone)) (λ d l n.
+    footers-fine = and-false (not (G z .full)) (any (λ d. footerFaultIn p (getD (G z .zonesBy) d noZone)) (present p m))
+        (none-present p m (λ d. footerFaultIn p (getD (G z .zonesBy) d noZone)) (λ d l n.
         ap (footerFaultIn p) (zones-by p r g v k m c z d l)
         ∙ footers-made p r d z (zoneAt v d z) (shape-zone p v (k .shape) d z l b) (zone-bytes p r g v k d z l (trusted p r g v k m c d l n) b)))
 
   -- ---- serials
-  serials-fine : (z : ℕ) → Has z (remaining p v (named m)) → serialFault (segments p v (named m)) (G z) ≡ false
+  serials-fine : (z : ℕ) → Has z (remaining p v m) → serialFault (segments p v m) (G z) ≡ false
   unfolding serialFault segments
-  serials-fine z i = or-false (leb (G z .serial) (G z .copied)) (any test? (map (segmentOf p v (named m)) (remaining p v (named m))))
+  serials-fine z i = or-false (leb (G z .serial) (G z .copied)) (any test? (map (segmentOf p v m) (remaining p v m)))
       (lt-leb (G z .serial) (G z .copied) (omega (arith, serial-is p r g v k m c z i, copied-is p r g v k m c z i, k .facts .swap .below z (seg-used p r g v k m c z i))))
-      (none-any test? (map (segmentOf p v (named m)) (remaining p v (named m))) (λ h j. one h (map-has (segmentOf p v (named m)) h (remaining p v (named m)) j)))
+      (none-any test? (map (segmentOf p v m) (remaining p v m)) (λ h j. one h (map-has (segmentOf p v m) h (remaining p v m) j)))
     where
       test? : Segment → Bool
       test? h = not (eqb (h .seg) (G z .seg)) && eqb (h .serial) (G z .serial)
 
-      one : (h : Segment) → (y : ℕ) × Has y (remaining p v (named m)) × (h ≡ G y) → test? h ≡ false
+      one : (h : Segment) → (y : ℕ) × Has y (remaining p v m) × (h ≡ G y) → test? h ≡ false
       one h (y, j, e) = rw e (go (ℕ-discrete y z))
         where
           go : Dec (y ≡ z) → test? (G y) ≡ false
@@ -343,70 +338,81 @@ module _ (p : Params) (r : Ranged p) (g : Ghost) (v : View) (k : OnDrives p r g 
               q (k .facts .swap .serials y z (seg-used p r g v k m c y j) (seg-used p r g v k m c z i) (sym (serial-is p r g v k m c y j) ∙ w ∙ serial-is p r g v k m c z i))))
 
   -- ---- one unsealed segment
-  pub one-unsealed : length (unsealed (segments p v (named m))) ≤ 1
+  pub one-unsealed : length (unsealed (segments p v m)) ≤ 1
   unfolding unsealed segments
   one-unsealed =
-      let e : keep (λ (g : Segment). not (g .full)) (map (segmentOf p v (named m)) (remaining p v (named m))) ≡ map (segmentOf p v (named m)) (keep (λ z. not (G z .full)) (remaining p v (named m))) =
-      keep-map (λ (g : Segment). not (g .full)) (segmentOf p v (named m)) (remaining p v (named m)) in
-      let n : length (keep (λ z. not (G z .full)) (remaining p v (named m))) ≤ 1 = few (λ z. not (G z .full)) (remaining p v (named m)) (remaining-rising p v (named m)) (λ y z i j a b.
-      accepted (parOf p r) g (itemsIn p v) (k .facts) m c .one y z (R? y i) (R? z j) (ragged-of p r g v k m c y i (not-true (G y .full) a)) (ragged-of p r g v k m c z j (not-true (G z .full) b))) in
-      omega (arith, n, ap length e ∙ length-map (keep (λ z. not (G z .full)) (remaining p v (named m))) (segmentOf p v (named m)))
+      let e : keep (λ (g : Segment). not (g .full)) (map (segmentOf p v m) (remaining p v m)) ≡ map (segmentOf p v m) (keep (λ z. not (G z .full)) (remaining p v m)) =
+      keep-map (λ (g : Segment). not (g .full)) (segmentOf p v m) (remaining p v m) in
+      let n : length (keep (λ z. not (G z .full)) (remaining p v m)) ≤ 1 = few (λ z. not (G z .full)) (remaining p v m) (remaining-rising p v m) (λ y z i j a b.
+      accepted (parOf p r) g (itemsIn p v) (k .facts) (isIn m) c .one y z (R? y i) (R? z j) (ragged-of p r g v k m c y i (not-true (G y .full) a))
+      (ragged-of p r g v k m c z j (not-true (G z .full) b))) in
+      omega (arith, n, ap length e ∙ length-map (keep (λ z. not (G z .full)) (remaining p v m)) (segmentOf p v m))
 
-  segment-fine : (z : ℕ) → Has z (remaining p v (named m)) → segmentFault p (named m) (segments p v (named m)) (G z) ≡ false
+  segment-fine : (z : ℕ) → Has z (remaining p v m) → segmentFault p m (segments p v m) (G z) ≡ false
   unfolding segmentFault clashes
   segment-fine z i =
-      let gs : List Segment = segments p v (named m) in
-      let h₁ : (headerFault p (named m) (G z) || serialFault gs (G z)) ≡ false = or-false (headerFault p (named m) (G z)) (serialFault gs (G z)) (header-fine z i) (serials-fine z i) in
-      let h₂ : (headerFault p (named m) (G z) || serialFault gs (G z) || stripeFault p (named m) (G z)) ≡ false =
-      or-false (headerFault p (named m) (G z) || serialFault gs (G z)) (stripeFault p (named m) (G z)) h₁ (stripes-fine z i) in
-      let h₃ : (headerFault p (named m) (G z) || serialFault gs (G z) || stripeFault p (named m) (G z) || addressFault p (named m) (G z)) ≡ false =
-      or-false (headerFault p (named m) (G z) || serialFault gs (G z) || stripeFault p (named m) (G z)) (addressFault p (named m) (G z)) h₂ (addresses-fine z i) in
-      let h₄ : (headerFault p (named m) (G z) || serialFault gs (G z) || stripeFault p (named m) (G z) || addressFault p (named m) (G z) || footerFault p (named m) (G z)) ≡ false =
-      or-false (headerFault p (named m) (G z) || serialFault gs (G z) || stripeFault p (named m) (G z) || addressFault p (named m) (G z)) (footerFault p (named m) (G z)) h₃ (footers-fine z i) in
-      or-false (headerFault p (named m) (G z)
+      let gs : List Segment = segments p v m in
+      let h₁ : (headerFault p m (G z) || serialFault gs (G z)) ≡ false = or-false (headerFault p m (G z)) (serialFault gs (G z)) (header-fine z i) (serials-fine z i) in
+      let h₂ : (headerFault p m (G z) || serialFault gs (G z) || stripeFault p m (G z)) ≡ false =
+      or-false (headerFault p m (G z) || serialFault gs (G z)) (stripeFault p m (G z)) h₁ (stripes-fine z i) in
+      let h₃ : (headerFault p m (G z) || serialFault gs (G z) || stripeFault p m (G z) || addressFault p m (G z)) ≡ false =
+      or-false (headerFault p m (G z) || serialFault gs (G z) || stripeFault p m (G z)) (addressFault p m (G z)) h₂ (addresses-fine z i) in
+      let h₄ : (headerFault p m (G z) || serialFault gs (G z) || stripeFault p m (G z) || addressFault p m (G z) || footerFault p m (G z)) ≡ false =
+      or-false (headerFault p m (G z) || serialFault gs (G z) || stripeFault p m (G z) || addressFault p m (G z)) (footerFault p m (G z)) h₃ (footers-fine z i) in
+      or-false (headerFault p m (G z)
       || serialFault gs (G z)
-      || stripeFault p (named m) (G z)
-      || addressFault p (named m) (G z)
-      || footerFault p (named m) (G z)) (not (G z .full) && leb 2 (length (unsealed gs))) h₄
+      || stripeFault p m (G z)
+      || addressFault p m (G z)
+      || footerFault p m (G z)) (not (G z .full) && leb 2 (length (unsealed gs))) h₄
       (and-false (not (G z .full)) (leb 2 (length (unsealed gs))) (lt-leb 2 (length (unsealed gs)) (omega (arith, one-unsealed))))
 
-  pub segments-fine : segmentFaults p (named m) (segments p v (named m)) ≡ []
+  pub segments-fine : segmentFaults p m (segments p v m) ≡ []
   unfolding segmentFaults
-  segments-fine = ap (map (λ (g : Segment). g .seg)) (keep-nil (segmentFault p (named m) (segments p v (named m))) (segments p v (named m)) (λ h j. one h (each h j)))
+  segments-fine = ap (map (λ (g : Segment). g .seg)) (keep-nil (segmentFault p m (segments p v m)) (segments p v m) (λ h j. one h (each h j)))
     where
-      each : (h : Segment) → Has h (segments p v (named m)) → (y : ℕ) × Has y (remaining p v (named m)) × (h ≡ G y)
-      each h j = unfold segments in map-has (segmentOf p v (named m)) h (remaining p v (named m)) j
+      each : (h : Segment) → Has h (segments p v m) → (y : ℕ) × Has y (remaining p v m) × (h ≡ G y)
+      each h j = unfold segments in map-has (segmentOf p v m) h (remaining p v m) j
 
-      one : (h : Segment) → (y : ℕ) × Has y (remaining p v (named m)) × (h ≡ G y) → segmentFault p (named m) (segments p v (named m)) h ≡ false
+      one : (h : Segment) → (y : ℕ) × Has y (remaining p v m) × (h ≡ G y) → segmentFault p m (segments p v m) h ≡ false
       one h (y, i, e) = rw e (segment-fine y i)
 
   -- ---- 8: a zone is free
-  pub free-zone : isNil (freeZones p (segments p v (named m))) ≡ false
+  pub free-zone : isNil (freeZones p (segments p v m)) ≡ false
   unfolding freeZones segmentNumbers
   free-zone =
-      let a : (z : ℕ) × (z < p .Z) × (R (parOf p r) (g .hd) (itemsIn p v) m z → ⊥) = accepted (parOf p r) g (itemsIn p v) (k .facts) m c .room in
-      isNil-has (keep (λ z. not (any (λ (g : Segment). eqb (g .seg) z) (segments p v (named m)))) (below (p .Z))) (a .0)
-      (has-keep (λ z. not (any (λ (g : Segment). eqb (g .seg) z) (segments p v (named m)))) (a .0) (below (p .Z)) (has-below (a .0) (p .Z) (a .1))
-      (ap not (none-any (λ (g : Segment). eqb (g .seg) (a .0)) (segments p v (named m)) (λ h j. one (a .0) (a .2) h (each h j)))))
+      let a : (z : ℕ) × (z < p .Z) × (R (parOf p r) (g .hd) (itemsIn p v) (isIn m) z → ⊥) = room in
+      isNil-has (keep (λ z. not (any (λ (g : Segment). eqb (g .seg) z) (segments p v m))) (below (p .Z))) (a .0)
+      (has-keep (λ z. not (any (λ (g : Segment). eqb (g .seg) z) (segments p v m))) (a .0) (below (p .Z)) (has-below (a .0) (p .Z) (a .1))
+      (ap not (none-any (λ (g : Segment). eqb (g .seg) (a .0)) (segments p v m) (λ h j. one (a .0) (a .2) h (each h j)))))
     where
-      each : (h : Segment) → Has h (segments p v (named m)) → (y : ℕ) × Has y (remaining p v (named m)) × (h ≡ G y)
-      each h j = unfold segments in map-has (segmentOf p v (named m)) h (remaining p v (named m)) j
+      -- a zone of the first drive that no remaining segment has
+      room : (z : ℕ) × (z < p .Z) × (R (parOf p r) (g .hd) (itemsIn p v) (isIn m) z → ⊥)
+      room =
+          let a : (y : ℕ) × (y < p .Z) × (true ≡ true) × ((z : ℕ) → R (parOf p r) (g .hd) (itemsIn p v) (isIn m) z → g .hd .zn z 0 ≢ y) =
+          accepted (parOf p r) g (itemsIn p v) (k .facts) (isIn m) c .room 0 (omega (arith, r .drives-low)) in
+          let z : (z : ℕ) × (z < p .Z) × (zoneOn z 0 ≡ a .0) = zone-found p (a .0) 0 (a .1) in
+          (z .0, z .1, λ q. a .3 (z .0) q (ap (λ (f : ℕ → ℕ). f 0) (used-zones p r g v k (z .0) (used (parOf p r) g (itemsIn p v) (isIn m) (z .0) c (q .left))) ∙ z .2))
 
-      one : (z : ℕ) → (R (parOf p r) (g .hd) (itemsIn p v) m z → ⊥) → (h : Segment) → (y : ℕ) × Has y (remaining p v (named m)) × (h ≡ G y) → eqb (h .seg) z ≡ false
-      one z n h (y, i, e) = rw e (ne-eqb (G y .seg) z (λ w. n (subst (λ (x : ℕ). R (parOf p r) (g .hd) (itemsIn p v) m x) (sym (segment-fields p r g v k m c y .0) ∙ w) (R? y i))))
+      each : (h : Segment) → Has h (segments p v m) → (y : ℕ) × Has y (remaining p v m) × (h ≡ G y)
+      each h j = unfold segments in map-has (segmentOf p v m) h (remaining p v m) j
 
-  -- ---- nothing refuses the restart (but for 6)
-  pub not-refused : inRange p ≡ true → namesDrive p m ≡ true → (long : Bool) → long ≡ true
-      → (rewrites p (named m) (segments p v (named m)) && eqb (greatestSerial (segments p v (named m))) lastCount) ≡ false
-      → firstRefusal (restartChecks p long v m (segments p v (named m))) ≡ none
+      one : (z : ℕ) → (R (parOf p r) (g .hd) (itemsIn p v) (isIn m) z → ⊥) → (h : Segment) → (y : ℕ) × Has y (remaining p v m) × (h ≡ G y) → eqb (h .seg) z ≡ false
+      one z n h (y, i, e) = rw e (ne-eqb (G y .seg) z (λ w. n (subst (λ (x : ℕ). R (parOf p r) (g .hd) (itemsIn p v) (isIn m) x) (sym (segment-fields p r g v k m c y .0) ∙ w) (R? y i))))
+
+-- ---- nothing refuses the restart (but for 6)
+module _ (p : Params) (r : Ranged p) (g : Ghost) (v : View) (k : OnDrives p r g v) (known : (x : Val) → InV x (g .sent) → (0 < x .stamp) × (x .addr < p .L))
+    (d : ℕ) (c : Choice (parOf p r) (g .un) (isIn (named d))) where
+  pub not-refused : inRange p ≡ true → namesDrive p d ≡ true → (long : Bool) → long ≡ true
+      → (rewrites p (named d) (segments p v (named d)) && eqb (greatestSerial (segments p v (named d))) lastCount) ≡ false
+      → firstRefusal (restartChecks p long v d (segments p v (named d))) ≡ none
   not-refused h₁ h₂ long h₃ h₆ =
-      let gs : List Segment = segments p v (named m) in
-      restart-goes p long v m gs (record {
+      let gs : List Segment = segments p v (named d) in
+      restart-goes p long v d gs (record {
         in-range = h₁;
         names = h₂;
         lent = h₃;
-        pointers-fine = pointers-fine;
-        segments-fine = segments-fine;
+        pointers-fine = pointers-fine p r g v k known (named d) c;
+        segments-fine = segments-fine p r g v k known (named d) c;
         serial-left = h₆;
-        zone-left = and-false (rewrites p (named m) gs) (isNil (freeZones p gs)) free-zone;
+        zone-left = and-false (rewrites p (named d) gs) (isNil (freeZones p gs)) (free-zone p r g v k known (named d) c);
       })

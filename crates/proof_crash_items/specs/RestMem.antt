@@ -14,7 +14,7 @@ use lib.Pow.{pow-lt, pow-pos}
 use Rattle.spec.specs.declared.Params.{Params}
 use Rattle.spec.specs.Drives.{View, Disk}
 use Rattle.spec.specs.Engine.{lentOk}
-use Rattle.spec.specs.Lists.{below, keep, powers, only}
+use Rattle.spec.specs.Lists.{below, keep, powers, only, isIn}
 use Rattle.spec.specs.Memory.{idleState, filledIn}
 use Rattle.spec.specs.Params.{imageLen, pointersLen, addressesLen, compactLen, inflightLen, noDrive, named}
 use Rattle.spec.specs.Restart.{openOf, nextOf, restartMemory, namesDrive}
@@ -27,9 +27,6 @@ use Rattle.law_drives.specs.States.{idle-ok}
 use Rattle.law_drives.specs.Tables.{zero-at, length-addresses}
 use Rattle.proof_crash_machine.specs.Exec.{or-cases, allB, all-true}
 use Rattle.proof_crash_machine.specs.Facts.{Ghost, Choice}
-use Rattle.proof_crash_machine.specs.History.Step.{missing}
-use Rattle.proof_crash_machine.specs.OpenSeg.{opened}
-use Rattle.proof_crash_machine.specs.Reset.{gone}
 use Rattle.proof_crash_items.specs.Member.{Has, keep-has, map-has}
 use Rattle.proof_crash_items.specs.Named.{named-none}
 use Rattle.proof_crash_items.specs.Ranges.{parOf}
@@ -80,22 +77,23 @@ named-lt p r m e = go (names-cases p m e)
 
 -- ---- the memory of a restart
 
-module _ (p : Params) (r : Ranged p) (g : Ghost) (v : View) (k : OnDrives p r g v) (m : ℕ) (c : Choice (parOf p r) (g .un) m) (nm : namesDrive p m ≡ true) (fl : List ℕ) where
+module _ (p : Params) (r : Ranged p) (g : Ghost) (v : View) (k : OnDrives p r g v) (m : ℕ) (c : Choice (parOf p r) (g .un) (isIn m)) (mask-lt : m < 2 ^ p .N) (one-bit : ones m ≤ 1)
+    (fl : List ℕ) where
   abbrev us : List Segment
-  us = cond (eqb (named m) 0) (unsealed (segments p v (named m))) []
+  us = cond (eqb m 0) (unsealed (segments p v m)) []
 
-  from-us : (q : Segment) → Has q us → Has q (segments p v (named m))
+  from-us : (q : Segment) → Has q us → Has q (segments p v m)
   unfolding unsealed
-  from-us q i = go (eqb (named m) 0) i
+  from-us q i = go (eqb m 0) i
     where
-      go : (b : Bool) → Has q (cond b (keep (λ (g : Segment). not (g .full)) (segments p v (named m))) []) → Has q (segments p v (named m))
-      go true i = keep-has (λ (g : Segment). not (g .full)) q (segments p v (named m)) i .0
+      go : (b : Bool) → Has q (cond b (keep (λ (g : Segment). not (g .full)) (segments p v m)) []) → Has q (segments p v m)
+      go true i = keep-has (λ (g : Segment). not (g .full)) q (segments p v m) i .0
       go false i = absurd i
 
-  seg-below : (q : Segment) → Has q (segments p v (named m)) → q .seg < p .Z
+  seg-below : (q : Segment) → Has q (segments p v m) → q .seg < p .Z
   unfolding segments segmentOf
   seg-below q i =
-      let a : (z : ℕ) × Has z (remaining p v (named m)) × (q ≡ segmentOf p v (named m) z) = map-has (segmentOf p v (named m)) q (remaining p v (named m)) i in
+      let a : (z : ℕ) × Has z (remaining p v m) × (q ≡ segmentOf p v m z) = map-has (segmentOf p v m) q (remaining p v m) i in
       subst (λ (x : ℕ). x < p .Z) (sym (ap (λ (y : Segment). y .seg) (a .2))) (remaining-has p r g v k m c (a .0) (a .1) .0)
 
   open-low : openOf us ≤ p .Z
@@ -112,32 +110,32 @@ module _ (p : Params) (r : Ranged p) (g : Ghost) (v : View) (k : OnDrives p r g 
       go [] = unfold nextOf in omega arith
       go (q ∷ l) = unfold nextOf counted in omega (arith, length-keep (counts p 0 q) (below (p .S)), length-below (p .S))
 
-  pub restart-tabled : Tabled p v m (restartMemory p v (named m) fl)
+  pub restart-tabled : Tabled p v m (restartMemory p v m fl)
   unfolding restartMemory
   restart-tabled = record {
     addresses = refl;
     compact = refl;
     missing = unfold idleState in refl;
     ok =
-        idle-ok p r (named m) (greatestStamp (candidates p (named m) (segments p v (named m)))) (greatestSerial (segments p v (named m))) (openOf us)
-        (nextOf p us) (named-lt p r m nm) (named-ones m) open-low next-low;
+        idle-ok p r m (greatestStamp (candidates p m (segments p v m))) (greatestSerial (segments p v m)) (openOf us)
+        (nextOf p us) mask-lt one-bit open-low next-low;
   }
 
-  pub restart-lent : (dk : Disk) → Whole p dk → length fl ≡ inflightLen p → lentOk p dk (restartMemory p v (named m) fl) ≡ true
+  pub restart-lent : (dk : Disk) → Whole p dk → length fl ≡ inflightLen p → lentOk p dk (restartMemory p v m fl) ≡ true
   unfolding lentOk restartMemory
   restart-lent dk w l =
       and-both (eqb (length (dk .image)) (imageLen p)
       && eqb (length (dk .pointers)) (pointersLen p)
-      && eqb (length (addressTable p (candidates p (named m) (segments p v (named m))))) (addressesLen p)
-      && eqb (length (compactTable p (segments p v (named m)))) (compactLen p)) (eqb (length fl) (inflightLen p))
+      && eqb (length (addressTable p (candidates p m (segments p v m)))) (addressesLen p)
+      && eqb (length (compactTable p (segments p v m))) (compactLen p)) (eqb (length fl) (inflightLen p))
       (and-both (eqb (length (dk .image)) (imageLen p)
       && eqb (length (dk .pointers)) (pointersLen p)
-      && eqb (length (addressTable p (candidates p (named m) (segments p v (named m))))) (addressesLen p))
-      (eqb (length (compactTable p (segments p v (named m)))) (compactLen p))
+      && eqb (length (addressTable p (candidates p m (segments p v m)))) (addressesLen p))
+      (eqb (length (compactTable p (segments p v m))) (compactLen p))
       (and-both (eqb (length (dk .image)) (imageLen p) && eqb (length (dk .pointers)) (pointersLen p))
-      (eqb (length (addressTable p (candidates p (named m) (segments p v (named m))))) (addressesLen p))
+      (eqb (length (addressTable p (candidates p m (segments p v m)))) (addressesLen p))
       (and-both (eqb (length (dk .image)) (imageLen p)) (eqb (length (dk .pointers)) (pointersLen p))
       (eq-eqb (length (dk .image)) (imageLen p) (w .image-long)) (eq-eqb (length (dk .pointers)) (pointersLen p) (w .pointers-long)))
-      (eq-eqb (length (addressTable p (candidates p (named m) (segments p v (named m))))) (addressesLen p) (length-addresses p (candidates p (named m) (segments p v (named m))))))
-      (eq-eqb (length (compactTable p (segments p v (named m)))) (compactLen p) (length-compact p r g v k m c)))
+      (eq-eqb (length (addressTable p (candidates p m (segments p v m)))) (addressesLen p) (length-addresses p (candidates p m (segments p v m)))))
+      (eq-eqb (length (compactTable p (segments p v m))) (compactLen p) (length-compact p r g v k m c)))
       (eq-eqb (length fl) (inflightLen p) l)

@@ -1,6 +1,6 @@
 -- The shape of a view: its lengths; what a store changes of it. Assumes nothing.
 use mathlib.Core.Path.{_≡_, refl, sym, ap, _∙_}
-use mathlib.Core.List.{List, [], _∷_, _++_}
+use mathlib.Core.List.{List, [], _∷_}
 use mathlib.Core.Logic.{_⊎_, inl, inr, ⊎-elim, _≢_}
 use Prim.Native.Nat.{ℕ, zero, suc, _<_}
 use native.Mathlib.Decide.{ℕ-discrete}
@@ -13,7 +13,6 @@ use Rattle.spec.specs.Drives.{Chunk, mkChunk, noChunk, Zone, noZone, View, zone
 use Rattle.spec.specs.Drives.Store.{put, reset}
 use Rattle.spec.specs.Params.{spareLen, capacity}
 use Rattle.law_views.specs.Views.{Fits, AllFit}
-use Rattle.proof_crash_machine.specs.Ghosts.{raised}
 
 pub record Shape (p : Params) (v : View) : Type 0 where
   pub drives : length v ≡ p .N
@@ -123,11 +122,6 @@ fit-take p v [] (suc n) f = tt
 fit-take p v (s ∷ ss) zero f = tt
 fit-take p v (s ∷ ss) (suc n) f = (f .0, fit-take p (storeView s v) ss n (f .1))
 
-pub fit-append : (p : Params) (v : View) (ss ts : List Store) → AllFit p v ss → AllFit p (storeAll storeView ss v) ts → AllFit p v (ss ++ ts)
-unfolding storeAll
-fit-append p v [] ts f g = g
-fit-append p v (s ∷ ss) ts f g = (f .0, fit-append p (storeView s v) ss ts (f .1) g)
-
 -- ---- what a put changes
 
 module _ (p : Params) (v : View) (h : Shape p v) (d z : ℕ) (b t : List ℕ) (l : d < p .N) (m : z < p .Z) where
@@ -141,7 +135,3 @@ module _ (p : Params) (v : View) (h : Shape p v) (d z : ℕ) (b t : List ℕ) (l
     where
       raised : putZone b t (zoneAt v d z) .pointer ≡ suc (zoneAt v d z .pointer)
       raised = unfold putZone in refl
-
-  pub put-elsewhere : (e y : ℕ) → (e ≢ d) ⊎ (y ≢ z) → zoneAt (storeView (put d z b t) v) e y ≡ zoneAt v e y
-  unfolding storeView
-  put-elsewhere e y n = zone-set-other p v h d z (putZone b t (zoneAt v d z)) l e y n

@@ -1,7 +1,8 @@
 -- Lists of stores of the right kinds: they fit, keep the byte facts, and are the machine's stores. Assumes nothing.
 use mathlib.Core.Path.{_≡_, refl, ap, ap₂, _∙_, subst}
 use mathlib.Core.List.{List, [], _∷_, _++_, map}
-use mathlib.Core.Logic.{inl, _≢_}
+use mathlib.Core.Logic.{inl}
+use mathlib.Core.Bool.{false}
 use Prim.Native.Nat.{ℕ, zero, suc, _+_, _≤_, _<_}
 use native.Mathlib.Decide.{ℕ-discrete}
 use native.Mathlib.Omega.{arith}
@@ -9,13 +10,11 @@ use lib.ListN.{length, take}
 use Rattle.spec.specs.declared.Params.{Params}
 use Rattle.spec.specs.Drives.{mkChunk, Zone, View, zoneAt, pointerAt, Store, putZone, resetZone, setZone, storeView, storeAll}
 use Rattle.spec.specs.Drives.Store.{put, reset}
-use Rattle.spec.specs.History.{step}
 use Rattle.spec.specs.Lists.{upFrom}
 use Rattle.spec.specs.Params.{spareLen, capacity}
 use Rattle.law_basic.specs.Geometry.{Ranged}
 use Rattle.law_views.specs.Views.{Fits, AllFit}
-use Rattle.proof_crash_machine.specs.Image.{items}
-use Rattle.proof_crash_machine.specs.Rewrite.{st}
+use Rattle.proof_crash_machine.specs.Mask.{Mask}
 use Rattle.proof_crash_machine.specs.Steps.{list}
 use Rattle.proof_crash_machine.specs.View.{Store as m-Store, after, applyAll}
 use Rattle.proof_crash_machine.specs.View.Store.{put as m-put}
@@ -36,8 +35,8 @@ AllSound p v (s ∷ ss) = Sound p v s × AllSound p (storeView s v) ss
 abbrev pub BytesOn : Params → View → ℕ → Type 0
 BytesOn p v d = (z : ℕ) → z < p .Z → ZoneBytes p d z (zoneAt v d z)
 
-abbrev pub BytesOk : Params → ℕ → View → Type 0
-BytesOk p un v = (d : ℕ) → d < p .N → d ≢ un → BytesOn p v d
+abbrev pub BytesOk : Params → Mask → View → Type 0
+BytesOk p un v = (d : ℕ) → d < p .N → un d ≡ false → BytesOn p v d
 
 pub sound-fits : (p : Params) → Ranged p → (v : View) (s : Store) → Shape p v → Sound p v s → Fits p v s
 unfolding pointerAt

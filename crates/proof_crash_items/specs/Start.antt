@@ -1,31 +1,28 @@
 -- Empty drives have the facts: the hypotheses of this crate can be met. Assumes nothing.
 use mathlib.Core.Path.{_≡_, refl, sym, ap, _∙_, subst}
-use mathlib.Core.List.{List, []}
+use mathlib.Core.List.{[]}
 use mathlib.Core.Bool.{true}
-use Prim.Native.Nat.{ℕ, _≤_, _<_}
+use Prim.Native.Nat.{ℕ, _<_}
 use native.Mathlib.Decide.{decLt}
 use borrow.Author.Tests.{eqb-true}
-use native.Mathlib.Omega.{arith}
 use lib.Dec.{eqb}
-use lib.ListN.{length, getD, take, replicate, length-replicate, List·getD-eq-default}
+use lib.ListN.{length, take, replicate, length-replicate}
 use Rattle.spec.specs.declared.Params.{Params}
 use Rattle.spec.specs.Bytes.{beFrom, beOf, part}
-use Rattle.spec.specs.Drives.{Zone, noZone, stored, View, zoneAt, pointerAt, Disk, pointerByte, pointerOf}
+use Rattle.spec.specs.Drives.{Zone, stored, zoneAt, pointerAt, Disk, pointerByte, pointerOf}
 use Rattle.spec.specs.History.{emptyDisk}
 use Rattle.spec.specs.Lists.{sameList}
 use Rattle.spec.specs.Params.{imageLen, pointersLen}
 use Rattle.law_basic.specs.Geometry.{Ranged, pointer-within}
 use Rattle.law_basic.specs.Ranges.{and-left, and-right, sameList-true, part-replicate}
 use Rattle.law_views.specs.Views.{Whole, pointer-view, seen}
-use Rattle.proof_crash_machine.specs.Exec.{low}
 use Rattle.proof_crash_machine.specs.Facts.{Facts}
 use Rattle.proof_crash_machine.specs.History.{start, began as m-began}
 use Rattle.proof_crash_machine.specs.View.{View as m-View}
-use Rattle.proof_crash_items.specs.Items.{itemsFrom, itemsOf, itemsIn, items-in}
+use Rattle.proof_crash_items.specs.Items.{itemsFrom, itemsOf, itemsIn, items-in, outside-nothing}
 use Rattle.proof_crash_items.specs.Ranges.{parOf}
 use Rattle.proof_crash_items.specs.Seen.{shape-seen}
 use Rattle.proof_crash_items.specs.Segs.{OnDrives}
-use Rattle.proof_crash_items.specs.Shape.{Shape}
 use Rattle.proof_crash_items.specs.Stripes.{pointer-is}
 use Rattle.proof_crash_items.specs.ZoneBytes.{bytes-empty}
 
@@ -35,25 +32,6 @@ empty-pointers p dk e = (
   eqb-true (length (dk .image)) (imageLen p) (and-left (eqb (length (dk .image)) (imageLen p)) (sameList (dk .pointers) (replicate (pointersLen p) 0)) e),
   sameList-true (dk .pointers) (replicate (pointersLen p) 0) (and-right (eqb (length (dk .image)) (imageLen p)) (sameList (dk .pointers) (replicate (pointersLen p) 0)) e),
 )
-
--- beyond the drives, or their zones, there is nothing
-pub outside-nothing : (p : Params) (v : View) → Shape p v → (d z : ℕ) → (d < p .N → z < p .Z → ⊥) → itemsIn p v d z ≡ []
-unfolding itemsIn zoneAt
-outside-nothing p v h d z n = go (decLt d (p .N))
-  where
-    nothing : itemsOf p noZone ≡ []
-    nothing = unfold itemsOf stored itemsFrom noZone in refl
-
-    go : Dec (d < p .N) → itemsOf p (getD (getD v d []) z noZone) ≡ []
-    go (no q) = ap (λ (x : List Zone). itemsOf p (getD x z noZone)) (List·getD-eq-default v [] {n = d} (omega (arith, h .drives))) ∙ nothing
-    go (yes q) = ap (itemsOf p) (List·getD-eq-default (getD v d []) noZone {n = z} (omega (arith, h .zones d q, above))) ∙ nothing
-      where
-        above : p .Z ≤ z
-        above = low (decLt z (p .Z))
-          where
-            low : Dec (z < p .Z) → p .Z ≤ z
-            low (yes b) = absurd (n q b)
-            low (no b) = omega arith
 
 module _ (p : Params) (r : Ranged p) (dk : Disk) (e : emptyDisk p dk ≡ true) where
   pub empty-whole : Whole p dk

@@ -2,9 +2,7 @@
 use mathlib.Core.Path.{_≡_, refl, sym, ap, ap₂, _∙_, subst}
 use mathlib.Core.List.{List, [], _∷_, map}
 use mathlib.Core.Bool.{Bool, true, false, cond, not, _||_}
-use mathlib.Core.Logic.{inl, inr, _≢_}
-use Prim.Native.Nat.{ℕ, zero, suc, _+_, _≤_, _<_}
-use native.Mathlib.Decide.{decLt}
+use Prim.Native.Nat.{ℕ, zero, suc, _+_, _<_}
 use borrow.Author.Tests.{eq-eqb, eqb-true}
 use native.Mathlib.Omega.{arith}
 use lib.Dec.{eqb}
@@ -12,28 +10,26 @@ use lib.ListN.{length, getD, length-map}
 use Rattle.spec.specs.declared.Params.{Params}
 use Rattle.spec.specs.Drives.{noChunk, Zone, noZone, View, zoneAt, pointerAt, zoneOn, sealedIn, dataStored, recordIn}
 use Rattle.spec.specs.Layout.{Rec, mkRec, recordOf}
-use Rattle.spec.specs.Lists.Opt.{none}
 use Rattle.spec.specs.Lists.{below, all, any, keep, sucUnless, indexOf, isIn}
-use Rattle.spec.specs.Params.{capacity, named, drivesOf, present}
+use Rattle.spec.specs.Params.{capacity, drivesOf, present}
 use Rattle.spec.specs.Parity.{Piece, mkPiece, parityPiece}
 use Rattle.spec.specs.Segments.{Segment, recordsIn, segmentOf, recsOn, offsetOn, hasChunk, counts, counted, storedPiece, pieceOf, storedRec}
 use Rattle.law_basic.specs.Geometry.{Ranged}
 use Rattle.law_basic.specs.Ranges.{length-below, map-below-same, map-map, getD-map-below}
 use Rattle.law_drives.specs.Tests.{cond-true, cond-false}
 use Rattle.proof_crash_machine.specs.Exec.{true≢false}
-use Rattle.proof_crash_machine.specs.Facts.{Ghost, Choice, Stripe, Off}
-use Rattle.proof_crash_machine.specs.History.{at}
+use Rattle.proof_crash_machine.specs.Facts.{Ghost, Choice, Stripe, Off, Word, unique, respell}
 use Rattle.proof_crash_machine.specs.Put.{off-in}
 use Rattle.proof_crash_machine.specs.Rebuild.{in-off, once-in}
-use Rattle.proof_crash_machine.specs.Rewrite.{present as m-present, st}
-use Rattle.proof_crash_machine.specs.Val.{Val, 𝟘, _⊕_, ⊕-self, xorN, decode-all, xorN-put}
+use Rattle.proof_crash_machine.specs.Facts.{present as m-present}
+use Rattle.proof_crash_machine.specs.Val.{Val, 𝟘}
 use Rattle.proof_crash_machine.specs.View.{Item, In, in-some, chunk-hdr}
 use Rattle.proof_crash_machine.specs.View.Item.{chunk}
 use Rattle.proof_crash_items.specs.Items.{valueOf, chunkItem, itemsOf, itemsIn, items-in, of-chunk, chunk-of}
 use Rattle.proof_crash_items.specs.Member.{Has, keep-has, has-keep, below-has, has-below, has-any, has-map}
-use Rattle.proof_crash_items.specs.Named.{is-named, not-named, present-has, all-present, present-all}
-use Rattle.proof_crash_items.specs.Ranges.{capacity-few, parOf}
-use Rattle.proof_crash_items.specs.Segs.{OnDrives, zone-bytes, zone-low, trusted}
+use Rattle.proof_crash_items.specs.Named.{present-has, all-present, present-all}
+use Rattle.proof_crash_items.specs.Ranges.{capacity-few, parOf, codeOf, code-lost}
+use Rattle.proof_crash_items.specs.Segs.{OnDrives, zone-bytes, zone-low, trusted, used-below}
 use Rattle.proof_crash_items.specs.Shape.{shape-zone}
 use Rattle.proof_crash_items.specs.Values.{pieceValue, xorL, pieces-long, parity-value, onlyWhere, only-there, only-else, xor-below}
 use Rattle.proof_crash_items.specs.ZoneBytes.{blockIn, by-footer}
@@ -74,9 +70,9 @@ index-hit {A} f (a ∷ l) d e = go (f a) refl e (index-hit f l d)
     go true q e ih = unfold sucUnless in (omega arith, q)
     go false q e ih = unfold sucUnless in (omega (arith, ih e .0), ih e .1)
 
-module _ (p : Params) (r : Ranged p) (g : Ghost) (v : View) (k : OnDrives p r g v) (m : ℕ) (c : Choice (parOf p r) (g .un) m) where
+module _ (p : Params) (r : Ranged p) (g : Ghost) (v : View) (k : OnDrives p r g v) (m : ℕ) (c : Choice (parOf p r) (g .un) (isIn m)) where
   abbrev G : ℕ → Segment
-  G z = segmentOf p v (named m) z
+  G z = segmentOf p v m z
 
   -- ---- the fields of a segment as read
 
@@ -84,12 +80,12 @@ module _ (p : Params) (r : Ranged p) (g : Ghost) (v : View) (k : OnDrives p r g 
   unfolding segmentOf drivesOf zoneOn
   zones-by z d l = getD-map-below (λ d. zoneAt v d z) (p .N) d noZone l
 
-  pub sealed-full : (z d : ℕ) → sealedIn p v (named m) z ≡ true → d < p .N → d ≢ m → pointerAt v d z ≡ capacity p
+  pub sealed-full : (z d : ℕ) → sealedIn p v m z ≡ true → d < p .N → isIn m d ≡ false → pointerAt v d z ≡ capacity p
   unfolding sealedIn zoneOn
-  sealed-full z d e l n = eqb-true (pointerAt v d z) (capacity p) (all-present p r m (λ d. eqb (pointerAt v d z) (capacity p)) e d l n)
+  sealed-full z d e l n = eqb-true (pointerAt v d z) (capacity p) (all-present p m (λ d. eqb (pointerAt v d z) (capacity p)) e d l n)
 
   -- by footer or by spare
-  by-spare : (z d o : ℕ) (w : Bool) → sealedIn p v (named m) z ≡ w → z < p .Z → d < p .N → d ≢ m → o < p .S
+  by-spare : (z d o : ℕ) (w : Bool) → sealedIn p v m z ≡ w → z < p .Z → d < p .N → isIn m d ≡ false → o < p .S
       → recordIn p w (zoneAt v d z) o ≡ recordOf (blockIn (zoneAt v d z) (suc o) .spare)
   by-spare z d o true e b l n s =
       by-footer p r d z (zoneAt v d z) (shape-zone p v (k .shape) d z l b) (zone-bytes p r g v k d z l (trusted p r g v k m c d l n) b)
@@ -100,22 +96,22 @@ module _ (p : Params) (r : Ranged p) (g : Ghost) (v : View) (k : OnDrives p r g 
       by-spare-false = unfold recordIn in ap (λ (i : ℕ). recordOf (getD (zoneAt v d z .blocks) i noChunk .spare)) (let e : 1 + o ≡ suc o = omega arith in e)
   by-spare z d o false e b l n s = unfold recordIn in ap (λ (i : ℕ). recordOf (getD (zoneAt v d z .blocks) i noChunk .spare)) (let e : 1 + o ≡ suc o = omega arith in e)
 
-  pub recs-on : (z d : ℕ) → z < p .Z → d < p .N → d ≢ m → recsOn (G z) d ≡ spareRecs p (zoneAt v d z)
+  pub recs-on : (z d : ℕ) → z < p .Z → d < p .N → isIn m d ≡ false → recsOn (G z) d ≡ spareRecs p (zoneAt v d z)
   unfolding recsOn segmentOf drivesOf recordsIn spareRecs
   recs-on z d b l n =
-      getD-map-below (λ d. cond (isIn (named m) d) [] (map (recordIn p (sealedIn p v (named m) z) (getD (map (λ d. zoneAt v d (zoneOn z d)) (below (p .N))) d noZone))
+      getD-map-below (λ d. cond (isIn m d) [] (map (recordIn p (sealedIn p v m z) (getD (map (λ d. zoneAt v d (zoneOn z d)) (below (p .N))) d noZone))
       (below (dataStored p (getD (map (λ d. zoneAt v d (zoneOn z d)) (below (p .N))) d noZone))))) (p .N) d [] l
-      ∙ cond-false (isIn (named m) d) [] (map (recordIn p (sealedIn p v (named m) z) (getD (map (λ d. zoneAt v d (zoneOn z d)) (below (p .N))) d noZone))
-      (below (dataStored p (getD (map (λ d. zoneAt v d (zoneOn z d)) (below (p .N))) d noZone)))) (not-named p r m d l n)
-      ∙ ap (λ (q : Zone). map (recordIn p (sealedIn p v (named m) z) q) (below (dataStored p q))) (zones-by z d l)
-      ∙ map-below-same (recordIn p (sealedIn p v (named m) z) (zoneAt v d z)) (λ o. recordOf (blockIn (zoneAt v d z) (suc o) .spare)) (dataStored p (zoneAt v d z))
-      (λ o i. by-spare z d o (sealedIn p v (named m) z) refl b l n (stored-below p (zoneAt v d z) o i .0))
+      ∙ cond-false (isIn m d) [] (map (recordIn p (sealedIn p v m z) (getD (map (λ d. zoneAt v d (zoneOn z d)) (below (p .N))) d noZone))
+      (below (dataStored p (getD (map (λ d. zoneAt v d (zoneOn z d)) (below (p .N))) d noZone)))) n
+      ∙ ap (λ (q : Zone). map (recordIn p (sealedIn p v m z) q) (below (dataStored p q))) (zones-by z d l)
+      ∙ map-below-same (recordIn p (sealedIn p v m z) (zoneAt v d z)) (λ o. recordOf (blockIn (zoneAt v d z) (suc o) .spare)) (dataStored p (zoneAt v d z))
+      (λ o i. by-spare z d o (sealedIn p v m z) refl b l n (stored-below p (zoneAt v d z) o i .0))
 
-  pub recs-missing : (z : ℕ) → m < p .N → recsOn (G z) m ≡ []
+  pub recs-missing : (z d : ℕ) → d < p .N → isIn m d ≡ true → recsOn (G z) d ≡ []
   unfolding recsOn segmentOf drivesOf
-  recs-missing z l =
-      getD-map-below (λ d. cond (isIn (named m) d) [] (recordsIn p (sealedIn p v (named m) z) (getD (map (λ d. zoneAt v d (zoneOn z d)) (below (p .N))) d noZone))) (p .N) m [] l
-      ∙ cond-true (isIn (named m) m) [] (recordsIn p (sealedIn p v (named m) z) (getD (map (λ d. zoneAt v d (zoneOn z d)) (below (p .N))) m noZone)) (is-named p r m m l ∙ eq-eqb m m refl)
+  recs-missing z d l n =
+      getD-map-below (λ d. cond (isIn m d) [] (recordsIn p (sealedIn p v m z) (getD (map (λ d. zoneAt v d (zoneOn z d)) (below (p .N))) d noZone))) (p .N) d [] l
+      ∙ cond-true (isIn m d) [] (recordsIn p (sealedIn p v m z) (getD (map (λ d. zoneAt v d (zoneOn z d)) (below (p .N))) d noZone)) n
 
   -- ---- chunks
 
@@ -123,7 +119,7 @@ module _ (p : Params) (r : Ranged p) (g : Ghost) (v : View) (k : OnDrives p r g 
   is s x = eqb (x .stripe) s
 
   -- the offset that holds the chunk
-  pub offset-on : (z s d : ℕ) → z < p .Z → d < p .N → d ≢ m → hasChunk (G z) s d ≡ true
+  pub offset-on : (z s d : ℕ) → z < p .Z → d < p .N → isIn m d ≡ false → hasChunk (G z) s d ≡ true
       → (offsetOn (G z) d s < dataStored p (zoneAt v d z)) × (recordOf (blockIn (zoneAt v d z) (suc (offsetOn (G z) d s)) .spare) .stripe ≡ s)
   unfolding offsetOn hasChunk
   offset-on z s d b l n e =
@@ -135,30 +131,26 @@ module _ (p : Params) (r : Ranged p) (g : Ghost) (v : View) (k : OnDrives p r g 
       ap (λ (y : List Rec). getD y (indexOf (is s) (recsOn (G z) d)) (mkRec 0 0 0)) (recs-on z d b l n) ∙ getD-spareRecs p (zoneAt v d z) (indexOf (is s) (recsOn (G z) d)) (mkRec 0 0 0) j in
       (j, ap (λ (y : Rec). y .stripe) (sym x) ∙ eqb-true (getD (recsOn (G z) d) (indexOf (is s) (recsOn (G z) d)) (mkRec 0 0 0) .stripe) s (h .1))
 
-  pub stored-rec : (z s d : ℕ) → z < p .Z → d < p .N → d ≢ m → hasChunk (G z) s d ≡ true → storedRec (G z) s d ≡ recordOf (blockIn (zoneAt v d z) (suc (offsetOn (G z) d s)) .spare)
+  pub stored-rec : (z s d : ℕ) → z < p .Z → d < p .N → isIn m d ≡ false → hasChunk (G z) s d ≡ true → storedRec (G z) s d ≡ recordOf (blockIn (zoneAt v d z) (suc (offsetOn (G z) d s)) .spare)
   unfolding storedRec
   stored-rec z s d b l n e =
       ap (λ (y : List Rec). getD y (offsetOn (G z) d s) (mkRec 0 0 0)) (recs-on z d b l n)
       ∙ getD-spareRecs p (zoneAt v d z) (offsetOn (G z) d s) (mkRec 0 0 0) (offset-on z s d b l n e .0)
 
-  pub stored-piece : (z s d : ℕ) → z < p .Z → d < p .N → d ≢ m → hasChunk (G z) s d ≡ true
+  pub stored-piece : (z s d : ℕ) → z < p .Z → d < p .N → isIn m d ≡ false → hasChunk (G z) s d ≡ true
       → storedPiece (G z) s d ≡ mkPiece (blockIn (zoneAt v d z) (suc (offsetOn (G z) d s)) .block) (recordOf (blockIn (zoneAt v d z) (suc (offsetOn (G z) d s)) .spare))
   unfolding storedPiece storedRec
   stored-piece z s d b l n e = ap₂ mkPiece
       (ap₂ (λ (q : Zone) (i : ℕ). getD (q .blocks) i noChunk .block) (zones-by z d l) (let i : 1 + offsetOn (G z) d s ≡ suc (offsetOn (G z) d s) = omega arith in i))
       (stored-rec z s d b l n e)
 
-  pub rec-of-piece : (z s d : ℕ) → storedPiece (G z) s d .rec ≡ storedRec (G z) s d
-  unfolding storedPiece storedRec
-  rec-of-piece z s d = refl
-
-  pub stored-long : (z s d : ℕ) → z < p .Z → d < p .N → d ≢ m → hasChunk (G z) s d ≡ true → length (storedPiece (G z) s d .block) ≡ p .B
+  pub stored-long : (z s d : ℕ) → z < p .Z → d < p .N → isIn m d ≡ false → hasChunk (G z) s d ≡ true → length (storedPiece (G z) s d .block) ≡ p .B
   stored-long z s d b l n e =
       ap (λ (q : Piece). length (q .block)) (stored-piece z s d b l n e)
       ∙ shape-zone p v (k .shape) d z l b .long (suc (offsetOn (G z) d s)) (omega (arith, stored-below p (zoneAt v d z) (offsetOn (G z) d s) (offset-on z s d b l n e .0) .0, capacity-few p r)) .0
 
   -- the stored chunk is an item of the zone
-  pub stored-in : (z s d : ℕ) → z < p .Z → d < p .N → d ≢ m → hasChunk (G z) s d ≡ true → In (chunk s (pieceValue (storedPiece (G z) s d))) (itemsIn p v d z)
+  pub stored-in : (z s d : ℕ) → z < p .Z → d < p .N → isIn m d ≡ false → hasChunk (G z) s d ≡ true → In (chunk s (pieceValue (storedPiece (G z) s d))) (itemsIn p v d z)
   stored-in z s d b l n e =
       let o : ℕ = offsetOn (G z) d s in
       let q : Zone = zoneAt v d z in
@@ -169,13 +161,13 @@ module _ (p : Params) (r : Ranged p) (g : Ghost) (v : View) (k : OnDrives p r g 
       subst (λ (y : List Item). In (chunk s (pieceValue (storedPiece (G z) s d))) y) (sym (items-in p v d z))
       (subst (λ (y : Item). In y (itemsOf p q)) x (off-in (itemsOf p q) (suc o) (chunkItem (blockIn q (suc o))) f))
     where
-      named-chunk : (z s d : ℕ) → z < p .Z → d < p .N → d ≢ m → hasChunk (G z) s d ≡ true
+      named-chunk : (z s d : ℕ) → z < p .Z → d < p .N → isIn m d ≡ false → hasChunk (G z) s d ≡ true
           → chunkItem (blockIn (zoneAt v d z) (suc (offsetOn (G z) d s))) ≡ chunk s (pieceValue (storedPiece (G z) s d))
       named-chunk z s d b l n e = unfold chunkItem pieceValue in
           ap₂ chunk (offset-on z s d b l n e .1) (ap (λ (q : Piece). valueOf (q .block) (q .rec)) (sym (stored-piece z s d b l n e)))
 
   -- and an item is a stored chunk
-  pub in-has-chunk : (z s d : ℕ) (x : Val) → z < p .Z → d < p .N → d ≢ m → In (chunk s x) (itemsIn p v d z) → hasChunk (G z) s d ≡ true
+  pub in-has-chunk : (z s d : ℕ) (x : Val) → z < p .Z → d < p .N → isIn m d ≡ false → In (chunk s x) (itemsIn p v d z) → hasChunk (G z) s d ≡ true
   unfolding hasChunk
   in-has-chunk z s d x b l n i =
       let q : Zone = zoneAt v d z in
@@ -193,85 +185,96 @@ module _ (p : Params) (r : Ranged p) (g : Ghost) (v : View) (k : OnDrives p r g 
 
   -- ---- stripes that count
 
-  pub counted-has : (z s : ℕ) → Has s (counted p (named m) (G z)) → (s < p .S) × ((d : ℕ) → d < p .N → d ≢ m → hasChunk (G z) s d ≡ true)
+  pub counted-has : (z s : ℕ) → Has s (counted p m (G z)) → (s < p .S) × ((d : ℕ) → d < p .N → isIn m d ≡ false → hasChunk (G z) s d ≡ true)
   unfolding counted counts
   counted-has z s i =
-      let q : Has s (below (p .S)) × (all (hasChunk (G z) s) (present p (named m)) ≡ true) = keep-has (λ s. all (hasChunk (G z) s) (present p (named m))) s (below (p .S)) i in
-      (below-has s (p .S) (q .0), all-present p r m (hasChunk (G z) s) (q .1))
+      let q : Has s (below (p .S)) × (all (hasChunk (G z) s) (present p m) ≡ true) = keep-has (λ s. all (hasChunk (G z) s) (present p m)) s (below (p .S)) i in
+      (below-has s (p .S) (q .0), all-present p m (hasChunk (G z) s) (q .1))
 
-  pub has-counted : (z s : ℕ) → s < p .S → ((d : ℕ) → d < p .N → d ≢ m → hasChunk (G z) s d ≡ true) → Has s (counted p (named m) (G z))
+  pub has-counted : (z s : ℕ) → s < p .S → ((d : ℕ) → d < p .N → isIn m d ≡ false → hasChunk (G z) s d ≡ true) → Has s (counted p m (G z))
   unfolding counted counts
-  has-counted z s l h = has-keep (λ s. all (hasChunk (G z) s) (present p (named m))) s (below (p .S)) (has-below s (p .S) l) (present-all p r m (hasChunk (G z) s) h)
+  has-counted z s l h = has-keep (λ s. all (hasChunk (G z) s) (present p m)) s (below (p .S)) (has-below s (p .S) l) (present-all p m (hasChunk (G z) s) h)
 
   -- the chunk of a counted stripe, as a value
   unfoldable pub pieceAt : ℕ → ℕ → ℕ → Val
-  pieceAt z s d = pieceValue (pieceOf p (named m) (segmentOf p v (named m) z) s d)
+  pieceAt z s d = pieceValue (pieceOf p m (segmentOf p v m z) s d)
 
-  pub piece-here : (z s d : ℕ) → d < p .N → d ≢ m → pieceOf p (named m) (G z) s d ≡ storedPiece (G z) s d
+  pub piece-here : (z s d : ℕ) → d < p .N → isIn m d ≡ false → pieceOf p m (G z) s d ≡ storedPiece (G z) s d
   unfolding pieceOf
-  piece-here z s d l n = cond-false (isIn (named m) d) (parityPiece p s (map (storedPiece (G z) s) (present p (named m)))) (storedPiece (G z) s d) (not-named p r m d l n)
+  piece-here z s d l n = cond-false (isIn m d) (parityPiece p s (map (storedPiece (G z) s) (present p m))) (storedPiece (G z) s d) n
 
-  pub piece-lost : (z s : ℕ) → m < p .N → pieceOf p (named m) (G z) s m ≡ parityPiece p s (map (storedPiece (G z) s) (present p (named m)))
+  pub piece-lost : (z s d : ℕ) → isIn m d ≡ true → pieceOf p m (G z) s d ≡ parityPiece p s (map (storedPiece (G z) s) (present p m))
   unfolding pieceOf
-  piece-lost z s l = cond-true (isIn (named m) m) (parityPiece p s (map (storedPiece (G z) s) (present p (named m)))) (storedPiece (G z) s m) (is-named p r m m l ∙ eq-eqb m m refl)
+  piece-lost z s d n = cond-true (isIn m d) (parityPiece p s (map (storedPiece (G z) s) (present p m))) (storedPiece (G z) s d) n
 
-  here-in : (z s : ℕ) → z < p .Z → ((d : ℕ) → d < p .N → d ≢ m → hasChunk (G z) s d ≡ true) → (d : ℕ) → d < p .N → d ≢ m → In (chunk s (pieceAt z s d)) (itemsIn p v d z)
+  here-in : (z s : ℕ) → z < p .Z → ((d : ℕ) → d < p .N → isIn m d ≡ false → hasChunk (G z) s d ≡ true) → (d : ℕ) → d < p .N → isIn m d ≡ false → In (chunk s (pieceAt z s d)) (itemsIn p v d z)
   unfolding pieceAt
   here-in z s b h d l n = subst (λ (x : Piece). In (chunk s (pieceValue x)) (itemsIn p v d z)) (sym (piece-here z s d l n)) (stored-in z s d b l n (h d l n))
 
   abbrev P : ℕ → Bool
-  P d = not (isIn (named m) d)
+  P d = not (isIn m d)
 
   abbrev F : ℕ → ℕ → ℕ → Val
   F z s d = pieceValue (storedPiece (G z) s d)
 
-  -- what is decoded makes the exclusive or 0
-  decoded-xor : (z s : ℕ) → z < p .Z → m < p .N → ((d : ℕ) → d < p .N → d ≢ m → hasChunk (G z) s d ≡ true) → xorN (p .N) (pieceAt z s) ≡ 𝟘
+  -- what is lost is decoded from the others
+  decoded : (z s d : ℕ) → z < p .Z → isIn m d ≡ true → ((d : ℕ) → d < p .N → isIn m d ≡ false → hasChunk (G z) s d ≡ true)
+      → pieceAt z s d ≡ codeOf p r .dec s (isIn m) (F z s) d
   unfolding pieceAt present drivesOf
-  decoded-xor z s b l h =
-      let X : Val = xorN (p .N) (onlyWhere P (F z s)) in
-      let lost : pieceValue (pieceOf p (named m) (G z) s m) ≡ X =
-      ap pieceValue (piece-lost z s l)
+  decoded z s d b n h =
+      ap pieceValue (piece-lost z s d n)
       ∙ parity-value p s (map (storedPiece (G z) s) (keep P (below (p .N)))) (pieces-long (p .B) (storedPiece (G z) s) (keep P (below (p .N)))
-      (λ d i. stored-long z s d b (present-has p r m d i .0) (present-has p r m d i .1) (h d (present-has p r m d i .0) (present-has p r m d i .1))))
-      ∙ ap xorL (map-map pieceValue (storedPiece (G z) s) (keep P (below (p .N)))) ∙ xor-below P (F z s) (p .N) in
-      xorN-put (p .N) m (pieceAt z s) (onlyWhere P (F z s)) l
-      (λ d j n. ap pieceValue (piece-here z s d j n) ∙ sym (only-there P (F z s) d (ap not (not-named p r m d j n))))
-      (only-else P (F z s) m (ap not (is-named p r m m l ∙ eq-eqb m m refl)))
-      ∙ ap (λ (x : Val). x ⊕ X) lost ∙ ⊕-self X
-
-  pub counted-stripe : (z s : ℕ) → z < p .Z → Has s (counted p (named m) (G z)) → Stripe (parOf p r) (itemsIn p v) m z s (pieceAt z s)
-  counted-stripe z s b i = record { on = here-in z s b (counted-has z s i .1); xor = go (decLt m (p .N)) }
+      (λ d i. stored-long z s d b (present-has p m d i .0) (present-has p m d i .1) (h d (present-has p m d i .0) (present-has p m d i .1))))
+      ∙ ap xorL (map-map pieceValue (storedPiece (G z) s) (keep P (below (p .N)))) ∙ xor-below P (F z s) (p .N)
+      ∙ sym (code-lost p r s (isIn m) (F z s) (onlyWhere P (F z s)) d (λ e l. at e (isIn m e) refl))
     where
-      go : Dec (m < p .N) → xorN (p .N) (pieceAt z s) ≡ 𝟘
-      go (yes l) = decoded-xor z s b l (counted-has z s i .1)
-      go (no l) = k .facts .parity .whole (none c) z s (pieceAt z s) (λ d j. here-in z s b (counted-has z s i .1) d j (omega arith))
+      at : (e : ℕ) (t : Bool) → isIn m e ≡ t → onlyWhere P (F z s) e ≡ cond (isIn m e) 𝟘 (F z s e)
+      at e true q = only-else P (F z s) e (ap not q) ∙ sym (cond-true (isIn m e) 𝟘 (F z s e) q)
+      at e false q = only-there P (F z s) e (ap not q) ∙ sym (cond-false (isIn m e) 𝟘 (F z s e) q)
+
+  -- it is a word with the stored ones
+  pub counted-stripe : (z s : ℕ) → z < p .Z → Has s (counted p m (G z)) → Stripe (parOf p r) (itemsIn p v) (isIn m) z s (pieceAt z s)
+  counted-stripe z s b i = record { on = here; word = respell (parOf p r) s (w .0) (pieceAt z s) (λ d l. sym (all d l (isIn m d) refl)) (w .1) }
+    where
+      here : (d : ℕ) → d < p .N → isIn m d ≡ false → In (chunk s (pieceAt z s d)) (itemsIn p v d z)
+      here = here-in z s b (counted-has z s i .1)
+
+      w : (h : ℕ → Val) × Word (parOf p r) s h × ((d : ℕ) → d < p .N → isIn m d ≡ false → pieceAt z s d ≡ h d)
+      w = k .facts .parity .whole (isIn m) c z s (pieceAt z s) here
+
+      stored-is : (d : ℕ) → d < p .N → isIn m d ≡ false → F z s d ≡ w .0 d
+      stored-is d l n = sym here-is ∙ w .2 d l n
         where
-          none : Choice (parOf p r) (g .un) m → p .N ≤ g .un
-          none (inl q) = q
-          none (inr q) = omega arith
+          here-is : pieceAt z s d ≡ F z s d
+          here-is = unfold pieceAt in ap pieceValue (piece-here z s d l n)
 
-  pub stripe-below : (z s : ℕ) (f : ℕ → Val) → Stripe (parOf p r) (itemsIn p v) m z s f → (z < p .Z) × (s < p .S)
-  stripe-below z s f st = go (m-present (parOf p r) m)
+      all : (d : ℕ) → d < p .N → (t : Bool) → isIn m d ≡ t → pieceAt z s d ≡ w .0 d
+      all d l false n = w .2 d l n
+      all d l true n =
+          decoded z s d b n (counted-has z s i .1)
+          ∙ codeOf p r .law s (isIn m) (F z s) (w .0) (c .0) (λ e q a. stored-is e q a ∙ w .1 e q) d l n ∙ sym (w .1 d l)
+
+  pub stripe-below : (z s : ℕ) (f : ℕ → Val) → Stripe (parOf p r) (itemsIn p v) (isIn m) z s f → (z < p .Z) × (s < p .S)
+  stripe-below z s f st = go (m-present (parOf p r) (isIn m) (c .0))
     where
-      go : (d : ℕ) × (d < p .N) × (d ≢ m) → (z < p .Z) × (s < p .S)
+      go : (d : ℕ) × (d < p .N) × (isIn m d ≡ false) → (z < p .Z) × (s < p .S)
       go (d, l, n) =
-          let t : d ≢ g .un = trusted p r g v k m c d l n in
+          let t : g .un d ≡ false = trusted p r g v k m c d l n in
           let i : In (chunk s (f d)) (itemsIn p v d z) = st .on d l n in
-          let b : z < p .Z = k .facts .«open» .bound z (d, (l, t), in-some (chunk s (f d)) (itemsIn p v d z) i) in
+          let b : z < p .Z = used-below p r g v k z (d, (l, t), in-some (chunk s (f d)) (itemsIn p v d z) i) in
           let j : (j : ℕ) × Off (itemsIn p v d z) j (chunk s (f d)) = in-off (chunk s (f d)) (itemsIn p v d z) i in
           (b, num d l t i (j .0) (j .1))
         where
-          num : (d : ℕ) → d < p .N → d ≢ g .un → In (chunk s (f d)) (itemsIn p v d z) → (j : ℕ) → Off (itemsIn p v d z) j (chunk s (f d)) → s < p .S
+          num : (d : ℕ) → d < p .N → g .un d ≡ false → In (chunk s (f d)) (itemsIn p v d z) → (j : ℕ) → Off (itemsIn p v d z) j (chunk s (f d)) → s < p .S
           num d l t i zero o = absurd (chunk-hdr (sym (o .1) ∙ k .facts .zones d z (l, t) .head (in-some (chunk s (f d)) (itemsIn p v d z) i)))
           num d l t i (suc j) o = k .facts .zones d z (l, t) .num j s (f d) o .0
 
-  pub stripe-counted : (z s : ℕ) (f : ℕ → Val) → Stripe (parOf p r) (itemsIn p v) m z s f → Has s (counted p (named m) (G z)) × ((d : ℕ) → d < p .N → pieceAt z s d ≡ f d)
+  pub stripe-counted : (z s : ℕ) (f : ℕ → Val) → Stripe (parOf p r) (itemsIn p v) (isIn m) z s f → Has s (counted p m (G z)) × ((d : ℕ) → d < p .N → pieceAt z s d ≡ f d)
   stripe-counted z s f st =
       let b : (z < p .Z) × (s < p .S) = stripe-below z s f st in
-      let i : Has s (counted p (named m) (G z)) = has-counted z s (b .1) (λ d l n. in-has-chunk z s d (f d) (b .0) l n (st .on d l n)) in
-      let st′ : Stripe (parOf p r) (itemsIn p v) m z s (pieceAt z s) = counted-stripe z s (b .0) i in (
+      let i : Has s (counted p m (G z)) = has-counted z s (b .1) (λ d l n. in-has-chunk z s d (f d) (b .0) l n (st .on d l n)) in
+      let st′ : Stripe (parOf p r) (itemsIn p v) (isIn m) z s (pieceAt z s) = counted-stripe z s (b .0) i in (
         i,
-        decode-all (p .N) m (pieceAt z s) f (st′ .xor ∙ sym (st .xor)) (λ d l n.
+        unique (parOf p r) s (isIn m) (c .0) (pieceAt z s) f (st′ .word) (st .word) (λ d l n.
             once-in (parOf p r) g d z (itemsIn p v d z) (k .facts .zones d z (l, trusted p r g v k m c d l n)) s (pieceAt z s d) (f d) (st′ .on d l n) (st .on d l n)),
       )

@@ -1,8 +1,8 @@
 -- The tables that a restart makes, entry by entry. Assumes nothing.
 use mathlib.Core.Path.{_≡_, refl, sym, ap, ap₂, _∙_, subst}
 use mathlib.Core.List.{List, [], _∷_, _++_, map, append-nil}
-use mathlib.Core.Bool.{true, false, cond, _&&_}
-use mathlib.Core.Logic.{inl, inr, ⊎-elim, _≢_}
+use mathlib.Core.Bool.{true, false, cond, _&&_, Bool}
+use mathlib.Core.Logic.{inl, inr, ⊎-elim}
 use Prim.Native.Nat.{ℕ, zero, suc, _+_, _-_, _*_, _/_, _%_, _≤_, _<_}
 use native.Mathlib.Nat.{mod-lt, mul-assoc, suc-mul, zero-mul, add-mul, div-add-mod'}
 use native.Mathlib.Decide.{ℕ-discrete}
@@ -15,9 +15,9 @@ use lib.Arith.{digits-div, digits-lt}
 use Rattle.spec.specs.declared.Params.{Params}
 use Rattle.spec.specs.Drives.{Zone, View, zoneAt, pointerAt, zoneOn, dataStored}
 use Rattle.spec.specs.Layout.{group, groupOffsets, compactEntry, Rec, mkRec, recordOf}
-use Rattle.spec.specs.Lists.{upFrom, below, isNil, flat, firstOr, padTo}
+use Rattle.spec.specs.Lists.{upFrom, below, isNil, flat, firstOr, padTo, isIn}
 use Rattle.spec.specs.Memory.{compactAt, shownAt}
-use Rattle.spec.specs.Params.{compactLen, named, drivesOf}
+use Rattle.spec.specs.Params.{compactLen, drivesOf}
 use Rattle.spec.specs.Segments.{remaining, Segment, segmentOf, segments, recsOn, offsetOn, hasChunk, compactRow, rowOf, compactTable}
 use Rattle.law_basic.specs.Geometry.{Ranged}
 use Rattle.law_basic.specs.Ranges.{and-left, and-right, and-both, getD-map, length-padTo}
@@ -79,33 +79,30 @@ flat-map {C = C} f h (a ∷ l) = ap (λ (x : List C). f (h a) ++ x) (flat-map f 
 
 -- ---- the compact table
 
-module _ (p : Params) (r : Ranged p) (g : Ghost) (v : View) (k : OnDrives p r g v) (m : ℕ) (c : Choice (parOf p r) (g .un) m) where
+module _ (p : Params) (r : Ranged p) (g : Ghost) (v : View) (k : OnDrives p r g v) (m : ℕ) (c : Choice (parOf p r) (g .un) (isIn m)) where
   abbrev G : ℕ → Segment
-  G z = segmentOf p v (named m) z
+  G z = segmentOf p v m z
 
-  abbrev gs : List Segment
-  gs = segments p v (named m)
-
-  row-flat : (d z : ℕ) → rowOf p (segments p v (named m)) d z ≡ flat (λ y. cond (eqb y z) (recsOn (segmentOf p v (named m) y) d) []) (remaining p v (named m))
+  row-flat : (d z : ℕ) → rowOf p (segments p v m) d z ≡ flat (λ y. cond (eqb y z) (recsOn (segmentOf p v m y) d) []) (remaining p v m)
   unfolding rowOf segments zoneOn segmentOf
-  row-flat d z = flat-map (λ (g : Segment). cond (eqb (zoneOn (g .seg) d) z) (recsOn g d) []) (segmentOf p v (named m)) (remaining p v (named m))
+  row-flat d z = flat-map (λ (g : Segment). cond (eqb (zoneOn (g .seg) d) z) (recsOn g d) []) (segmentOf p v m) (remaining p v m)
 
-  pub row-remaining : (d z : ℕ) → Has z (remaining p v (named m)) → rowOf p (segments p v (named m)) d z ≡ recsOn (G z) d
-  row-remaining d z i = row-flat d z ∙ flat-one-of (λ y. recsOn (segmentOf p v (named m) y) d) z (remaining p v (named m)) (remaining-rising p v (named m)) i
+  pub row-remaining : (d z : ℕ) → Has z (remaining p v m) → rowOf p (segments p v m) d z ≡ recsOn (G z) d
+  row-remaining d z i = row-flat d z ∙ flat-one-of (λ y. recsOn (segmentOf p v m y) d) z (remaining p v m) (remaining-rising p v m) i
 
   recs-few : (z d : ℕ) → z < p .Z → d < p .N → length (recsOn (G z) d) ≤ p .S
-  recs-few z d b l = go (ℕ-discrete d m)
+  recs-few z d b l = go (isIn m d) refl
     where
-      go : Dec (d ≡ m) → length (recsOn (G z) d) ≤ p .S
-      go (yes e) = let q : length (recsOn (G z) d) ≡ 0 = ap (λ (x : ℕ). length (recsOn (G z) x)) e ∙ ap length (recs-missing p r g v k m c z (subst (λ (x : ℕ). x < p .N) e l)) in omega arith
-      go (no n) = let q : length (recsOn (G z) d) ≡ dataStored p (zoneAt v d z) = ap length (recs-on p r g v k m c z d b l n) ∙ length-spareRecs p (zoneAt v d z) in
+      go : (t : Bool) → isIn m d ≡ t → length (recsOn (G z) d) ≤ p .S
+      go true e = let q : length (recsOn (G z) d) ≡ 0 = ap length (recs-missing p r g v k m c z d l e) in omega arith
+      go false n = let q : length (recsOn (G z) d) ≡ dataStored p (zoneAt v d z) = ap length (recs-on p r g v k m c z d b l n) ∙ length-spareRecs p (zoneAt v d z) in
           omega (arith, q, few-stored (zoneAt v d z))
         where
           few-stored : (q : Zone) → dataStored p q ≤ p .S
           few-stored q = unfold dataStored in omega arith
 
-  row-few : (d z : ℕ) → d < p .N → z < p .Z → length (rowOf p (segments p v (named m)) d z) ≤ p .S
-  row-few d z l b = go (has? z (remaining p v (named m)))
+  row-few : (d z : ℕ) → d < p .N → z < p .Z → length (rowOf p (segments p v m) d z) ≤ p .S
+  row-few d z l b = go (has? z (remaining p v m))
     where
       has? : (z : ℕ) (l : List ℕ) → Dec (Has z l)
       has? z [] = no (λ i. i)
@@ -116,20 +113,20 @@ module _ (p : Params) (r : Ranged p) (g : Ghost) (v : View) (k : OnDrives p r g 
           two (no e) (yes q) = yes (inr q)
           two (no e) (no q) = no (λ i. ⊎-elim (λ (w : z ≡ y). e w) (λ (w : Has z l). q w) i)
 
-      go : Dec (Has z (remaining p v (named m))) → length (rowOf p (segments p v (named m)) d z) ≤ p .S
+      go : Dec (Has z (remaining p v m)) → length (rowOf p (segments p v m) d z) ≤ p .S
       go (yes i) = subst (λ (x : List Rec). length x ≤ p .S) (sym (row-remaining d z i)) (recs-few z d b l)
-      go (no n) = subst (λ (x : List Rec). length x ≤ p .S) (sym (row-flat d z ∙ flat-none-of (λ y. recsOn (segmentOf p v (named m) y) d) z (remaining p v (named m)) n)) (omega arith)
+      go (no n) = subst (λ (x : List Rec). length x ≤ p .S) (sym (row-flat d z ∙ flat-none-of (λ y. recsOn (segmentOf p v m y) d) z (remaining p v m) n)) (omega arith)
 
-  row-long : (d z : ℕ) → d < p .N → z < p .Z → length (compactRow p (rowOf p (segments p v (named m)) d z)) ≡ p .S
+  row-long : (d z : ℕ) → d < p .N → z < p .Z → length (compactRow p (rowOf p (segments p v m) d z)) ≡ p .S
   unfolding compactRow
-  row-long d z l b = length-padTo (p .S) (map (λ (r : Rec). compactEntry p (r .stripe)) (rowOf p (segments p v (named m)) d z))
-      (omega (arith, length-map (rowOf p (segments p v (named m)) d z) (λ (r : Rec). compactEntry p (r .stripe)), row-few d z l b))
+  row-long d z l b = length-padTo (p .S) (map (λ (r : Rec). compactEntry p (r .stripe)) (rowOf p (segments p v m) d z))
+      (omega (arith, length-map (rowOf p (segments p v m) d z) (λ (r : Rec). compactEntry p (r .stripe)), row-few d z l b))
 
-  pub length-compact : length (compactTable p (segments p v (named m))) ≡ compactLen p
+  pub length-compact : length (compactTable p (segments p v m)) ≡ compactLen p
   unfolding compactTable drivesOf compactLen
   length-compact =
-      long-flat (λ d. flat (λ z. compactRow p (rowOf p (segments p v (named m)) d z)) (below (p .Z))) (p .Z * p .S) (p .N)
-      (λ d l. long-flat (λ z. compactRow p (rowOf p (segments p v (named m)) d z)) (p .S) (p .Z) (λ z b. row-long d z l b))
+      long-flat (λ d. flat (λ z. compactRow p (rowOf p (segments p v m) d z)) (below (p .Z))) (p .Z * p .S) (p .N)
+      (λ d l. long-flat (λ z. compactRow p (rowOf p (segments p v m) d z)) (p .S) (p .Z) (λ z b. row-long d z l b))
       ∙ sym (mul-assoc (p .N) (p .Z) (p .S))
 
   pub compact-entry :
@@ -137,18 +134,18 @@ module _ (p : Params) (r : Ranged p) (g : Ghost) (v : View) (k : OnDrives p r g 
       → d < p .N
       → z < p .Z
       → o < p .S
-      → getD (compactTable p (segments p v (named m))) (compactAt p d z o) 0 ≡ getD (compactRow p (rowOf p (segments p v (named m)) d z)) o 0
+      → getD (compactTable p (segments p v m)) (compactAt p d z o) 0 ≡ getD (compactRow p (rowOf p (segments p v m) d z)) o 0
   unfolding compactTable drivesOf compactAt
   compact-entry d z o l b s =
       let e : (d * p .Z + z) * p .S + o ≡ d * (p .Z * p .S) + (z * p .S + o) = omega (arith, add-mul (d * p .Z) z (p .S), mul-assoc d (p .Z) (p .S)) in
-      ap (λ (x : ℕ). getD (flat (λ d. flat (λ z. compactRow p (rowOf p (segments p v (named m)) d z)) (below (p .Z))) (below (p .N))) x 0) e
-      ∙ getD-flat (λ d. flat (λ z. compactRow p (rowOf p (segments p v (named m)) d z)) (below (p .Z))) (p .Z * p .S) (p .N) d (z * p .S + o)
-      (λ d l. long-flat (λ z. compactRow p (rowOf p (segments p v (named m)) d z)) (p .S) (p .Z) (λ z b. row-long d z l b)) l (digits-lt b s)
-      ∙ getD-flat (λ z. compactRow p (rowOf p (segments p v (named m)) d z)) (p .S) (p .Z) z o (λ z b. row-long d z l b) b s
+      ap (λ (x : ℕ). getD (flat (λ d. flat (λ z. compactRow p (rowOf p (segments p v m) d z)) (below (p .Z))) (below (p .N))) x 0) e
+      ∙ getD-flat (λ d. flat (λ z. compactRow p (rowOf p (segments p v m) d z)) (below (p .Z))) (p .Z * p .S) (p .N) d (z * p .S + o)
+      (λ d l. long-flat (λ z. compactRow p (rowOf p (segments p v m) d z)) (p .S) (p .Z) (λ z b. row-long d z l b)) l (digits-lt b s)
+      ∙ getD-flat (λ z. compactRow p (rowOf p (segments p v m) d z)) (p .S) (p .Z) z o (λ z b. row-long d z l b) b s
 
   -- the entry of a chunk of a remaining segment
-  pub compact-chunk : (d z o : ℕ) → Has z (remaining p v (named m)) → d < p .N → d ≢ m → o < dataStored p (zoneAt v d z)
-      → getD (compactTable p (segments p v (named m))) (compactAt p d z o) 0 ≡ compactEntry p (recordOf (blockIn (zoneAt v d z) (suc o) .spare) .stripe)
+  pub compact-chunk : (d z o : ℕ) → Has z (remaining p v m) → d < p .N → isIn m d ≡ false → o < dataStored p (zoneAt v d z)
+      → getD (compactTable p (segments p v m)) (compactAt p d z o) 0 ≡ compactEntry p (recordOf (blockIn (zoneAt v d z) (suc o) .spare) .stripe)
   compact-chunk d z o i l n w =
       let b : z < p .Z = remaining-has p r g v k m c z i .0 in
       let rs : List Rec = recsOn (G z) d in
@@ -185,15 +182,12 @@ module _ (p : Params) (r : Ranged p) (g : Ghost) (v : View) (k : OnDrives p r g 
   unfolding group compactEntry
   same-stripe s t e f = sym (div-add-mod' s (p .G)) ∙ ap₂ (λ (x y : ℕ). x * p .G + y) e f ∙ div-add-mod' t (p .G)
 
-  module _ (z s d : ℕ) (i : Has z (remaining p v (named m))) (l : d < p .N) (n : d ≢ m) (h : hasChunk (G z) s d ≡ true) where
+  module _ (z s d : ℕ) (i : Has z (remaining p v m)) (l : d < p .N) (n : isIn m d ≡ false) (h : hasChunk (G z) s d ≡ true) where
     b : z < p .Z
     b = remaining-has p r g v k m c z i .0
 
     q : Zone
     q = zoneAt v d z
-
-    stripeAt : ℕ → ℕ
-    stripeAt o = recordOf (blockIn (zoneAt v d z) (suc o) .spare) .stripe
 
     at-off :
         (o : ℕ)
@@ -221,39 +215,39 @@ module _ (p : Params) (r : Ranged p) (g : Ghost) (v : View) (k : OnDrives p r g 
         (at-off j a′) in
         omega (arith, w)
 
-    has-shown : Has (offsetOn (G z) d s) (shownAt p v (compactTable p (segments p v (named m))) d z s)
+    has-shown : Has (offsetOn (G z) d s) (shownAt p v (compactTable p (segments p v m)) d z s)
     unfolding shownAt
     has-shown =
         let w : (offsetOn (G z) d s < dataStored p (zoneAt v d z)) × (recordOf (blockIn (zoneAt v d z) (suc (offsetOn (G z) d s)) .spare) .stripe ≡ s) = offset-on p r g v k m c z s d b l n h in
         let j : (offsetOn (G z) d s < p .S) × (suc (offsetOn (G z) d s) < zoneAt v d z .pointer) = stored-below p (zoneAt v d z) (offsetOn (G z) d s) (w .0) in
-        has-keep (λ o. ltb (1 + o) (pointerAt v d z) && eqb (getD (compactTable p (segments p v (named m))) (compactAt p d z o) 0) (compactEntry p s)) (offsetOn (G z) d s) (groupOffsets p s)
+        has-keep (λ o. ltb (1 + o) (pointerAt v d z) && eqb (getD (compactTable p (segments p v m)) (compactAt p d z o) 0) (compactEntry p s)) (offsetOn (G z) d s) (groupOffsets p s)
         (of-group (offsetOn (G z) d s) s (j .0) (sym (grp-at (offsetOn (G z) d s) (w .0)) ∙ ap (group p) (w .1)))
-        (and-both (ltb (1 + offsetOn (G z) d s) (pointerAt v d z)) (eqb (getD (compactTable p (segments p v (named m))) (compactAt p d z (offsetOn (G z) d s)) 0) (compactEntry p s))
+        (and-both (ltb (1 + offsetOn (G z) d s) (pointerAt v d z)) (eqb (getD (compactTable p (segments p v m)) (compactAt p d z (offsetOn (G z) d s)) 0) (compactEntry p s))
         (lt-ltb (1 + offsetOn (G z) d s) (pointerAt v d z) (omega (arith, j .1, pointer-is v d z)))
-        (eq-eqb (getD (compactTable p (segments p v (named m))) (compactAt p d z (offsetOn (G z) d s)) 0) (compactEntry p s)
+        (eq-eqb (getD (compactTable p (segments p v m)) (compactAt p d z (offsetOn (G z) d s)) 0) (compactEntry p s)
         (compact-chunk d z (offsetOn (G z) d s) i l n (w .0) ∙ ap (compactEntry p) (w .1))))
 
-    shown-has : (o : ℕ) → Has o (shownAt p v (compactTable p (segments p v (named m))) d z s) → o ≡ offsetOn (G z) d s
+    shown-has : (o : ℕ) → Has o (shownAt p v (compactTable p (segments p v m)) d z s) → o ≡ offsetOn (G z) d s
     unfolding shownAt
     shown-has o x =
-        let a : Has o (groupOffsets p s) × ((ltb (1 + o) (pointerAt v d z) && eqb (getD (compactTable p (segments p v (named m))) (compactAt p d z o) 0) (compactEntry p s)) ≡ true) =
-        keep-has (λ o. ltb (1 + o) (pointerAt v d z) && eqb (getD (compactTable p (segments p v (named m))) (compactAt p d z o) 0) (compactEntry p s)) o (groupOffsets p s) x in
+        let a : Has o (groupOffsets p s) × ((ltb (1 + o) (pointerAt v d z) && eqb (getD (compactTable p (segments p v m)) (compactAt p d z o) 0) (compactEntry p s)) ≡ true) =
+        keep-has (λ o. ltb (1 + o) (pointerAt v d z) && eqb (getD (compactTable p (segments p v m)) (compactAt p d z o) 0) (compactEntry p s)) o (groupOffsets p s) x in
         let e : (o < p .S) × (group p o ≡ group p s) = in-group o s (a .0) in
         let f : 1 + o < pointerAt v d z =
         ltb-true (1 + o) (pointerAt v d z) (and-left (ltb (1 + o) (pointerAt v d z))
-        (eqb (getD (compactTable p (segments p v (named m))) (compactAt p d z o) 0) (compactEntry p s)) (a .1)) in
+        (eqb (getD (compactTable p (segments p v m)) (compactAt p d z o) 0) (compactEntry p s)) (a .1)) in
         let w : o < dataStored p (zoneAt v d z) = below-stored p (zoneAt v d z) o (e .0) (omega (arith, f, pointer-is v d z)) in
         let t : compactEntry p (recordOf (blockIn (zoneAt v d z) (suc o) .spare) .stripe) ≡ compactEntry p s = sym (compact-chunk d z o i l n w)
-        ∙ eqb-true (getD (compactTable p (segments p v (named m))) (compactAt p d z o) 0) (compactEntry p s)
-        (and-right (ltb (1 + o) (pointerAt v d z)) (eqb (getD (compactTable p (segments p v (named m))) (compactAt p d z o) 0) (compactEntry p s))
+        ∙ eqb-true (getD (compactTable p (segments p v m)) (compactAt p d z o) 0) (compactEntry p s)
+        (and-right (ltb (1 + o) (pointerAt v d z)) (eqb (getD (compactTable p (segments p v m)) (compactAt p d z o) 0) (compactEntry p s))
         (a .1)) in
         let u : recordOf (blockIn (zoneAt v d z) (suc o) .spare) .stripe ≡ s = same-stripe (recordOf (blockIn (zoneAt v d z) (suc o) .spare) .stripe) s (grp-at o w ∙ e .1) t in
         let y : (offsetOn (G z) d s < dataStored p (zoneAt v d z)) × (recordOf (blockIn (zoneAt v d z) (suc (offsetOn (G z) d s)) .spare) .stripe ≡ s) = offset-on p r g v k m c z s d b l n h in
         same-off o (offsetOn (G z) d s) w (y .0) (u ∙ sym (y .1))
 
-    pub shown-first : firstOr 0 (shownAt p v (compactTable p (segments p v (named m))) d z s) ≡ offsetOn (G z) d s
-    shown-first = shown-has (firstOr 0 (shownAt p v (compactTable p (segments p v (named m))) d z s))
-        (firstOr-has 0 (shownAt p v (compactTable p (segments p v (named m))) d z s) (isNil-has (shownAt p v (compactTable p (segments p v (named m))) d z s) (offsetOn (G z) d s) has-shown))
+    pub shown-first : firstOr 0 (shownAt p v (compactTable p (segments p v m)) d z s) ≡ offsetOn (G z) d s
+    shown-first = shown-has (firstOr 0 (shownAt p v (compactTable p (segments p v m)) d z s))
+        (firstOr-has 0 (shownAt p v (compactTable p (segments p v m)) d z s) (isNil-has (shownAt p v (compactTable p (segments p v m)) d z s) (offsetOn (G z) d s) has-shown))
 
-    pub shown-some : isNil (shownAt p v (compactTable p (segments p v (named m))) d z s) ≡ false
-    shown-some = isNil-has (shownAt p v (compactTable p (segments p v (named m))) d z s) (offsetOn (G z) d s) has-shown
+    pub shown-some : isNil (shownAt p v (compactTable p (segments p v m)) d z s) ≡ false
+    shown-some = isNil-has (shownAt p v (compactTable p (segments p v m)) d z s) (offsetOn (G z) d s) has-shown

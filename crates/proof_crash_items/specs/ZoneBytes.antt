@@ -9,18 +9,16 @@ use lib.ListN.{length, getD, take, drop, set, length-drop, length-map}
 use lib.Seq.{getD-take, getD-drop, take-set-le, getD-set-same, getD-set-other, drop-set-add, length-take-le}
 use Rattle.spec.specs.declared.Params.{Params}
 use Rattle.spec.specs.Bytes.{part}
-use Rattle.spec.specs.Drives.{Chunk, mkChunk, noChunk, Zone, putZone, resetZone, blocksOf, sparesOf, recordIn, zeroSpare}
+use Rattle.spec.specs.Drives.{Chunk, mkChunk, noChunk, Zone, putZone, resetZone, blocksOf, sparesOf, recordIn, zeroSpare, zoneOn}
 use Rattle.spec.specs.Layout.{headerBlock, headerSerial, headerCopied, Rec, recordBytes, recordOf, footerBlock, footerRecord}
 use Rattle.spec.specs.Params.{spareLen, perFooter, footers, capacity}
 use Rattle.law_basic.specs.Geometry.{Ranged, footer-of}
 use Rattle.law_basic.specs.Xor.{AllLong}
 use Rattle.law_drives.specs.Laid.{header-serial, header-copied, length-record}
 use Rattle.law_drives.specs.Records.{spares-at, blocks-at}
-use Rattle.proof_crash_machine.specs.Exec.{low}
-use Rattle.proof_crash_machine.specs.Reset.{same}
 use Rattle.proof_crash_machine.specs.View.{Item}
 use Rattle.proof_crash_machine.specs.View.Item.{hdr, chunk, foot}
-use Rattle.proof_crash_items.specs.Codec.{Wide, record-bytes, length-zeroSpare, length-header, length-footer, footer-record}
+use Rattle.proof_crash_items.specs.Codec.{Wide, record-bytes, length-zeroSpare, length-header, length-footer, footer-record, header-zones}
 use Rattle.proof_crash_items.specs.Items.{valueOf, chunkItem, itemAt, item-data, item-foot}
 use Rattle.proof_crash_items.specs.Ranges.{capacity-few}
 use Rattle.proof_crash_items.specs.Shape.{ZoneShape}
@@ -42,7 +40,7 @@ pub record ZoneBytes (p : Params) (d z : ℕ) (q : Zone) : Type 0 where
 
 -- the kinds of put, by the pointer
 pub data Kind (p : Params) (d z : ℕ) (q : Zone) : List ℕ → List ℕ → Type 0 where
-  header : (ser cop : ℕ) → q .pointer ≡ 0 → ser < 256 ^ 8 → cop < 256 ^ 8 → Kind p d z q (headerBlock p d z ser cop) zeroSpare
+  header : (ser cop : ℕ) → q .pointer ≡ 0 → z < 256 ^ 4 → ser < 256 ^ 8 → cop < 256 ^ 8 → Kind p d z q (headerBlock p d z ser cop) zeroSpare
   datum : (o : ℕ) (b : List ℕ) (r : Rec) → q .pointer ≡ suc o → o < p .S → length b ≡ p .B → Wide r → Kind p d z q b (recordBytes r)
   footer : (j : ℕ) → q .pointer ≡ suc (p .S + j) → j < footers p → Kind p d z q (footerBlock p (sparesIn p q) j) zeroSpare
 
@@ -78,22 +76,22 @@ module _ (p : Params) (h : Ranged p) (q : Zone) (s : ZoneShape p q) where
 
   -- ---- the lengths of what is put, and the room for it
   pub kind-fits : (d z : ℕ) (b t : List ℕ) → Kind p d z q b t → (q .pointer < capacity p) × (length b ≡ p .B) × (length t ≡ spareLen)
-  kind-fits d z _ _ (header ser cop e a c) = (omega (arith, e, capacity-few p h), length-header p d z ser cop (h .block-low), length-zeroSpare)
+  kind-fits d z _ _ (header ser cop e y a c) = (omega (arith, e, capacity-few p h), length-header p d z ser cop (h .block-low), length-zeroSpare)
   kind-fits d z _ _ (datum o b r e l lb w) = (omega (arith, e, l, capacity-few p h), lb, length-record r)
   kind-fits d z _ _ (footer j e l) = unfold capacity in (omega (arith, e, l), length-footer p h (sparesIn p q) spares-long j, length-zeroSpare)
 
 -- ---- what is put, as an item
 
 unfoldable pub kindItem : (p : Params) (d z : ℕ) (q : Zone) (b t : List ℕ) → Kind p d z q b t → Item
-kindItem p d z q _ _ (header ser cop e a c) = hdr ser cop
+kindItem p d z q _ _ (header ser cop e y a c) = hdr ser cop (zoneOn z)
 kindItem p d z q _ _ (datum o b r e l lb w) = chunk (r .stripe) (valueOf b r)
 kindItem p d z q _ _ (footer j e l) = foot j
 
 pub kind-item : (p : Params) (d z : ℕ) (q : Zone) (b t : List ℕ) (k : Kind p d z q b t) → itemAt p (q .pointer) (mkChunk b t) ≡ kindItem p d z q b t k
 unfolding kindItem
-kind-item p d z q _ _ (header ser cop e a c) =
+kind-item p d z q _ _ (header ser cop e y a c) =
     ap (λ (n : ℕ). itemAt p n (mkChunk (headerBlock p d z ser cop) zeroSpare)) e
-    ∙ (unfold itemAt in ap₂ hdr (header-serial p d z ser cop a) (header-copied p d z ser cop c))
+    ∙ (unfold itemAt in λ j. hdr (header-serial p d z ser cop a j) (header-copied p d z ser cop c j) (header-zones p d z ser cop y j))
 kind-item p d z q _ _ (datum o b r e l lb w) =
     ap (λ (n : ℕ). itemAt p n (mkChunk b (recordBytes r))) e ∙ item-data p o (mkChunk b (recordBytes r)) l
     ∙ (unfold chunkItem in ap (λ (x : Rec). chunk (x .stripe) (valueOf b x)) (record-bytes r w))
@@ -150,7 +148,7 @@ module _ (p : Params) (h : Ranged p) (d z : ℕ) (q : Zone) (s : ZoneShape p q) 
   head-kept b t l f = rw (old-block b t 0 l) (f .head l, f .serials l)
 
   pub bytes-put : (b t : List ℕ) → Kind p d z q b t → ZoneBytes p d z q → ZoneBytes p d z (putZone b t q)
-  bytes-put _ _ (header ser cop e a c) f = record {
+  bytes-put _ _ (header ser cop e y a c) f = record {
     low = omega (arith, e, pointer-put (headerBlock p d z ser cop) zeroSpare, capacity-few p h);
     head =
         λ l. rw new (let m : mkChunk (headerBlock p d z ser cop) zeroSpare

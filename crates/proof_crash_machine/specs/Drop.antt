@@ -1,21 +1,21 @@
 -- Restart, step 4: the resets of the segments that steps 1 and 2 drop keep the drive facts at every prefix. Assumes nothing.
-use mathlib.Core.Path.{_≡_, refl, sym, _∙_, subst}
+use mathlib.Core.Path.{_≡_, sym, _∙_, subst}
 use mathlib.Core.List.{List}
+use mathlib.Core.Bool.{false}
 use mathlib.Core.Logic.{_⊎_, inl, inr, ⊎-elim, _≢_}
 use Prim.Native.Nat.{ℕ, _≤_, _<_}
-use native.Mathlib.Omega.{arith}
 use native.Mathlib.Decide.{ℕ-discrete}
 use Rattle.proof_crash_machine.specs.Val.{Val}
 use Rattle.proof_crash_machine.specs.Facts.Pair.{alone, pair}
 use Rattle.proof_crash_machine.specs.Lemma.{pair-o, old-own}
 use Rattle.proof_crash_machine.specs.View.{View, Store, cleared, apply, applyAll, AllS, along, along-all}
 use Rattle.proof_crash_machine.specs.View.Store.{reset}
-use Rattle.proof_crash_machine.specs.Facts.{Par, Ghost, L, R, Counted, Used, Whole, Moved, Swap, Facts, L-same, used, decL}
+use Rattle.proof_crash_machine.specs.Facts.{Par, None, self-none, Ghost, L, R, Counted, Used, Whole, Moved, Swap, Facts, L-same, used, decL}
 use Rattle.proof_crash_machine.specs.Reset.{Floor, May, reset-kept, Counted-fwd, L-gone, L-back, same}
 use Rattle.proof_crash_machine.specs.Steps.{Prefix}
 use Rattle.proof_crash_machine.specs.Ghosts.{withPr, unpaired}
 
-module _ (p : Par) (g : Ghost) (none : p .N ≤ g .un) where
+module _ (p : Par) (g : Ghost) (none : None p (g .un)) where
   abbrev Gone : View → ℕ → Type 0
   Gone v z = R p (g .hd) v (g .un) z → ⊥
 
@@ -23,7 +23,8 @@ module _ (p : Par) (g : Ghost) (none : p .N ≤ g .un) where
   w-own : (v : View) → Swap p g v → (w o : ℕ) → g .pr ≡ pair w o → L p v (g .un) w → (L p v (g .un) o → ⊥) → R p (g .hd) v (g .un) w
   w-own v h w o e lw nl = record {
     left = lw;
-    own = λ y ly q. nl (subst (λ (k : ℕ). L p v (g .un) k) (sym (pair-o (sym e ∙ h .one w y (used p g v (g .un) w (inr refl) lw) (used p g v (g .un) y (inr refl) ly) q))) ly);
+    own = λ y ly q. nl
+        (subst (λ (k : ℕ). L p v (g .un) k) (sym (pair-o (sym e ∙ h .one w y (used p g v (g .un) w (self-none p (g .un) none) lw) (used p g v (g .un) y (self-none p (g .un) none) ly) q))) ly);
   }
 
   -- a dropped segment may be reset
@@ -32,7 +33,7 @@ module _ (p : Par) (g : Ghost) (none : p .N ≤ g .un) where
     where
       go : (w o : ℕ) → g .pr ≡ pair w o → Dec (z ≡ o) → Dec (z ≡ w) → (Whole p (g .un) v o) ⊎ (Moved p (g .un) v w o)
           → ((z ≢ o) × Whole p (g .un) v o) ⊎ ((z ≢ w) × Moved p (g .un) v w o)
-      go w o e (yes q) r (inl a) = absurd (k (rw q (old-own p g v (g .un) w o (inr refl) h e a)))
+      go w o e (yes q) r (inl a) = absurd (k (rw q (old-own p g v (g .un) w o (self-none p (g .un) none) h e a)))
       go w o e (yes q) r (inr b) = inr ((λ s. h .named w o e .0 (sym s ∙ q)), b)
       go w o e (no q) r (inl a) = inl (q, a)
       go w o e (no q) (no r) (inr b) = inr (r, b)
@@ -46,8 +47,8 @@ module _ (p : Par) (g : Ghost) (none : p .N ≤ g .un) where
   gone-kept : (v : View) → Swap p g v → (d z : ℕ) → d < p .N → Gone v z → (y : ℕ) → Gone v y → Gone (cleared v d z) y
   gone-kept v h d z l k y j r = go (ℕ-discrete y z)
     where
-      n : d ≢ g .un
-      n = omega (arith, l, none)
+      n : g .un d ≡ false
+      n = none d l
 
       ly : L p v (g .un) y
       ly = L-back v d z p g (g .un) y (r .left)
@@ -59,7 +60,7 @@ module _ (p : Par) (g : Ghost) (none : p .N ≤ g .un) where
           case : (o : ℕ) → L p v (g .un) o → g .hd .cop y ≡ g .hd .ser o → Dec (o ≡ z) → ⊥
           case o lo e (no i) = r .own o (L-same p v (cleared v d z) (g .un) o (same v d z p g (g .un) o (inl i)) lo) e
           case o lo e (yes i) = k (subst (λ (t : ℕ). R p (g .hd) v (g .un) t) i
-              (old-own p g v (g .un) y o (inr refl) h (h .one y o (used p g v (g .un) y (inr refl) ly) (used p g v (g .un) o (inr refl) lo) e) lo))
+              (old-own p g v (g .un) y o (self-none p (g .un) none) h (h .one y o (used p g v (g .un) y (self-none p (g .un) none) ly) (used p g v (g .un) o (self-none p (g .un) none) lo) e) lo))
 
   -- what is reset: drives of segments that the start of the restart dropped
   abbrev pub DropOf : (ℕ → Type 0) → Store → Type 0

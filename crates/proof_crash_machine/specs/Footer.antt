@@ -7,10 +7,10 @@ use native.Mathlib.Omega.{arith}
 use lib.ListN.{length}
 use Rattle.proof_crash_machine.specs.Val.{Val}
 use Rattle.proof_crash_machine.specs.Facts.Pair.{pair}
-use Rattle.proof_crash_machine.specs.Lemma.{counts}
 use Rattle.proof_crash_machine.specs.View.{Item, View, In, after, in-cases, chunk-foot}
 use Rattle.proof_crash_machine.specs.View.Item.{chunk, foot}
-use Rattle.proof_crash_machine.specs.Facts.{Par, Ghost, Tr, Stripe, Counted, Off, Zone, Used, Whole, Ragged, Facts}
+use Rattle.proof_crash_machine.specs.Mask.{Mask}
+use Rattle.proof_crash_machine.specs.Facts.{Par, fewer, Ghost, Tr, Stripe, Counted, Off, Zone, Used, Whole, Ragged, Facts}
 use Rattle.proof_crash_machine.specs.Put
 
 module _ (p : Par) (g : Ghost) (v : View) (d z j : ℕ) (drive : Tr p (g .un) d) (begun : 0 < length (v d z)) (room : length (v d z) < p .cap)
@@ -21,8 +21,8 @@ module _ (p : Par) (g : Ghost) (v : View) (d z j : ℕ) (drive : Tr p (g .un) d)
   in-old : (s : ℕ) (x : Val) (e y : ℕ) → In (chunk s x) (u e y) → In (chunk s x) (v e y)
   in-old s x e y m = ⊎-elim (λ k. k) (λ (k : (e ≡ d) × (y ≡ z) × (chunk s x ≡ foot j)). absurd (chunk-foot (k .2))) (Put.in-back v d z (foot j) (chunk s x) e y m)
 
-  stripe-old : (m y s : ℕ) (f : ℕ → Val) → Stripe p u m y s f → Stripe p v m y s f
-  stripe-old m y s f h = record { on = λ e l n. in-old s (f e) e y (h .on e l n); xor = h .xor }
+  stripe-old : (m : Mask) (y s : ℕ) (f : ℕ → Val) → Stripe p u m y s f → Stripe p v m y s f
+  stripe-old m y s f h = record { on = λ e l n. in-old s (f e) e y (h .on e l n); word = h .word }
 
   off-old : (k s : ℕ) (x : Val) → Off (v d z ++ (foot j ∷ [])) k (chunk s x) → Off (v d z) k (chunk s x)
   off-old k s x o = ⊎-elim (λ q. q) (λ (q : (k ≡ length (v d z)) × (foot j ≡ chunk s x)). absurd (chunk-foot (sym (q .1)))) (Put.off-cases (v d z) (foot j) (chunk s x) k o)
@@ -50,9 +50,10 @@ module _ (p : Par) (g : Ghost) (v : View) (d z j : ℕ) (drive : Tr p (g .un) d)
 
   pub footed : Facts p g v → Facts p g u
   footed h = record {
+    lost = h .lost;
     zones = λ e y t. Put.each v d z (foot j) (Zone p g) (zone-kept (h .zones d z drive)) e y (h .zones e y t);
     parity = record {
-      whole = λ b y s f on. h .parity .whole b y s f (λ e l. in-old s (f e) e y (on e l));
+      whole = λ m c y s f on. h .parity .whole m c y s f (λ e l n. in-old s (f e) e y (on e l n));
       sound = λ m c y s f st x dt. h .parity .sound m c y s f (stripe-old m y s f st) x dt;
     };
     swap = record {
@@ -63,12 +64,11 @@ module _ (p : Par) (g : Ghost) (v : View) (d z j : ℕ) (drive : Tr p (g .un) d)
       safe = λ w o e. inl (Put.Whole-fwd v d z (foot j) begun p g o (old w o e));
     };
     «open» = record {
-      bound = λ y k. h .«open» .bound y (used-old y k);
+      place = fewer p (g .hd) (g .pr) (Used p (g .un) v) (Used p (g .un) u) used-old (h .«open» .place);
       ragged = λ y x b c. h .«open» .ragged y x (rag y b) (rag x c);
-      room = ⊎-elim (λ (k : (y : ℕ) × (y < p .Z) × (Used p (g .un) v y → ⊥)). inl (k .0, k .1, λ q. k .2 (used-old (k .0) q))) (λ k. inr k) (h .«open» .room);
     };
     content = record {
-      fresh = λ m c x k. h .content .fresh m c x (record {
+      fresh = λ m c nb x k. h .content .fresh m c nb x (record {
         z = k .z;
         s = k .s;
         f = k .f;

@@ -1,6 +1,7 @@
 -- (5) A header stored in an empty zone keeps the drive facts: of a segment opened by a write, and of a rewrite. Assumes nothing.
 use mathlib.Core.Path.{_≡_, refl, sym, ap, _∙_, subst}
 use mathlib.Core.List.{List, [], _∷_}
+use mathlib.Core.Bool.{true, false}
 use mathlib.Core.Logic.{_⊎_, inl, inr, ⊎-elim, _≢_}
 use Prim.Native.Nat.{ℕ, _≤_, _<_}
 use native.Mathlib.Omega.{arith}
@@ -9,31 +10,34 @@ use lib.ListN.{length}
 use Rattle.proof_crash_machine.specs.Val.{Val}
 use Rattle.proof_crash_machine.specs.View.{Item, View, In, after, chunk-hdr}
 use Rattle.proof_crash_machine.specs.View.Item.{hdr, chunk}
-use Rattle.proof_crash_machine.specs.Facts.{Par, Ghost, L, Stripe, Counted, Zone, Used, Whole, Swap, Ragged, Open, Content, Facts, used}
+use Rattle.proof_crash_machine.specs.Mask.{Mask, count}
+use Rattle.proof_crash_machine.specs.Facts.{Par, None, self-none, InPair, none-few, present, Ghost, L, Stripe, Counted, Zone, Used, Whole, Swap, Ragged, Open, Content, Facts, used}
 use Rattle.proof_crash_machine.specs.Facts.Pair.{pair}
 use Rattle.proof_crash_machine.specs.Put
 
-pub zone-head : (p : Par) (g : Ghost) (d w : ℕ) → 0 < p .cap → Zone p g d w (hdr (g .hd .ser w) (g .hd .cop w) ∷ [])
+pub zone-head : (p : Par) (g : Ghost) (d w : ℕ) → 0 < p .cap → Zone p g d w (hdr (g .hd .ser w) (g .hd .cop w) (g .hd .zn w) ∷ [])
 zone-head p g d w b = record {
   len = omega arith;
   head = λ k. refl;
   num = λ k s x o. absurd (let q : ⊥ = omega (arith, o .0) in q);
-  once = λ j k s x y o o′. absurd (no s x (Put.off-in (hdr (g .hd .ser w) (g .hd .cop w) ∷ []) j (chunk s x) o));
+  once = λ j k s x y o o′. absurd (no s x (Put.off-in (hdr (g .hd .ser w) (g .hd .cop w) (g .hd .zn w) ∷ []) j (chunk s x) o));
   origin = λ s x m n. absurd (no s x m);
   sealed = λ q. absurd (let r : ⊥ = omega arith in r);
 }
   where
-    no : (s : ℕ) (x : Val) → In (chunk s x) (hdr (g .hd .ser w) (g .hd .cop w) ∷ []) → ⊥
+    no : (s : ℕ) (x : Val) → In (chunk s x) (hdr (g .hd .ser w) (g .hd .cop w) (g .hd .zn w) ∷ []) → ⊥
     no s x (inl e) = chunk-hdr e
     no s x (inr m) = m
 
 -- what is known where the header of segment w lands on drive d
 pub record Opening (p : Par) (g : Ghost) (v : View) (d w : ℕ) : Type 0 where
-  pub none : p .N ≤ g .un
+  pub none : None p (g .un)
   pub drive : d < p .N
   pub empty : v d w ≡ []
   pub room : 0 < p .cap
-  pub inZ : w < p .Z
+  -- its zones are good, no other segment's, and leave room for one more
+  pub fits : (e : ℕ) → e < p .N → (g .hd .zn w e < p .Z) × (p .fine e (g .hd .zn w e) ≡ true)
+  pub clear : (y : ℕ) → (Used p (g .un) v y) ⊎ (InPair (g .pr) y) → y ≢ w → (e : ℕ) → e < p .N → g .hd .zn y e ≢ g .hd .zn w e
   -- only headers in w so far
   pub bare : (e s : ℕ) (x : Val) → e < p .N → In (chunk s x) (v e w) → ⊥
   pub newest : (y : ℕ) → Used p (g .un) v y → y ≢ w → g .hd .ser y < g .hd .ser w
@@ -41,11 +45,12 @@ pub record Opening (p : Par) (g : Ghost) (v : View) (d w : ℕ) : Type 0 where
   pub link : (o : ℕ) → Used p (g .un) v o → o ≢ w → g .hd .cop w ≡ g .hd .ser o → g .pr ≡ pair w o
   pub old : (w′ o : ℕ) → g .pr ≡ pair w′ o → Whole p (g .un) v o
   pub lone : (y : ℕ) → Ragged p (g .un) v y → y ≢ w → g .pr ≡ pair w y
-  pub space : ((z : ℕ) × (z < p .Z) × (z ≢ w) × (Used p (g .un) v z → ⊥)) ⊎ ((a : ℕ) × (o : ℕ) × (g .pr ≡ pair a o) × (a < p .Z) × (o < p .Z))
+  pub space : (e : ℕ) → e < p .N → ((y : ℕ) × (y < p .Z) × (p .fine e y ≡ true) × (g .hd .zn w e ≢ y) × ((z : ℕ) → (Used p (g .un) v z) ⊎ (InPair (g .pr) z) → z ≢ w → g .hd .zn z e ≢ y))
+      ⊎ ((x : ℕ) × (o : ℕ) × (g .pr ≡ pair x o))
 
 module _ (p : Par) (g : Ghost) (v : View) (d w : ℕ) (a : Opening p g v d w) where
   abbrev i : Item
-  i = hdr (g .hd .ser w) (g .hd .cop w)
+  i = hdr (g .hd .ser w) (g .hd .cop w) (g .hd .zn w)
 
   abbrev u : View
   u = after v d w i
@@ -53,16 +58,13 @@ module _ (p : Par) (g : Ghost) (v : View) (d w : ℕ) (a : Opening p g v d w) wh
   in-old : (s : ℕ) (x : Val) (e y : ℕ) → In (chunk s x) (u e y) → In (chunk s x) (v e y)
   in-old s x e y m = ⊎-elim (λ k. k) (λ (k : (e ≡ d) × (y ≡ w) × (chunk s x ≡ i)). absurd (chunk-hdr (k .2))) (Put.in-back v d w i (chunk s x) e y m)
 
-  stripe-old : (m y s : ℕ) (f : ℕ → Val) → Stripe p u m y s f → Stripe p v m y s f
-  stripe-old m y s f h = record { on = λ e l n. in-old s (f e) e y (h .on e l n); xor = h .xor }
+  stripe-old : (m : Mask) (y s : ℕ) (f : ℕ → Val) → Stripe p u m y s f → Stripe p v m y s f
+  stripe-old m y s f h = record { on = λ e l n. in-old s (f e) e y (h .on e l n); word = h .word }
 
   -- a stripe has a chunk: so w has none
-  not-w : (m y s : ℕ) (f : ℕ → Val) → Stripe p v m y s f → y ≢ w
-  not-w m y s f h q = go (ℕ-discrete m 0)
-    where
-      go : Dec (m ≡ 0) → ⊥
-      go (yes e) = a .bare 1 s (f 1) (omega (arith, p .three)) (subst (λ (k : ℕ). In (chunk s (f 1)) (v 1 k)) q (h .on 1 (omega (arith, p .three)) (omega arith)))
-      go (no e) = a .bare 0 s (f 0) (omega (arith, p .three)) (subst (λ (k : ℕ). In (chunk s (f 0)) (v 0 k)) q (h .on 0 (omega (arith, p .three)) (omega arith)))
+  not-w : (m : Mask) (y s : ℕ) (f : ℕ → Val) → count (p .N) m ≤ p .P → Stripe p v m y s f → y ≢ w
+  not-w m y s f b h q = let d : (d : ℕ) × (d < p .N) × (m d ≡ false) = present p m b in
+      a .bare (d .0) s (f (d .0)) (d .1) (subst (λ (k : ℕ). In (chunk s (f (d .0))) (v (d .0) k)) q (h .on (d .0) (d .1) (d .2)))
 
   len-old : (e y : ℕ) → y ≢ w → 0 < length (u e y) → 0 < length (v e y)
   len-old e y n b = subst (λ (l : List Item). 0 < length l) (Put.zone-other v d w i e y n) b
@@ -70,10 +72,10 @@ module _ (p : Par) (g : Ghost) (v : View) (d w : ℕ) (a : Opening p g v d w) wh
   used-old : (y : ℕ) → y ≢ w → Used p (g .un) u y → Used p (g .un) v y
   used-old y n (e, t, b) = (e, t, len-old e y n b)
 
-  L-old : (m y : ℕ) → y ≢ w → L p u m y → L p v m y
+  L-old : (m : Mask) (y : ℕ) → y ≢ w → L p u m y → L p v m y
   L-old m y n h e l k = len-old e y n (h e l k)
 
-  L-new : (m y : ℕ) → L p v m y → L p u m y
+  L-new : (m : Mask) (y : ℕ) → L p v m y → L p u m y
   L-new m y h e l k = Put.len-fwd v d w i e y (h e l k)
 
   swap-kept : Swap p g v → Swap p g u
@@ -108,13 +110,13 @@ module _ (p : Par) (g : Ghost) (v : View) (d w : ℕ) (a : Opening p g v d w) wh
 
   content-kept : Swap p g v → Content p g v → Content p g u
   content-kept hs h = record {
-    fresh = λ m c x k.
+    fresh = λ m c nb x k.
         let st : Stripe p v m (k .z) (k .s) (k .f) = stripe-old m (k .z) (k .s) (k .f) (k .st) in
-        h .fresh m c x (record {
+        h .fresh m c nb x (record {
           z = k .z;
           s = k .s;
           f = k .f;
-          rem = record { left = L-old m (k .z) (not-w m (k .z) (k .s) (k .f) st) (k .rem .left); own = λ o l q. k .rem .own o (L-new m o l) q };
+          rem = record { left = L-old m (k .z) (not-w m (k .z) (k .s) (k .f) (c .0) st) (k .rem .left); own = λ o l q. k .rem .own o (L-new m o l) q };
           st = st;
           dt = k .dt;
         });
@@ -128,29 +130,50 @@ module _ (p : Par) (g : Ghost) (v : View) (d w : ℕ) (a : Opening p g v d w) wh
         s = c .s;
         f = c .f;
         rem = record { left = L-new (g .un) (c .z) (c .rem .left); own = λ o l q. own o l q (ℕ-discrete o w) };
-        st = record { on = λ e l n. Put.in-fwd v d w i (chunk (c .s) (c .f e)) e (c .z) (c .st .on e l n); xor = c .st .xor };
+        st = record { on = λ e l n. Put.in-fwd v d w i (chunk (c .s) (c .f e)) e (c .z) (c .st .on e l n); word = c .st .word };
         dt = c .dt;
       }
         where
           uz : Used p (g .un) v (c .z)
-          uz = used p g v (g .un) (c .z) (inr refl) (c .rem .left)
+          uz = used p g v (g .un) (c .z) (self-none p (g .un) (a .none)) (c .rem .left)
 
           own : (o : ℕ) → L p u (g .un) o → g .hd .cop (c .z) ≡ g .hd .ser o → Dec (o ≡ w) → ⊥
           own o l q (no e) = c .rem .own o (L-old (g .un) o e l) q
           own o l q (yes e) =
               let r : g .hd .ser o ≡ g .hd .ser w = ap (g .hd .ser) e in
-              let j : ⊥ = omega (arith, a .newest (c .z) uz (not-w (g .un) (c .z) (c .s) (c .f) (c .st)), hs .below (c .z) uz) in j
+              let j : ⊥ = omega (arith, a .newest (c .z) uz (not-w (g .un) (c .z) (c .s) (c .f) (none-few p (g .un) (a .none)) (c .st)), hs .below (c .z) uz) in j
 
   open-kept : Open p g v → Open p g u
   open-kept h = record {
-    bound = λ y k. bnd y k (ℕ-discrete y w);
+    place = record {
+      put = λ y k. put₁ y k (ℕ-discrete y w);
+      apart = λ y z k j e l q. apart₁ y z k j e l q (ℕ-discrete y w) (ℕ-discrete z w);
+      room = λ e l. ⊎-elim
+          (λ (k : (y : ℕ) × (y < p .Z) × (p .fine e y ≡ true) × (g .hd .zn w e ≢ y) × ((z : ℕ) → (Used p (g .un) v z) ⊎ (InPair (g .pr) z) → z ≢ w → g .hd .zn z e ≢ y)).
+          inl (k .0, k .1, k .2, λ z i. room₁ e (k .0) (k .3) (k .4) z i (ℕ-discrete z w))) (λ k. inr k) (a .space e l);
+    };
     ragged = λ y z b c. go y z b c (ℕ-discrete y w) (ℕ-discrete z w);
-    room = ⊎-elim (λ (k : (z : ℕ) × (z < p .Z) × (z ≢ w) × (Used p (g .un) v z → ⊥)). inl (k .0, k .1, λ b. k .3 (used-old (k .0) (k .2) b))) (λ k. inr k) (a .space);
   }
     where
-      bnd : (y : ℕ) → Used p (g .un) u y → Dec (y ≡ w) → y < p .Z
-      bnd y k (yes e) = rw e (a .inZ)
-      bnd y k (no e) = h .bound y (used-old y e k)
+      live : (y : ℕ) → y ≢ w → (Used p (g .un) u y) ⊎ (InPair (g .pr) y) → (Used p (g .un) v y) ⊎ (InPair (g .pr) y)
+      live y n (inl k) = inl (used-old y n k)
+      live y n (inr k) = inr k
+
+      put₁ : (y : ℕ) → (Used p (g .un) u y) ⊎ (InPair (g .pr) y) → Dec (y ≡ w) → (e : ℕ) → e < p .N → (g .hd .zn y e < p .Z) × (p .fine e (g .hd .zn y e) ≡ true)
+      put₁ y k (yes q) e l = rw q (a .fits e l)
+      put₁ y k (no q) e l = h .place .put y (live y q k) e l
+
+      apart₁ : (y z : ℕ) → (Used p (g .un) u y) ⊎ (InPair (g .pr) y) → (Used p (g .un) u z) ⊎ (InPair (g .pr) z) → (e : ℕ) → e < p .N → g .hd .zn y e ≡ g .hd .zn z e → Dec (y ≡ w) → Dec (z ≡ w)
+          → y ≡ z
+      apart₁ y z k j e l q (yes i) (yes i′) = i ∙ sym i′
+      apart₁ y z k j e l q (yes i) (no i′) = absurd (a .clear z (live z i′ j) i′ e l (sym q ∙ ap (λ (t : ℕ). g .hd .zn t e) i))
+      apart₁ y z k j e l q (no i) (yes i′) = absurd (a .clear y (live y i k) i e l (q ∙ ap (λ (t : ℕ). g .hd .zn t e) i′))
+      apart₁ y z k j e l q (no i) (no i′) = h .place .apart y z (live y i k) (live z i′ j) e l q
+
+      room₁ : (e y : ℕ) → g .hd .zn w e ≢ y → ((z : ℕ) → (Used p (g .un) v z) ⊎ (InPair (g .pr) z) → z ≢ w → g .hd .zn z e ≢ y)
+          → (z : ℕ) → (Used p (g .un) u z) ⊎ (InPair (g .pr) z) → Dec (z ≡ w) → g .hd .zn z e ≢ y
+      room₁ e y n f z i (yes q) = λ k. n (ap (λ (t : ℕ). g .hd .zn t e) (sym q) ∙ k)
+      room₁ e y n f z i (no q) = f z (live z q i) q
 
       rag : (y : ℕ) → y ≢ w → Ragged p (g .un) u y → Ragged p (g .un) v y
       rag y n (e, t, b, c) = (e, t, len-old e y n b, subst (λ (l : List Item). length l < p .cap) (Put.zone-other v d w i e y n) c)
@@ -163,9 +186,10 @@ module _ (p : Par) (g : Ghost) (v : View) (d w : ℕ) (a : Opening p g v d w) wh
 
   pub headed : Facts p g v → Facts p g u
   headed h = record {
+    lost = h .lost;
     zones = λ e y t. Put.each v d w i (Zone p g) (rw (a .empty) (zone-head p g d w (a .room))) e y (h .zones e y t);
     parity = record {
-      whole = λ b y s f on. h .parity .whole b y s f (λ e l. in-old s (f e) e y (on e l));
+      whole = λ m c y s f on. h .parity .whole m c y s f (λ e l n. in-old s (f e) e y (on e l n));
       sound = λ m c y s f st x dt. h .parity .sound m c y s f (stripe-old m y s f st) x dt;
     };
     swap = swap-kept (h .swap);

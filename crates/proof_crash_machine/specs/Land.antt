@@ -1,21 +1,23 @@
 -- (3) A landed chunk keeps the drive facts. Assumes nothing.
 use mathlib.Core.Path.{_≡_, refl, sym, ap, _∙_, subst}
 use mathlib.Core.List.{List, [], _∷_, _++_}
+use mathlib.Core.Bool.{false}
 use mathlib.Core.Logic.{_⊎_, inl, inr, ⊎-elim, _≢_}
 use Prim.Native.Nat.{ℕ, zero, suc, _≤_, _<_}
 use native.Mathlib.Omega.{arith}
 use native.Mathlib.Decide.{ℕ-discrete}
 use lib.ListN.{length}
-use Rattle.proof_crash_machine.specs.Val.{Val, 𝟘, xorN, xorN-same, decode-all}
+use Rattle.proof_crash_machine.specs.Val.{Val}
 use Rattle.proof_crash_machine.specs.View.{Item, View, In, after, chunk-val, chunk-num}
 use Rattle.proof_crash_machine.specs.View.Item.{chunk}
-use Rattle.proof_crash_machine.specs.Facts.{Par, Ghost, Good, Tr, Stripe, Datum, Counted, Off, Zone, Parity, Used, Whole, Swap, Open, Content, Facts}
+use Rattle.proof_crash_machine.specs.Mask.{Mask, count}
+use Rattle.proof_crash_machine.specs.Facts.{Par, None, Word, fewer, unique, Ghost, Good, Tr, Choice, Stripe, Datum, Counted, Off, Zone, Parity, Used, Whole, Swap, Open, Content, Facts}
 use Rattle.proof_crash_machine.specs.Facts.Pair.{pair}
 use Rattle.proof_crash_machine.specs.Put
 
 -- what memory knows of a chunk that lands (M3, M5, M6, M7)
 pub record Landing (p : Par) (g : Ghost) (v : View) (d z s : ℕ) (F : ℕ → Val) : Type 0 where
-  pub none : p .N ≤ g .un
+  pub none : None p (g .un)
   pub old : (w o : ℕ) → g .pr ≡ pair w o → Whole p (g .un) v o
   pub drive : d < p .N
   pub begun : 0 < length (v d z)
@@ -24,7 +26,7 @@ pub record Landing (p : Par) (g : Ghost) (v : View) (d z s : ℕ) (F : ℕ → V
   pub off : (k : ℕ) → length (v d z) ≡ suc k → (k < p .S) × (p .grp s ≡ p .grp k)
   pub new : (x : Val) → In (chunk s x) (v d z) → ⊥
   pub mine : (e : ℕ) (x : Val) → e < p .N → In (chunk s x) (v e z) → x ≡ F e
-  pub xor : xorN (p .N) F ≡ 𝟘
+  pub word : Word p s F
   pub good : (x : Val) → Datum p s F x → Good g x
   pub ok : (x : Val) → Datum p s F x → (x .stamp ≤ g .last (x .addr)) ⊎ (g .top < x .stamp)
 
@@ -50,17 +52,17 @@ module _ (p : Par) (g : Ghost) (v : View) (d z s : ℕ) (F : ℕ → Val) (a : L
       (λ (w : (e ≡ d) × (y ≡ z) × (chunk t x ≡ i)). absurd (⊎-elim (λ (k : y ≢ z). k (w .1)) (λ (k : t ≢ s). k (chunk-num (w .2))) n))
       (Put.in-back v d z i (chunk t x) e y m)
 
-  back : (m y t : ℕ) (f : ℕ → Val) → Stripe p u m y t f → (Stripe p v m y t f) ⊎ ((y ≡ z) × (t ≡ s) × ((e : ℕ) → e < p .N → f e ≡ F e))
-  back m y t f h = go (ℕ-discrete y z) (ℕ-discrete t s)
+  back : (m : Mask) (y t : ℕ) (f : ℕ → Val) → count (p .N) m ≤ p .P → Stripe p u m y t f → (Stripe p v m y t f) ⊎ ((y ≡ z) × (t ≡ s) × ((e : ℕ) → e < p .N → f e ≡ F e))
+  back m y t f b h = go (ℕ-discrete y z) (ℕ-discrete t s)
     where
       old : (y ≢ z) ⊎ (t ≢ s) → Stripe p v m y t f
-      old n = record { on = λ e l k. other t (f e) e y n (h .on e l k); xor = h .xor }
+      old n = record { on = λ e l k. other t (f e) e y n (h .on e l k); word = h .word }
 
       go : Dec (y ≡ z) → Dec (t ≡ s) → (Stripe p v m y t f) ⊎ ((y ≡ z) × (t ≡ s) × ((e : ℕ) → e < p .N → f e ≡ F e))
       go (yes q) (yes r) = inr (
         q,
         r,
-        decode-all (p .N) m f F (h .xor ∙ sym (a .xor))
+        unique p s m b f F (subst (λ (n : ℕ). Word p n f) r (h .word)) (a .word)
             (λ e l k. mine′ e (f e) l (subst (λ (n : ℕ). In (chunk n (f e)) (u e z)) r (subst (λ (n : ℕ). In (chunk t (f e)) (u e n)) q (h .on e l k)))),
       )
       go (yes q) (no r) = inl (old (inr r))
@@ -83,7 +85,7 @@ module _ (p : Par) (g : Ghost) (v : View) (d z s : ℕ) (F : ℕ → Val) (a : L
         (λ (w′ : (k ≡ length (v d z)) × (i ≡ chunk t y)). w .0 ∙ sym (w′ .0)) (Put.off-cases (v d z) i (chunk t y) k o′))
         (Put.off-cases (v d z) i (chunk t x) j o);
     origin = λ t x m n. ⊎-elim (λ (w : In (chunk t x) (v d z)). h .origin t x w n)
-        (λ (w : chunk t x ≡ i). a .good x (record { d = d; lt = a .drive; data? = λ q. n (q ∙ ap (p .par) (sym (chunk-num w))); val = sym (chunk-val w) }))
+        (λ (w : chunk t x ≡ i). a .good x (record { d = d; lt = a .drive; data? = subst (λ (k : ℕ). p .code .par k d ≡ false) (chunk-num w) n; val = sym (chunk-val w) }))
         (in-cases′ (chunk t x) m);
     sealed = λ q. absurd (full (length (v d z)) refl q);
   }
@@ -101,20 +103,22 @@ module _ (p : Par) (g : Ghost) (v : View) (d z s : ℕ) (F : ℕ → Val) (a : L
   -- D7
   parity-kept : Parity p g v → Parity p g u
   parity-kept h = record {
-    whole = λ b y t f on. all b y t f on (ℕ-discrete y z) (ℕ-discrete t s);
+    whole = λ m c y t f on. all m c y t f on (ℕ-discrete y z) (ℕ-discrete t s);
     sound = λ m c y t f st x dt. ⊎-elim (λ (w : Stripe p v m y t f). h .sound m c y t f w x dt)
         (λ (w : (y ≡ z) × (t ≡ s) × ((e : ℕ) → e < p .N → f e ≡ F e)).
-        a .good x (Datum-same p s f F x (w .2) (subst (λ (n : ℕ). Datum p n f x) (w .1) dt))) (back m y t f st);
+        a .good x (Datum-same p s f F x (w .2) (subst (λ (n : ℕ). Datum p n f x) (w .1) dt))) (back m y t f (c .0) st);
   }
     where
-      all : p .N ≤ g .un → (y t : ℕ) (f : ℕ → Val) → ((e : ℕ) → e < p .N → In (chunk t (f e)) (u e y)) → Dec (y ≡ z) → Dec (t ≡ s) → xorN (p .N) f ≡ 𝟘
-      all b y t f on (yes q) (yes r) =
-          xorN-same (p .N) f F
-          (λ e l. mine′ e (f e) l (subst (λ (n : ℕ). In (chunk n (f e)) (u e z)) r (subst (λ (n : ℕ). In (chunk t (f e)) (u e n)) q (on e l))))
-          ∙ a .xor
-      all b y t f on (yes q) (no r) = h .whole b y t f (λ e l. other t (f e) e y (inr r) (on e l))
-      all b y t f on (no q) (yes r) = h .whole b y t f (λ e l. other t (f e) e y (inl q) (on e l))
-      all b y t f on (no q) (no r) = h .whole b y t f (λ e l. other t (f e) e y (inl q) (on e l))
+      all : (m : Mask) → Choice p (g .un) m → (y t : ℕ) (f : ℕ → Val) → ((e : ℕ) → e < p .N → m e ≡ false → In (chunk t (f e)) (u e y)) → Dec (y ≡ z) → Dec (t ≡ s)
+          → (j : ℕ → Val) × Word p t j × ((e : ℕ) → e < p .N → m e ≡ false → f e ≡ j e)
+      all m c y t f on (yes q) (yes r) = (
+        F,
+        subst (λ (n : ℕ). Word p n F) (sym r) (a .word),
+        (λ e l k. mine′ e (f e) l (subst (λ (n : ℕ). In (chunk n (f e)) (u e z)) r (subst (λ (n : ℕ). In (chunk t (f e)) (u e n)) q (on e l k)))),
+      )
+      all m c y t f on (yes q) (no r) = h .whole m c y t f (λ e l k. other t (f e) e y (inr r) (on e l k))
+      all m c y t f on (no q) (yes r) = h .whole m c y t f (λ e l k. other t (f e) e y (inl q) (on e l k))
+      all m c y t f on (no q) (no r) = h .whole m c y t f (λ e l k. other t (f e) e y (inl q) (on e l k))
 
   -- D3, D8
   swap-kept : Swap p g v → Swap p g u
@@ -129,11 +133,11 @@ module _ (p : Par) (g : Ghost) (v : View) (d z s : ℕ) (F : ℕ → Val) (a : L
   -- D11, D12
   content-kept : Content p g v → Content p g u
   content-kept h = record {
-    fresh = λ m c x k. ⊎-elim
-        (λ (w : Stripe p v m (k .z) (k .s) (k .f)). h .fresh m c x
+    fresh = λ m c nb x k. ⊎-elim
+        (λ (w : Stripe p v m (k .z) (k .s) (k .f)). h .fresh m c nb x
         (record { z = k .z; s = k .s; f = k .f; rem = Put.R-back v d z i (a .begun) p g m (k .z) (k .rem); st = w; dt = k .dt }))
         (λ (w : (k .z ≡ z) × (k .s ≡ s) × ((e : ℕ) → e < p .N → k .f e ≡ F e)).
-        a .ok x (Datum-same p s (k .f) F x (w .2) (subst (λ (n : ℕ). Datum p n (k .f) x) (w .1) (k .dt)))) (back m (k .z) (k .s) (k .f) (k .st));
+        a .ok x (Datum-same p s (k .f) F x (w .2) (subst (λ (n : ℕ). Datum p n (k .f) x) (w .1) (k .dt)))) (back m (k .z) (k .s) (k .f) (c .0) (k .st));
     floor = λ b. ⊎-elim (λ w. inl w)
         (λ (w : (x : Val) × Counted p (g .hd) v (g .un) x × (x .addr ≡ b) × (g .base b ≤ x .stamp)).
         inr (w .0, Put.Counted-fwd v d z i (a .begun) p g (g .un) (w .0) (w .1), w .2, w .3)) (h .floor b);
@@ -142,10 +146,8 @@ module _ (p : Par) (g : Ghost) (v : View) (d z s : ℕ) (F : ℕ → Val) (a : L
   -- D9, D10
   open-kept : Open p g v → Open p g u
   open-kept h = record {
-    bound = λ y k. h .bound y (Put.Used-back v d z i (a .begun) p g y k);
+    place = fewer p (g .hd) (g .pr) (Used p (g .un) v) (Used p (g .un) u) (Put.Used-back v d z i (a .begun) p g) (h .place);
     ragged = λ y x b c. h .ragged y x (rag y b) (rag x c);
-    room = ⊎-elim (λ (w : (y : ℕ) × (y < p .Z) × (Used p (g .un) v y → ⊥)). inl (w .0, w .1, λ k. w .2 (Put.Used-back v d z i (a .begun) p g (w .0) k))) (λ w. inr w)
-        (h .room);
   }
     where
       rag : (y : ℕ) → ((e : ℕ) × Tr p (g .un) e × (0 < length (u e y)) × (length (u e y) < p .cap))
@@ -159,6 +161,7 @@ module _ (p : Par) (g : Ghost) (v : View) (d z s : ℕ) (F : ℕ → Val) (a : L
 
   pub landed : Facts p g v → Facts p g u
   landed h = record {
+    lost = h .lost;
     zones = λ e y t. Put.each v d z i (Zone p g) (zone-kept (h .zones d z (a .drive, not-un))) e y (h .zones e y t);
     parity = parity-kept (h .parity);
     swap = swap-kept (h .swap);
@@ -166,5 +169,5 @@ module _ (p : Par) (g : Ghost) (v : View) (d z s : ℕ) (F : ℕ → Val) (a : L
     content = content-kept (h .content);
   }
     where
-      not-un : d ≢ g .un
-      not-un = omega (arith, a .drive, a .none)
+      not-un : g .un d ≡ false
+      not-un = a .none d (a .drive)

@@ -7,12 +7,12 @@ use Prim.Native.Nat.{ℕ, zero, suc, _≤_, _<_}
 use native.Mathlib.Omega.{arith}
 use native.Mathlib.Decide.{ℕ-discrete}
 use lib.ListN.{length}
-use Rattle.proof_crash_machine.specs.Val.{Val, 𝟘, xorN}
+use Rattle.proof_crash_machine.specs.Val.{Val}
 use Rattle.proof_crash_machine.specs.Facts.Pair.{alone, pair}
 use Rattle.proof_crash_machine.specs.Lemma.{pair-alone}
 use Rattle.proof_crash_machine.specs.View.{Item, View, In, after, chunk-num, chunk-val}
 use Rattle.proof_crash_machine.specs.View.Item.{chunk}
-use Rattle.proof_crash_machine.specs.Facts.{Par, Ghost, InV, Good, R, Datum, Counted, Used, Whole, Ragged, Facts, used}
+use Rattle.proof_crash_machine.specs.Facts.{Par, None, Word, self-none, Ghost, InV, Good, R, Datum, Counted, Used, Whole, Ragged, Facts, used}
 use Rattle.proof_crash_machine.specs.Put
 use Rattle.proof_crash_machine.specs.Land.{Landing, landed}
 use Rattle.proof_crash_machine.specs.Ghosts.{withBase, withSent}
@@ -52,12 +52,12 @@ Ok g x = (x .stamp ≤ g .last (x .addr)) ⊎ (g .top < x .stamp)
 pub record Flight (p : Par) (g : Ghost) (v : View) (z s : ℕ) (G : ℕ → Val) (r : ℕ → Bool) : Type 0 where
   -- what has landed is the flight's, and only what may land has
   pub mine : (e : ℕ) (x : Val) → e < p .N → In (chunk s x) (v e z) → (x ≡ G e) × (r e ≡ true)
-  pub xor : xorN (p .N) G ≡ 𝟘
+  pub word : Word p s G
   pub good : (x : Val) → Datum p s G x → Good g x
   pub ok : (x : Val) → Datum p s G x → Ok g x
 
 pub record MemOk (p : Par) (g : Ghost) (v : View) (M : Mem) : Type 0 where
-  pub none : p .N ≤ g .un
+  pub none : None p (g .un)
   pub no-pair : g .pr ≡ alone
   pub whole : (z : ℕ) → Used p (g .un) v z → Whole p (g .un) v z
   pub lone : (y : ℕ) → Ragged p (g .un) v y → (M .is-open ≡ true) × (y ≡ M .zone)
@@ -97,7 +97,7 @@ module _ (p : Par) (g : Ghost) (v : View) (M : Mem) (a : MemOk p g v M) where
     is = a .flies s f
 
     b : 0 < length (v d (M .zone))
-    b = a .begun (is .0) d lt (omega (arith, lt, a .none))
+    b = a .begun (is .0) d lt (a .none d lt)
 
     landing : Landing p g v d (M .zone) s (M .F s)
     landing = record {
@@ -110,7 +110,7 @@ module _ (p : Par) (g : Ghost) (v : View) (M : Mem) (a : MemOk p g v M) where
       off = off;
       new = new;
       mine = λ e x l m. is .2 .mine e x l m .0;
-      xor = is .2 .xor;
+      word = is .2 .word;
       good = is .2 .good;
       ok = is .2 .ok;
     }
@@ -155,7 +155,7 @@ module _ (p : Par) (g : Ghost) (v : View) (M : Mem) (a : MemOk p g v M) where
               (λ (k : (e ≡ d) × (M .zone ≡ M .zone) × (chunk t x ≡ i)).
               (chunk-val (k .2) ∙ ap₂ (λ (n j : ℕ). M .F n j) (sym (chunk-num (k .2))) (sym (k .0)), ap₂ (λ (n j : ℕ). M .ready n j) (chunk-num (k .2)) (k .0) ∙ may))
               (Put.in-back v d (M .zone) i (chunk t x) e (M .zone) m);
-          xor = r .2 .xor;
+          word = r .2 .word;
           good = r .2 .good;
           ok = r .2 .ok;
         },
@@ -191,7 +191,7 @@ module _ (p : Par) (g : Ghost) (v : View) (M : Mem) (a : MemOk p g v M) where
         other : (k : ℕ) → k ≢ s → Flight p g v (M .zone) k (M .F k) (M .ready k) → Flight p (withSent g l) v (M .zone) k (setAt (M .F) s G k) (setAt (M .ready) s r k)
         other k e f = setAt-elim (λ (H : ℕ → Val). Flight p (withSent g l) v (M .zone) k H (setAt (M .ready) s r k)) (M .F) s G k (λ q. absurd (e q))
             (λ q. setAt-elim (λ (R : ℕ → Bool). Flight p (withSent g l) v (M .zone) k (M .F k) R) (M .ready) s r k (λ q′. absurd (e q′))
-            (λ q′. record { mine = f .mine; xor = f .xor; ok = f .ok; good = λ x j. ⊎-elim (λ w. inl w) (λ (w : InV x (g .sent)). inr (more x w)) (f .good x j) }))
+            (λ q′. record { mine = f .mine; word = f .word; ok = f .ok; good = λ x j. ⊎-elim (λ w. inl w) (λ (w : InV x (g .sent)). inr (more x w)) (f .good x j) }))
 
         was : (k : ℕ) → k ≢ s → setAt (M .fly) s true k ≡ true → M .fly k ≡ true
         was k e = setAt-elim (λ (B : Bool). B ≡ true → M .fly k ≡ true) (M .fly) s true k (λ q. absurd (e q)) (λ q j. j)
@@ -215,7 +215,7 @@ module _ (p : Par) (g : Ghost) (v : View) (M : Mem) (a : MemOk p g v M) where
     top = a .top;
     serials = a .serials;
     flies = λ t q. let r : (M .is-open ≡ true) × (t < M .next) × Flight p g v (M .zone) t (M .F t) (M .ready t) = a .flies t (was t q) in
-        (r .0, r .1, record { mine = r .2 .mine; xor = r .2 .xor; good = r .2 .good; ok = r .2 .ok });
+        (r .0, r .1, record { mine = r .2 .mine; word = r .2 .word; good = r .2 .good; ok = r .2 .ok });
   }
     where
       was : (t : ℕ) → setAt (M .fly) s false t ≡ true → M .fly t ≡ true
@@ -233,11 +233,12 @@ module _ (p : Par) (g : Ghost) (v : View) (M : Mem) (a : MemOk p g v M) where
         dt = dt;
         rem = record {
           left = a .begun (r .0);
-          own = λ o l q. pair-alone (sym (h .swap .one (M .zone) o (used p g v (g .un) (M .zone) (inr refl) (a .begun (r .0))) (used p g v (g .un) o (inr refl) l) q) ∙ a .no-pair);
+          own = λ o l q. pair-alone
+              (sym (h .swap .one (M .zone) o (used p g v (g .un) (M .zone) (self-none p (g .un) (a .none)) (a .begun (r .0))) (used p g v (g .un) o (self-none p (g .un) (a .none)) l) q) ∙ a .no-pair);
         };
         st = record {
           on = λ e l n. let w : (y : Val) × In (chunk s y) (v e (M .zone)) = on e l in
               subst (λ (y : Val). In (chunk s y) (v e (M .zone))) (r .2 .mine e (w .0) l (w .1) .0) (w .1);
-          xor = r .2 .xor;
+          word = r .2 .word;
         };
       }

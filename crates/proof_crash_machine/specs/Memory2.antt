@@ -62,7 +62,7 @@ module _ (p : Par) (g : Ghost) (v u : View) (z : ℕ) (M : Mem) (a : MemOk p g v
       r .1,
       record {
         mine = λ e x l m. r .2 .mine e x l (subst (λ (y : List Item). In (chunk s x) y) (other e (M .zone) (apart (r .0))) m);
-        xor = r .2 .xor;
+        word = r .2 .word;
         good = r .2 .good;
         ok = r .2 .ok;
       },
@@ -74,8 +74,8 @@ abbrev pub openMem : Mem → ℕ → ℕ → Mem
 openMem M w r = record { serial = r; is-open = true; zone = w; next = 0; fly = λ s. false; ready = M .ready; F = M .F; stamp = M .stamp }
 
 pub open-mem : (p : Par) (g : Ghost) (v u : View) (w r : ℕ) (M : Mem) → MemOk p g v M → M .serial ≤ r → ((y : ℕ) → Ragged p (g .un) v y → ⊥)
-    → ((e y : ℕ) → y ≢ w → u e y ≡ v e y) → (i k : ℕ) → ((e : ℕ) → e < p .N → u e w ≡ hdr i k ∷ []) → MemOk p (naming g w r 0 alone) u (openMem M w r)
-open-mem p g v u w r M a up full other i k head = record {
+    → ((e y : ℕ) → y ≢ w → u e y ≡ v e y) → (i k : ℕ) (ζ n : ℕ → ℕ) → ((e : ℕ) → e < p .N → u e w ≡ hdr i k n ∷ []) → MemOk p (naming g w r 0 ζ alone) u (openMem M w r)
+open-mem p g v u w r M a up full other i k ζ nn head = record {
   none = a .none;
   no-pair = refl;
   few = omega arith;
@@ -85,7 +85,7 @@ open-mem p g v u w r M a up full other i k head = record {
   whole = λ y (e, t, b) d l n. whole y e t b d l n (ℕ-discrete y w);
   lone = λ y (e, t, b, c). (refl, lone y e t b c (ℕ-discrete y w));
   begun = λ q d l n. has d l;
-  below = λ q e s x l m. absurd (⊎-elim (λ (j : chunk s x ≡ hdr i k). chunk-hdr j) (λ j. j) (subst (λ (y : List Item). In (chunk s x) y) (head e l) m));
+  below = λ q e s x l m. absurd (⊎-elim (λ (j : chunk s x ≡ hdr i k nn). chunk-hdr j) (λ j. j) (subst (λ (y : List Item). In (chunk s x) y) (head e l) m));
   flies = λ s q. absurd (let z : _≡_ {A = ℕ} 0 1 = cc in let j : ⊥ = omega arith in j);
 }
   where
@@ -96,7 +96,7 @@ open-mem p g v u w r M a up full other i k head = record {
     has : (d : ℕ) → d < p .N → 0 < length (u d w)
     has d l = rw (head d l) (omega arith)
 
-    whole : (y e : ℕ) → Tr p (g .un) e → 0 < length (u e y) → (d : ℕ) → d < p .N → d ≢ g .un → Dec (y ≡ w) → 0 < length (u d y)
+    whole : (y e : ℕ) → Tr p (g .un) e → 0 < length (u e y) → (d : ℕ) → d < p .N → g .un d ≡ false → Dec (y ≡ w) → 0 < length (u d y)
     whole y e t b d l n (yes q) = rw q (has d l)
     whole y e t b d l n (no q) = subst (λ (x : List Item). 0 < length x) (sym (other d y q)) (a .whole y (e, t, subst (λ (x : List Item). 0 < length x) (other e y q) b) d l n)
 

@@ -6,12 +6,13 @@ use Prim.Native.Nat.{ℕ, suc, _≤_, _<_}
 use native.Mathlib.Omega.{arith}
 use native.Mathlib.Decide.{decLt}
 use Rattle.proof_crash_machine.specs.Val.{Val, 𝟘}
+use Rattle.proof_crash_machine.specs.Mask.{Mask}
 use Rattle.proof_crash_machine.specs.Facts.{Par, InV}
 use Rattle.proof_crash_machine.specs.Finish.{upTo-le}
 use Rattle.proof_crash_machine.specs.Memory.{setAt, setAt-elim}
 use Rattle.proof_crash_machine.specs.History.{State, Step, Run, Inv, Claim, kept, start, began, mem-of}
-use Rattle.proof_crash_machine.specs.History.Step.{ack, begin, close, copy, footer, land, lose, missing, open-cut, open-done, rebuild, rebuild-done, rebuild-store}
-use Rattle.proof_crash_machine.specs.History.Step.{reset-cut, reset-done, restart, restart-cut₁, restart-cut₂, restart-footer, restart-plain, seal, send}
+use Rattle.proof_crash_machine.specs.History.Step.{ack, begin, close, copy, footer, land, lose, missing, open-cut, open-done, rebuild, rebuild-done, rebuild-store, reset-cut, reset-done}
+use Rattle.proof_crash_machine.specs.History.Step.{restart, restart-cut₁, restart-cut₂, restart-footer, restart-plain, seal, send}
 use Rattle.proof_crash_machine.specs.History.Run.{stop, then}
 
 -- all sends in their order: log q is the q-th block sent; pos t is where the block of cur with stamp t stands
@@ -124,9 +125,9 @@ pub record Reading (σ : State) (T : Track) (K : ℕ → ℕ) (a : ℕ) : Type 0
   pub stamp : T .log r .stamp ≡ K a
   pub latest : (x : Val) → InV x (σ .acked) → x .addr ≡ a → (T .log (T .pos (x .stamp)) ≡ x) × (T .pos (x .stamp) ≤ r)
 
-pub reading : (p : Par) (σ : State) (T : Track) (K : ℕ → ℕ) → Inv p σ → Tracked σ T → Claim σ K → (a : ℕ)
+pub reading : (p : Par) (σ : State) (T : Track) (m : Mask) (K : ℕ → ℕ) → Inv p σ → Tracked σ T → Claim p σ m K → (a : ℕ)
     → (Reading σ T K a) ⊎ ((K a ≡ 0) × ((x : Val) → InV x (σ .acked) → x .addr ≡ a → ⊥))
-reading p σ T K i k c a = go (decLt 0 (K a))
+reading p σ T m K i k c a = go (decLt 0 (K a))
   where
     go : Dec (0 < K a) → (Reading σ T K a) ⊎ ((K a ≡ 0) × ((x : Val) → InV x (σ .acked) → x .addr ≡ a → ⊥))
     go (no b) = inr (omega arith, λ x m e. let q : K (x .addr) ≡ K a = ap K e in let j : ⊥ = omega (arith, c .acked x m, q, b, i .ones x (i .acks x m .0) .0) in j)
@@ -161,10 +162,10 @@ both p _ _ (stop σ) T i k = (i, k)
 both p _ _ (then σ τ υ s r) T i k = both p τ υ r (track p σ τ s T) (kept p σ τ i s) (tracked p σ τ i s T k)
 
 -- whatever a finished restart after the history r reads (`demand3` gives its claim), it is in order
-pub ordered : (p : Par) (σ : State) (r : Run p (start p) σ) (K : ℕ → ℕ) → Claim σ K → (a : ℕ)
+pub ordered : (p : Par) (σ : State) (r : Run p (start p) σ) (m : Mask) (K : ℕ → ℕ) → Claim p σ m K → (a : ℕ)
     → (Reading σ (runTrack p (start p) σ r noTrack) K a) ⊎ ((K a ≡ 0) × ((x : Val) → InV x (σ .acked) → x .addr ≡ a → ⊥))
 unfolding start
-ordered p σ r K c a =
+ordered p σ r m K c a =
     let k : Inv p σ × Tracked σ (runTrack p (start p) σ r noTrack) =
     both p (start p) σ r noTrack (began p) (record { here = λ x m. absurd m; order = λ x y m n b. absurd m }) in
-    reading p σ (runTrack p (start p) σ r noTrack) K (k .0) (k .1) c a
+    reading p σ (runTrack p (start p) σ r noTrack) m K (k .0) (k .1) c a

@@ -8,8 +8,9 @@ use native.Mathlib.Decide.{decLt}
 use lib.ListN.{length, getD, length-append, List·getD-append}
 use lib.Seq.{getD-append-seam}
 use Rattle.proof_crash_machine.specs.Val.{Val}
-use Rattle.proof_crash_machine.specs.View.{Item, View, In, after, upd-elim, upd-same, upd-zone, upd-drive, in-left, in-last, in-cases}
+use Rattle.proof_crash_machine.specs.View.{Item, View, In, after, upd-elim, upd-zone, upd-drive, in-left, in-cases}
 use Rattle.proof_crash_machine.specs.View.Item.{chunk, foot}
+use Rattle.proof_crash_machine.specs.Mask.{Mask}
 use Rattle.proof_crash_machine.specs.Facts.{Par, Ghost, L, R, Stripe, Counted, Off, Used, Whole}
 
 -- ---- one list
@@ -40,10 +41,6 @@ module _ (v : View) (d z : ℕ) (i : Item) where
   in-fwd j e y m = upd-elim (λ (l : List Item). In j l) v d z (v d z ++ (i ∷ [])) e y
       (λ p q. in-left j (v d z) (i ∷ []) (subst (λ (k : ℕ). In j (v d k)) q (subst (λ (k : ℕ). In j (v k y)) p m))) (λ w. m)
 
-  pub in-new : In i (after v d z i d z)
-  unfolding after
-  in-new = rw upd-same (in-last i (v d z))
-
   pub in-back : (j : Item) (e y : ℕ) → In j (after v d z i e y) → (In j (v e y)) ⊎ ((e ≡ d) × (y ≡ z) × (j ≡ i))
   unfolding after
   in-back j e y = upd-elim (λ (l : List Item). In j l → (In j (v e y)) ⊎ ((e ≡ d) × (y ≡ z) × (j ≡ i))) v d z (v d z ++ (i ∷ [])) e y
@@ -72,7 +69,7 @@ module _ (v : View) (d z : ℕ) (i : Item) where
     pub len-back : (e y : ℕ) → 0 < length (after v d z i e y) → 0 < length (v e y)
     len-back e y = each (λ (e y : ℕ) (l : List Item). 0 < length l → 0 < length (v e y)) (λ b. ne) e y (λ b. b)
 
-    module _ (p : Par) (g : Ghost) (m : ℕ) where
+    module _ (p : Par) (g : Ghost) (m : Mask) where
       pub L-fwd : (y : ℕ) → L p v m y → L p (after v d z i) m y
       L-fwd y h e l n = len-fwd e y (h e l n)
 
@@ -86,7 +83,7 @@ module _ (v : View) (d z : ℕ) (i : Item) where
       R-back y h = record { left = L-back y (h .left); own = λ o l q. h .own o (L-fwd o l) q }
 
       pub Stripe-fwd : (y s : ℕ) (f : ℕ → Val) → Stripe p v m y s f → Stripe p (after v d z i) m y s f
-      Stripe-fwd y s f h = record { on = λ e l n. in-fwd (chunk s (f e)) e y (h .on e l n); xor = h .xor }
+      Stripe-fwd y s f h = record { on = λ e l n. in-fwd (chunk s (f e)) e y (h .on e l n); word = h .word }
 
       pub Counted-fwd : (x : Val) → Counted p (g .hd) v m x → Counted p (g .hd) (after v d z i) m x
       Counted-fwd x c = record {

@@ -6,7 +6,7 @@ use native.Mathlib.Omega.{arith}
 use lib.ListN.{take}
 use Rattle.proof_crash_machine.specs.Val.{Val}
 use Rattle.proof_crash_machine.specs.View.{View, Store, apply, applyAll, cleared, along, along-all, resets, ResetOf, resets-are}
-use Rattle.proof_crash_machine.specs.Facts.{Par, Ghost, Counted, Facts}
+use Rattle.proof_crash_machine.specs.Facts.{Par, None, Ghost, Counted, Facts}
 use Rattle.proof_crash_machine.specs.Facts.Pair.{alone}
 use Rattle.proof_crash_machine.specs.Lemma.{pair-alone}
 use Rattle.proof_crash_machine.specs.Reset.{Floor, May, Counted-fwd, reset-kept}
@@ -16,7 +16,7 @@ abbrev pub Quiet : Par → Ghost → View → ℕ → Type 0
 Quiet p g v z = (a : ℕ) → (g .base a ≡ 0)
     ⊎ ((x : Val) × (c : Counted p (g .hd) v (g .un) x) × (c .z ≢ z) × (x .addr ≡ a) × (g .base a ≤ x .stamp))
 
-module _ (p : Par) (g : Ghost) (z : ℕ) (none : p .N ≤ g .un) (no-pair : g .pr ≡ alone) where
+module _ (p : Par) (g : Ghost) (z : ℕ) (none : None p (g .un)) (no-pair : g .pr ≡ alone) where
   may : (v : View) → May p g v z
   may v = record { none = none; safe = λ w o e. absurd (pair-alone (sym e ∙ no-pair)) }
 

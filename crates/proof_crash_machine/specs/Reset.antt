@@ -1,6 +1,7 @@
 -- (1), (4) What the reset of one zone leaves as it was, and when it keeps the drive facts. Assumes nothing.
-use mathlib.Core.Path.{_≡_, refl, sym, _∙_, subst}
+use mathlib.Core.Path.{_≡_, refl, sym, ap, _∙_, subst}
 use mathlib.Core.List.{List, []}
+use mathlib.Core.Bool.{true, false}
 use mathlib.Core.Logic.{_⊎_, inl, inr, ⊎-elim, _≢_}
 use Prim.Native.Nat.{ℕ, _≤_, _<_}
 use native.Mathlib.Omega.{arith}
@@ -9,8 +10,9 @@ use lib.ListN.{length}
 use Rattle.proof_crash_machine.specs.Val.{Val}
 use Rattle.proof_crash_machine.specs.View.{Item, View, In, cleared, upd-elim, upd-same, upd-zone, upd-drive}
 use Rattle.proof_crash_machine.specs.View.Item.{chunk}
-use Rattle.proof_crash_machine.specs.Facts.{Par, Pair, Ghost, Tr, Choice, L, R, Stripe, Datum, Counted, Zone, Parity, Used, Whole, Moved, Swap, Open, Content}
-use Rattle.proof_crash_machine.specs.Facts.{Facts, Same, L-same, Stripe-same, Counted-same, used, whole-L, decL}
+use Rattle.proof_crash_machine.specs.Mask.{Mask, count, two, tf}
+use Rattle.proof_crash_machine.specs.Facts.{Par, None, Beyond, self, self-none, none-fair, fewer, none-few, Pair, Ghost, Tr, Choice, L, R, Stripe, Datum, Counted, Zone, Parity, Used, Whole}
+use Rattle.proof_crash_machine.specs.Facts.{Moved, Swap, Open, Content, Facts, Same, L-same, Stripe-same, Counted-same, used, whole-L, decL}
 use Rattle.proof_crash_machine.specs.Facts.Pair.{alone, pair}
 use Rattle.proof_crash_machine.specs.Lemma.{pair-alone, pair-o, pair-w, old-own}
 
@@ -55,27 +57,27 @@ module _ (v : View) (d z : ℕ) where
     pub Used-back : (y : ℕ) → Used p (g .un) (cleared v d z) y → Used p (g .un) v y
     Used-back y (e, t, b) = (e, t, len-back e y b)
 
-    pub L-back : (m y : ℕ) → L p (cleared v d z) m y → L p v m y
+    pub L-back : (m : Mask) (y : ℕ) → L p (cleared v d z) m y → L p v m y
     L-back m y h e l n = len-back e y (h e l n)
 
-    pub Stripe-back : (m y s : ℕ) (f : ℕ → Val) → Stripe p (cleared v d z) m y s f → Stripe p v m y s f
-    Stripe-back m y s f h = record { on = λ e l n. in-back (chunk s (f e)) e y (h .on e l n); xor = h .xor }
+    pub Stripe-back : (m : Mask) (y s : ℕ) (f : ℕ → Val) → Stripe p (cleared v d z) m y s f → Stripe p v m y s f
+    Stripe-back m y s f h = record { on = λ e l n. in-back (chunk s (f e)) e y (h .on e l n); word = h .word }
 
-    -- other segments, and every segment for the choice d
-    pub same : (m y : ℕ) → (y ≢ z) ⊎ (m ≡ d) → Same p v (cleared v d z) m y
+    -- other segments, and every segment for a choice that holds d
+    pub same : (m : Mask) (y : ℕ) → (y ≢ z) ⊎ (m d ≡ true) → Same p v (cleared v d z) m y
     same m y (inl n) e l k = zone-kept e y n
-    same m y (inr q) e l k = drive-kept e y (λ w. k (w ∙ sym q))
+    same m y (inr q) e l k = drive-kept e y (λ w. tf q (sym (ap m w) ∙ k))
 
     -- the zone's segment is left only if d is missing
-    pub L-gone : (m : ℕ) → d < p .N → d ≢ m → L p (cleared v d z) m z → ⊥
+    pub L-gone : (m : Mask) → d < p .N → m d ≡ false → L p (cleared v d z) m z → ⊥
     L-gone m l n h = let b : 0 < length (cleared v d z d z) = h d l n in
         let b′ : 0 < length {A = Item} [] = subst (λ (x : List Item). 0 < length x) gone b in
         let q : ⊥ = omega arith in q
 
-    pub R-fwd : (m y : ℕ) → y ≢ z → R p (g .hd) v m y → R p (g .hd) (cleared v d z) m y
+    pub R-fwd : (m : Mask) (y : ℕ) → y ≢ z → R p (g .hd) v m y → R p (g .hd) (cleared v d z) m y
     R-fwd m y n h = record { left = L-same p v (cleared v d z) m y (same m y (inl n)) (h .left); own = λ o l q. h .own o (L-back m o l) q }
 
-    abbrev pub Counted-fwd : (m : ℕ) (x : Val) (c : Counted p (g .hd) v m x) → c .z ≢ z → Counted p (g .hd) (cleared v d z) m x
+    abbrev pub Counted-fwd : (m : Mask) (x : Val) (c : Counted p (g .hd) v m x) → c .z ≢ z → Counted p (g .hd) (cleared v d z) m x
     Counted-fwd m x c n = record {
       z = c .z;
       s = c .s;
@@ -86,20 +88,20 @@ module _ (v : View) (d z : ℕ) where
     }
 
 -- ---- what of w counts, for some choice, counts with none missing: in w, or in o
-pub moved-counts : (p : Par) (g : Ghost) (v : View) → Swap p g v → (w o : ℕ) → g .pr ≡ pair w o → Moved p (g .un) v w o → (m : ℕ) → Choice p (g .un) m
+pub moved-counts : (p : Par) (g : Ghost) (v : View) → count (p .N) (g .un) ≤ p .P → Swap p g v → (w o : ℕ) → g .pr ≡ pair w o → Moved p (g .un) v w o → (m : Mask) → Choice p (g .un) m
     → (s : ℕ) (f : ℕ → Val) → Stripe p v m w s f → (x : Val) → Datum p s f x → Counted p (g .hd) v (g .un) x
-moved-counts p g v h w o e b m c s f st x dt = go (decL p v (g .un) o)
+moved-counts p g v few h w o e b m c s f st x dt = go (decL p v (g .un) o)
   where
     st′ : Stripe p v (g .un) w s f
     st′ = b .clean m c s f st
 
     lw : L p v (g .un) w
-    lw = whole-L p g v (g .un) w (inr refl) (b .whole)
+    lw = whole-L p g v (g .un) w (self p (g .un) few) (b .whole)
 
     go : Dec (L p v (g .un) o) → Counted p (g .hd) v (g .un) x
     go (yes l) =
-        let t : (s′ : ℕ) × (f′ : ℕ → Val) × Stripe p v (g .un) o s′ f′ × Datum p s′ f′ x = b .still (g .un) (inr refl) l s f st′ x dt in
-        record { z = o; s = t .0; f = t .1; rem = old-own p g v (g .un) w o (inr refl) h e l; st = t .2; dt = t .3 }
+        let t : (s′ : ℕ) × (f′ : ℕ → Val) × Stripe p v (g .un) o s′ f′ × Datum p s′ f′ x = b .still (g .un) (self p (g .un) few) l s f st′ x dt in
+        record { z = o; s = t .0; f = t .1; rem = old-own p g v (g .un) w o (self p (g .un) few) h e l; st = t .2; dt = t .3 }
     go (no l) = record {
       z = w;
       s = s;
@@ -107,7 +109,7 @@ moved-counts p g v h w o e b m c s f st x dt = go (decL p v (g .un) o)
       rem = record {
         left = lw;
         own = λ y ly q. l (subst (λ (k : ℕ). L p v (g .un) k)
-            (sym (pair-o (sym e ∙ h .one w y (used p g v (g .un) w (inr refl) lw) (used p g v (g .un) y (inr refl) ly) q))) ly);
+            (sym (pair-o (sym e ∙ h .one w y (used p g v (g .un) w (self p (g .un) few) lw) (used p g v (g .un) y (self p (g .un) few) ly) q))) ly);
       };
       st = st′;
       dt = dt;
@@ -115,7 +117,7 @@ moved-counts p g v h w o e b m c s f st x dt = go (decL p v (g .un) o)
 
 -- ---- when a zone of segment z may be reset
 pub record May (p : Par) (g : Ghost) (v : View) (z : ℕ) : Type 0 where
-  pub none : p .N ≤ g .un
+  pub none : None p (g .un)
   pub safe : (w o : ℕ) → g .pr ≡ pair w o → ((z ≢ o) × Whole p (g .un) v o) ⊎ ((z ≢ w) × Moved p (g .un) v w o)
 
 module _ (p : Par) (g : Ghost) (v : View) (d z : ℕ) (lt : d < p .N) (a : May p g v z) where
@@ -134,15 +136,11 @@ module _ (p : Par) (g : Ghost) (v : View) (d z : ℕ) (lt : d < p .N) (a : May p
       fw {s} {f} st = Stripe-same p v u (g .un) w s f (same v d z p g (g .un) w (inl (λ q. n (sym q)))) st
 
       -- o is left only where it was not reset
-      where? : (m : ℕ) → L p u m o → Dec (o ≡ z) → (o ≢ z) ⊎ (m ≡ d)
+      where? : (m : Mask) → L p u m o → Dec (o ≡ z) → (o ≢ z) ⊎ (m d ≡ true)
       where? m l (no q) = inl q
-      where? m l (yes q) = case (ℕ-discrete m d)
-        where
-          case : Dec (m ≡ d) → (o ≢ z) ⊎ (m ≡ d)
-          case (yes r) = inr r
-          case (no r) = absurd (L-gone v d z p g m lt (λ k. r (sym k)) (subst (λ (k : ℕ). L p u m k) q l))
+      where? m l (yes q) = ⊎-elim (λ r. inr r) (λ (r : m d ≡ false). absurd (L-gone v d z p g m lt r (subst (λ (k : ℕ). L p u m k) q l))) (two (m d))
 
-      hold : {x : Val} (m : ℕ) → L p u m o → Dec (o ≡ z) → (s′ : ℕ) × (f′ : ℕ → Val) × Stripe p v m o s′ f′ × Datum p s′ f′ x
+      hold : {x : Val} (m : Mask) → L p u m o → Dec (o ≡ z) → (s′ : ℕ) × (f′ : ℕ → Val) × Stripe p v m o s′ f′ × Datum p s′ f′ x
           → (s′ : ℕ) × (f′ : ℕ → Val) × Stripe p u m o s′ f′ × Datum p s′ f′ x
       hold m l q (s′, f′, st, dt) = (s′, f′, Stripe-same p v u m o s′ f′ (same v d z p g m o (where? m l q)) st, dt)
 
@@ -161,15 +159,14 @@ module _ (p : Par) (g : Ghost) (v : View) (d z : ℕ) (lt : d < p .N) (a : May p
 
   parity-kept : Parity p g v → Parity p g u
   parity-kept h = record {
-    whole = λ b y s f on. h .whole b y s f (λ e l. in-back v d z (chunk s (f e)) e y (on e l));
+    whole = λ m c y s f on. h .whole m c y s f (λ e l n. in-back v d z (chunk s (f e)) e y (on e l n));
     sound = λ m c y s f st x dt. h .sound m c y s f (Stripe-back v d z p g m y s f st) x dt;
   }
 
   open-kept : Open p g v → Open p g u
   open-kept h = record {
-    bound = λ y k. h .bound y (Used-back v d z p g y k);
+    place = fewer p (g .hd) (g .pr) (Used p (g .un) v) (Used p (g .un) u) (Used-back v d z p g) (h .place);
     ragged = λ y x b c. h .ragged y x (rag y b) (rag x c);
-    room = ⊎-elim (λ (w : (y : ℕ) × (y < p .Z) × (Used p (g .un) v y → ⊥)). inl (w .0, w .1, λ k. w .2 (Used-back v d z p g (w .0) k))) (λ w. inr w) (h .room);
   }
     where
       rag : (y : ℕ) → ((e : ℕ) × Tr p (g .un) e × (0 < length (u e y)) × (length (u e y) < p .cap))
@@ -183,9 +180,9 @@ module _ (p : Par) (g : Ghost) (v : View) (d z : ℕ) (lt : d < p .N) (a : May p
       )
 
   -- D11: what counts anew counted with none missing
-  fresh-kept : Swap p g v → Content p g v → (m : ℕ) → Choice p (g .un) m → (x : Val) → Counted p (g .hd) u m x
+  fresh-kept : Swap p g v → Content p g v → (m : Mask) → Choice p (g .un) m → (Beyond p (g .said) m → ⊥) → (x : Val) → Counted p (g .hd) u m x
       → (x .stamp ≤ g .last (x .addr)) ⊎ (g .top < x .stamp)
-  fresh-kept h k m c x t = go (ℕ-discrete m d)
+  fresh-kept h k m c nb x t = go (two (m d))
     where
       st : Stripe p v m (t .z) (t .s) (t .f)
       st = Stripe-back v d z p g m (t .z) (t .s) (t .f) (t .st)
@@ -193,7 +190,7 @@ module _ (p : Par) (g : Ghost) (v : View) (d z : ℕ) (lt : d < p .N) (a : May p
       Goal : Type 0
       Goal = (x .stamp ≤ g .last (x .addr)) ⊎ (g .top < x .stamp)
 
-      old : m ≢ d → (g .pr ≡ pair (t .z) z → ⊥) → R p (g .hd) v m (t .z)
+      old : m d ≡ false → (g .pr ≡ pair (t .z) z → ⊥) → R p (g .hd) v m (t .z)
       old n w = record {
         left = L-back v d z p g m (t .z) (t .rem .left);
         own = λ o l q. case o l q (ℕ-discrete o z);
@@ -204,25 +201,26 @@ module _ (p : Par) (g : Ghost) (v : View) (d z : ℕ) (lt : d < p .N) (a : May p
           case o l q (yes r) = w (subst (λ (y : ℕ). g .pr ≡ pair (t .z) y) r
               (h .one (t .z) o (used p g v m (t .z) c (L-back v d z p g m (t .z) (t .rem .left))) (used p g v m o c l) q))
 
-      other : m ≢ d → (b : Pair) → g .pr ≡ b → (x .stamp ≤ g .last (x .addr)) ⊎ (g .top < x .stamp)
-      other n alone e = k .fresh m c x (record { z = t .z; s = t .s; f = t .f; rem = old n (λ w. pair-alone (sym w ∙ e)); st = st; dt = t .dt })
+      other : m d ≡ false → (b : Pair) → g .pr ≡ b → (x .stamp ≤ g .last (x .addr)) ⊎ (g .top < x .stamp)
+      other n alone e = k .fresh m c nb x (record { z = t .z; s = t .s; f = t .f; rem = old n (λ w. pair-alone (sym w ∙ e)); st = st; dt = t .dt })
       other n (pair w o) e = case (ℕ-discrete w (t .z)) (ℕ-discrete o z)
         where
           case : Dec (w ≡ t .z) → Dec (o ≡ z) → (x .stamp ≤ g .last (x .addr)) ⊎ (g .top < x .stamp)
-          case (no q) r = k .fresh m c x (record { z = t .z; s = t .s; f = t .f; rem = old n (λ w′. q (pair-w (sym e ∙ w′))); st = st; dt = t .dt })
-          case (yes q) (no r) = k .fresh m c x (record { z = t .z; s = t .s; f = t .f; rem = old n (λ w′. r (pair-o (sym e ∙ w′))); st = st; dt = t .dt })
+          case (no q) r = k .fresh m c nb x (record { z = t .z; s = t .s; f = t .f; rem = old n (λ w′. q (pair-w (sym e ∙ w′))); st = st; dt = t .dt })
+          case (yes q) (no r) = k .fresh m c nb x (record { z = t .z; s = t .s; f = t .f; rem = old n (λ w′. r (pair-o (sym e ∙ w′))); st = st; dt = t .dt })
           case (yes q) (yes r) = ⊎-elim (λ (j : (z ≢ o) × Whole p (g .un) v o). absurd (j .0 (sym r)))
-              (λ (j : (z ≢ w) × Moved p (g .un) v w o). k .fresh (g .un) (inr refl) x
-              (moved-counts p g v h w o e (j .1) m c (t .s) (t .f) (subst (λ (y : ℕ). Stripe p v m y (t .s) (t .f)) (sym q) st) x (t .dt))) (a .safe w o e)
+              (λ (j : (z ≢ w) × Moved p (g .un) v w o). k .fresh (g .un) (self-none p (g .un) (a .none)) (none-fair p (g .said) (g .un) (a .none)) x
+              (moved-counts p g v (none-few p (g .un) (a .none)) h w o e (j .1) m c (t .s) (t .f) (subst (λ (y : ℕ). Stripe p v m y (t .s) (t .f)) (sym q) st) x (t .dt))) (a .safe w o e)
 
-      go : Dec (m ≡ d) → (x .stamp ≤ g .last (x .addr)) ⊎ (g .top < x .stamp)
-      go (yes q) = k .fresh m c x (Counted-same p g u v m
+      go : (m d ≡ true) ⊎ (m d ≡ false) → (x .stamp ≤ g .last (x .addr)) ⊎ (g .top < x .stamp)
+      go (inl q) = k .fresh m c nb x (Counted-same p g u v m
           (λ y e l n. sym (same v d z p g m y (inr q) e l n)) (λ y. same v d z p g m y (inr q)) x t)
-      go (no n) = other n (g .pr) refl
+      go (inr n) = other n (g .pr) refl
 
   -- the rule for resets: all facts but the floor look after themselves
   pub reset-kept : Facts p g v → Floor p g u → Facts p g u
   reset-kept h fl = record {
+    lost = h .lost;
     zones = λ e y t. each v d z (Zone p g) (zone-nil p g d z) e y (h .zones e y t);
     parity = parity-kept (h .parity);
     swap = swap-kept (h .swap);

@@ -12,7 +12,8 @@ use Rattle.proof_crash_machine.specs.Lemma.{pair-alone, pair-o, pair-w}
 use Rattle.proof_crash_machine.specs.View.{Item, View, Store, In, apply, applyAll, AllS}
 use Rattle.proof_crash_machine.specs.View.Item.{chunk}
 use Rattle.proof_crash_machine.specs.View.Store.{reset}
-use Rattle.proof_crash_machine.specs.Facts.{Par, Pair, Ghost, Choice, L, R, Stripe, Used, Swap, Facts, used, decL, decAll}
+use Rattle.proof_crash_machine.specs.Mask.{Mask, two}
+use Rattle.proof_crash_machine.specs.Facts.{Par, None, self-none, Pair, Ghost, Choice, L, R, Stripe, Used, Swap, Facts, used, decL, decAll}
 use Rattle.proof_crash_machine.specs.Reset.{gone, zone-kept, each, len-back}
 use Rattle.proof_crash_machine.specs.Drop.{DropOf}
 use Rattle.proof_crash_machine.specs.Restart.{full-stripe}
@@ -20,7 +21,7 @@ use Rattle.proof_crash_machine.specs.Rebuild.{once-in}
 use Rattle.proof_crash_machine.specs.Finish.{Clean}
 
 -- whether a segment remains can be decided: only its partner in the pair can push it out
-pub decR : (p : Par) (g : Ghost) (v : View) (m : ℕ) → Choice p (g .un) m → Swap p g v → (z : ℕ) → Dec (R p (g .hd) v m z)
+pub decR : (p : Par) (g : Ghost) (v : View) (m : Mask) → Choice p (g .un) m → Swap p g v → (z : ℕ) → Dec (R p (g .hd) v m z)
 decR p g v m c h z = go (decL p v m z) (g .pr) refl
   where
     alright : L p v m z → ((o : ℕ) → g .pr ≡ pair z o → L p v m o → ⊥) → R p (g .hd) v m z
@@ -40,7 +41,7 @@ abbrev pub InS : Store → List Store → Type 0
 InS s [] = ⊥
 InS s (t ∷ ss) = (s ≡ t) ⊎ InS s ss
 
-module _ (p : Par) (g : Ghost) (none : p .N ≤ g .un) (D : ℕ → Type 0) where
+module _ (p : Par) (g : Ghost) (none : None p (g .un)) (D : ℕ → Type 0) where
   keep : (v : View) (ss : List Store) → AllS (DropOf p g none D) ss → (e y : ℕ) → (D y → ⊥) → applyAll v ss e y ≡ v e y
   unfolding applyAll apply
   keep v [] a e y n = refl
@@ -79,16 +80,15 @@ Dropped p g v z = R p (g .hd) v (g .un) z → ⊥
 abbrev pub Unsealed : Par → View → ℕ → Type 0
 Unsealed p v z = ((e : ℕ) → e < p .N → p .cap ≤ length (v e z)) → ⊥
 
-module _ (p : Par) (g : Ghost) (v : View) (h : Facts p g v) (none : p .N ≤ g .un) (ss : List Store) (are : AllS (DropOf p g none (Dropped p g v)) ss)
-    (every : (z : ℕ) → Used p (g .un) v z → Dropped p g v z → (d : ℕ) → d < p .N → InS (reset d z) ss) where
+module _ (p : Par) (g : Ghost) (v : View) (h : Facts p g v) (none : None p (g .un)) (ss : List Store) (are : AllS (DropOf p g none (Dropped p g v)) ss)
+    (every : (z : ℕ) → Dropped p g v z → (d : ℕ) → d < p .N → 0 < length (v d z) → InS (reset d z) ss) where
   abbrev u : View
   u = applyAll v ss
 
   empty : (z : ℕ) → Dropped p g v z → (e : ℕ) → e < p .N → 0 < length (u e z) → ⊥
   empty z k e l b =
-      let i : Used p (g .un) v z = (e, (l, omega (arith, l, none)), shrink p g none (Dropped p g v) v ss are e z b) in
       let q : 0 < length {A = Item} [] =
-      subst (λ (x : List Item). 0 < length x) (emptied p g none (Dropped p g v) v ss are e z (every z i k e l)) b in
+      subst (λ (x : List Item). 0 < length x) (emptied p g none (Dropped p g v) v ss are e z (every z k e l (shrink p g none (Dropped p g v) v ss are e z b))) b in
       let j : ⊥ = omega arith in
       j
 
@@ -96,28 +96,28 @@ module _ (p : Par) (g : Ghost) (v : View) (h : Facts p g v) (none : p .N ≤ g .
   same z r e = keep p g none (Dropped p g v) v ss are e z (λ k. k r)
 
   pub rest-of : (z : ℕ) → Used p (g .un) u z → R p (g .hd) u (g .un) z
-  rest-of z (d, t, b) = go (decR p g v (g .un) (inr refl) (h .swap) z)
+  rest-of z (d, t, b) = go (decR p g v (g .un) (self-none p (g .un) none) (h .swap) z)
     where
       other : (o : ℕ) → L p u (g .un) o → Dec (R p (g .hd) v (g .un) o) → L p v (g .un) o
       other o l (yes r) = r .left
-      other o l (no k) = absurd (empty o k 0 (omega (arith, p .three)) (l 0 (omega (arith, p .three)) (omega (arith, p .three, none))))
+      other o l (no k) = absurd (empty o k 0 (omega (arith, p .some)) (l 0 (omega (arith, p .some)) (none 0 (omega (arith, p .some)))))
 
       go : Dec (R p (g .hd) v (g .un) z) → R p (g .hd) u (g .un) z
       go (yes r) = record {
         left = λ e l n. subst (λ (x : List Item). 0 < length x) (sym (same z r e)) (r .left e l n);
-        own = λ o l q. r .own o (other o l (decR p g v (g .un) (inr refl) (h .swap) o)) q;
+        own = λ o l q. r .own o (other o l (decR p g v (g .un) (self-none p (g .un) none) (h .swap) o)) q;
       }
       go (no k) = absurd (empty z k d (t .0) b)
 
 -- nothing to rewrite: every chunk of an unsealed segment is of a counted stripe
-pub clean-of : (p : Par) (g : Ghost) (v : View) → Facts p g v → p .N ≤ g .un → g .pr ≡ alone → ((z : ℕ) → Used p (g .un) v z → R p (g .hd) v (g .un) z)
+pub clean-of : (p : Par) (g : Ghost) (v : View) → Facts p g v → None p (g .un) → g .pr ≡ alone → ((z : ℕ) → Used p (g .un) v z → R p (g .hd) v (g .un) z)
     → ((d z s : ℕ) (x : Val) → d < p .N → Unsealed p v z → In (chunk s x) (v d z) → (f : ℕ → Val) × Stripe p v (g .un) z s f × (f d ≡ x)) → Clean p g v
 clean-of p g v h none no-pair rest tidy = record {
   none = none;
   no-pair = no-pair;
   whole = λ z i. rest z i .left;
   counted = λ d z s x l m. go d z s x l m (decAll (p .N) (λ (e : ℕ). p .cap ≤ length (v e z)) (λ e. decLe (p .cap) (length (v e z))));
-  once = λ d z s x y l m k. once-in p g d z (v d z) (h .zones d z (l, omega (arith, l, none))) s x y m k;
+  once = λ d z s x y l m k. once-in p g d z (v d z) (h .zones d z (l, none d l)) s x y m k;
 }
   where
     go : (d z s : ℕ) (x : Val) → d < p .N → In (chunk s x) (v d z) → Dec ((e : ℕ) → e < p .N → p .cap ≤ length (v e z)) → (f : ℕ → Val) × Stripe p v (g .un) z s f × (f d ≡ x)

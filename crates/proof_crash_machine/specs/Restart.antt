@@ -1,6 +1,7 @@
 -- A healthy restart, whole: resets of what is dropped, the rewrite, the new history values. Assumes nothing.
 use mathlib.Core.Path.{_≡_, refl, sym, ap, _∙_, subst}
 use mathlib.Core.List.{List, [], _++_}
+use mathlib.Core.Bool.{true, false}
 use mathlib.Core.Logic.{inr, ⊎-elim, _≢_}
 use Prim.Native.Nat.{ℕ, zero, suc, _≤_, _<_}
 use native.Mathlib.Omega.{arith}
@@ -8,29 +9,23 @@ use native.Mathlib.Decide.{ℕ-discrete, decLt}
 use lib.ListN.{length}
 use Rattle.proof_crash_machine.specs.Val.{Val, 𝟘}
 use Rattle.proof_crash_machine.specs.Facts.Pair.{alone, pair}
-use Rattle.proof_crash_machine.specs.Lemma.{pair-alone, pair-o, pair-w, counts}
+use Rattle.proof_crash_machine.specs.Lemma.{pair-alone, pair-o, pair-w}
 use Rattle.proof_crash_machine.specs.View.{Item, View, Store, In, applyAll, AllS, in-some}
 use Rattle.proof_crash_machine.specs.View.Item.{chunk}
-use Rattle.proof_crash_machine.specs.Facts.{Par, Pair, Heads, Ghost, Tr, R, Stripe, Datum, Counted, Off, Zone, Used, Whole, Ragged, Facts, Stripe-same, used}
-use Rattle.proof_crash_machine.specs.Steps.{Prefix, prefix-append, applyAll-append}
+use Rattle.proof_crash_machine.specs.Facts.{Par, None, Word, self-none, respell, Ghost, Tr, R, Stripe, Datum, Counted, Off, Zone, Used, Whole, Ragged, Facts, Stripe-same}
+use Rattle.proof_crash_machine.specs.Steps.{Prefix, applyAll-append}
 use Rattle.proof_crash_machine.specs.Ghosts.{withPr, unpaired}
 use Rattle.proof_crash_machine.specs.Name.{setN-same, setN-other, naming, named}
-use Rattle.proof_crash_machine.specs.Drop.{DropOf, dropped, dropped-end, settled}
+use Rattle.proof_crash_machine.specs.Drop.{DropOf, dropped-end, settled}
 use Rattle.proof_crash_machine.specs.Rewrite.{Plan, Before, copies, drops, rewritten, Left, left}
 use Rattle.proof_crash_machine.specs.Rebuild.{in-off, once-in}
 use Rattle.proof_crash_machine.specs.Finish.{Reads, upTo, finishing, Clean, finish-none}
 use Rattle.proof_crash_machine.specs.View.{chunk-hdr}
 
--- ---- a cut leaves the facts, under a ghost with the same history
-pub record CrashOk (p : Par) (g : Ghost) (v : View) : Type 0 where
-  pub hd : Heads
-  pub pr : Pair
-  pub facts : Facts p (record { un = g .un; hd = hd; pr = pr; sent = g .sent; last = g .last; base = g .base; top = g .top }) v
-
 -- ---- a segment full on all drives: each of its chunks is of a counted stripe
-module _ (p : Par) (g : Ghost) (v : View) (h : Facts p g v) (none : p .N ≤ g .un) (z : ℕ) (full : (e : ℕ) → e < p .N → suc (p .S) < length (v e z)) where
+module _ (p : Par) (g : Ghost) (v : View) (h : Facts p g v) (none : None p (g .un)) (z : ℕ) (full : (e : ℕ) → e < p .N → suc (p .S) < length (v e z)) where
   tr : (e : ℕ) → e < p .N → Tr p (g .un) e
-  tr e l = (l, omega (arith, l, none))
+  tr e l = (l, none e l)
 
   zone : (e : ℕ) → e < p .N → Zone p g e z (v e z)
   zone e l = h .zones e z (tr e l)
@@ -57,17 +52,25 @@ module _ (p : Par) (g : Ghost) (v : View) (h : Facts p g v) (none : p .N ≤ g .
       let b : s < p .S = number d s x l m in
       let on : (e : ℕ) → e < p .N → In (chunk s (val s b e (decLt e (p .N)))) (v e z) = λ e k. val-in s b e (decLt e (p .N)) k in (
         (λ (e : ℕ). val s b e (decLt e (p .N))),
-        record { on = λ e k n. on e k; xor = h .parity .whole none z s (λ (e : ℕ). val s b e (decLt e (p .N))) on },
+        record {
+          on = λ e k n. on e k;
+          word = let w : (j : ℕ → Val) × Word p s j × ((e : ℕ) → e < p .N → g .un e ≡ false → val s b e (decLt e (p .N)) ≡ j e) =
+              h .parity .whole (g .un) (self-none p (g .un) none) z s (λ (e : ℕ). val s b e (decLt e (p .N))) (λ e k n. on e k) in
+              respell p s (w .0) (λ (e : ℕ). val s b e (decLt e (p .N))) (λ e k. sym (w .2 e k (none e k))) (w .1);
+        },
         once-in p g d z (v d z) (zone d l) s (val s b d (decLt d (p .N))) x (on d l) m,
       )
 
 -- ---- after the drops: v; g has no pair; all that is used remains
 pub record Ready (p : Par) (g : Ghost) (v : View) (w o r : ℕ) (π : Plan p) : Type 0 where
-  pub none : p .N ≤ g .un
+  pub none : None p (g .un)
   pub no-pair : g .pr ≡ alone
   -- o is the unsealed segment, w an empty one, r a new serial
   pub ragged : Ragged p (g .un) v o
-  pub zones : (w < p .Z) × (o < p .Z)
+  -- w's zones: good, and no other segment's
+  pub zs : ℕ → ℕ
+  pub fits : (d : ℕ) → d < p .N → (zs d < p .Z) × (p .fine d (zs d) ≡ true)
+  pub clear : (y : ℕ) → Used p (g .un) v y → (d : ℕ) → d < p .N → g .hd .zn y d ≢ zs d
   pub empty : (e : ℕ) → e < p .N → v e w ≡ []
   pub newest : (y : ℕ) → Used p (g .un) v y → g .hd .ser y < r
   -- the plan copies just what counts
@@ -77,7 +80,7 @@ pub record Ready (p : Par) (g : Ghost) (v : View) (w o r : ℕ) (π : Plan p) : 
 module _ (p : Par) (g : Ghost) (v : View) (w o r : ℕ) (π : Plan p) (a : Ready p g v w o r π)
     (rem : (z : ℕ) → Used p (g .un) v z → R p (g .hd) v (g .un) z) (h : Facts p g v) where
   abbrev g₂ : Ghost
-  g₂ = naming g w r (g .hd .ser o) (pair w o)
+  g₂ = naming g w r (g .hd .ser o) (a .zs) (pair w o)
 
   idle : Used p (g .un) v w → ⊥
   idle (e, t, b) = let q : 0 < length {A = Item} [] = subst (λ (l : List Item). 0 < length l) (a .empty e (t .0)) b in let z : ⊥ = omega arith in z
@@ -97,15 +100,14 @@ module _ (p : Par) (g : Ghost) (v : View) (w o r : ℕ) (π : Plan p) (a : Ready
       (h .«open» .ragged y o i (a .ragged))
 
   facts₂ : Facts p g₂ v
-  facts₂ = named p g v w r (g .hd .ser o) (pair w o) (a .no-pair) idle
-      (λ w′ o′ e. (sym (pair-w e), (λ q. ow (pair-o e ∙ q)), ap (g .hd .ser) (pair-o e), subst (λ (k : ℕ). Whole p (g .un) v k) (pair-o e) (rem o uo .left))) h
+  facts₂ = named p g v w r (g .hd .ser o) (a .zs) (pair w o) (a .no-pair) idle
+      (λ w′ o′ e. (sym (pair-w e), (λ q. ow (pair-o e ∙ q)), ap (g .hd .ser) (pair-o e), subst (λ (k : ℕ). Whole p (g .un) v k) (pair-o e) (rem o uo .left))) (a .fits) (a .clear) h
 
   before : Before p g₂ w o π v
   before = record {
     none = a .none;
     pr = refl;
     apart = ow;
-    zones = a .zones;
     whole = rem o uo .left;
     empty = a .empty;
     newest = λ y i. rw (setN-other (g .hd .ser) w r y (not-w y i), setN-same (g .hd .ser) w r) (a .newest y i);
@@ -134,9 +136,6 @@ module _ (p : Par) (g : Ghost) (v : View) (w o r : ℕ) (π : Plan p) (a : Ready
   pub rewrite-has : (d s : ℕ) → d < p .N → s < π .c → In (chunk s (π .F s d)) (u d w)
   rewrite-has = lft .has
 
-  pub rewrite-long : (d : ℕ) → d < p .N → length (u d w) ≡ suc (π .c)
-  rewrite-long = lft .long
-
   pub rewrite-others : (d y : ℕ) → y ≢ o → y ≢ w → u d y ≡ v d y
   rewrite-others = lft .others
 
@@ -161,10 +160,10 @@ module _ (p : Par) (g : Ghost) (v : View) (w o r : ℕ) (π : Plan p) (a : Ready
   full₀ z n i e l = go (decLt (length (v e z)) (p .cap))
     where
       b : 0 < length (v e z)
-      b = rem z i .left e l (omega (arith, l, a .none))
+      b = rem z i .left e l (a .none e l)
 
       go : Dec (length (v e z) < p .cap) → suc (p .S) < length (v e z)
-      go (yes q) = absurd (n (lone z (e, (l, omega (arith, l, a .none)), b, q)))
+      go (yes q) = absurd (n (lone z (e, (l, a .none e l), b, q)))
       go (no q) = omega (arith, q, p .fits)
 
   whole₁ : (z : ℕ) → Used p (g .un) u z → Dec (z ≡ o) → Dec (z ≡ w) → Whole p (g .un) u z
@@ -173,11 +172,11 @@ module _ (p : Par) (g : Ghost) (v : View) (w o r : ℕ) (π : Plan p) (a : Ready
   whole₁ z i (no n) (no k) = λ e l j. subst (λ (x : List Item). 0 < length x) (sym (lft .others e z n k)) (rem z (used₀ z n k i) .left e l j)
 
   counted₁ : (d z s : ℕ) (x : Val) → d < p .N → In (chunk s x) (u d z) → Dec (z ≡ o) → Dec (z ≡ w) → (f : ℕ → Val) × Stripe p u (g .un) z s f × (f d ≡ x)
-  counted₁ d z s x l m (yes e) k = absurd (unused (subst (λ (j : ℕ). Used p (g .un) u j) e (d, (l, omega (arith, l, a .none)), in-some (chunk s x) (u d z) m)))
+  counted₁ d z s x l m (yes e) k = absurd (unused (subst (λ (j : ℕ). Used p (g .un) u j) e (d, (l, a .none d l), in-some (chunk s x) (u d z) m)))
   counted₁ d z s x l m (no n) (yes e) = rw e (lft .counted d s x l (subst (λ (j : ℕ). In (chunk s x) (u d j)) e m))
   counted₁ d z s x l m (no n) (no k) =
       let m₀ : In (chunk s x) (v d z) = subst (λ (y : List Item). In (chunk s x) y) (lft .others d z n k) m in
-      let i : Used p (g .un) v z = (d, (l, omega (arith, l, a .none)), in-some (chunk s x) (v d z) m₀) in
+      let i : Used p (g .un) v z = (d, (l, a .none d l), in-some (chunk s x) (v d z) m₀) in
       let t : (f : ℕ → Val) × Stripe p v (g .un) z s f × (f d ≡ x) = full-stripe p g v h (a .none) z (full₀ z n i) d s x l m₀ in
       (t .0, Stripe-same p v u (g .un) z s (t .0) (λ e b j. sym (lft .others e z n k)) (t .1), t .2)
 
@@ -187,11 +186,11 @@ module _ (p : Par) (g : Ghost) (v : View) (w o r : ℕ) (π : Plan p) (a : Ready
     no-pair = refl;
     whole = λ z i. whole₁ z i (ℕ-discrete z o) (ℕ-discrete z w);
     counted = λ d z s x l m. counted₁ d z s x l m (ℕ-discrete z o) (ℕ-discrete z w);
-    once = λ d z s x y l m k. once-in p g₃ d z (u d z) (rewrite-end .zones d z (l, omega (arith, l, a .none))) s x y m k;
+    once = λ d z s x y l m k. once-in p g₃ d z (u d z) (rewrite-end .zones d z (l, a .none d l)) s x y m k;
   }
 
 -- ---- the whole restart, none missing, with a rewrite
-module _ (p : Par) (g : Ghost) (v : View) (h : Facts p g v) (none : p .N ≤ g .un)
+module _ (p : Par) (g : Ghost) (v : View) (h : Facts p g v) (none : None p (g .un))
     (D : ℕ → Type 0) (ss : List Store) (are : AllS (DropOf p g none D) ss) (gone : (z : ℕ) → D z → R p (g .hd) v (g .un) z → ⊥)
     (rest : (z : ℕ) → Used p (g .un) (applyAll v ss) z → R p (g .hd) (applyAll v ss) (g .un) z)
     (w o r : ℕ) (π : Plan p) (a : Ready p (withPr g alone) (applyAll v ss) w o r π) where
@@ -205,30 +204,24 @@ module _ (p : Par) (g : Ghost) (v : View) (h : Facts p g v) (none : p .N ≤ g .
   facts₁ = settled p g none v₁ (dropped-end p g none D v ss are h gone) rest
 
   abbrev g₄ : Ghost
-  g₄ = withPr (naming g₁ w r (g .hd .ser o) (pair w o)) alone
+  g₄ = withPr (naming g₁ w r (g .hd .ser o) (a .zs) (pair w o)) alone
 
   abbrev all : List Store
-  all = ss ++ (copies p (naming g₁ w r (g .hd .ser o) (pair w o)) w o π ++ drops p (naming g₁ w r (g .hd .ser o) (pair w o)) w o π)
-
-  -- wherever the power is cut
-  pub restart-cut : Prefix (CrashOk p g) v all
-  restart-cut = prefix-append (CrashOk p g) v ss (copies p (naming g₁ w r (g .hd .ser o) (pair w o)) w o π ++ drops p (naming g₁ w r (g .hd .ser o) (pair w o)) w o π)
-      (λ k. record { hd = g .hd; pr = g .pr; facts = dropped p g none D v ss are h gone k })
-      (λ k. record { hd = naming g₁ w r (g .hd .ser o) (pair w o) .hd; pr = pair w o; facts = rewrite-prefix p g₁ v₁ w o r π a rest facts₁ k })
+  all = ss ++ (copies p (naming g₁ w r (g .hd .ser o) (a .zs) (pair w o)) w o π ++ drops p (naming g₁ w r (g .hd .ser o) (a .zs) (pair w o)) w o π)
 
   -- where it finishes, the facts hold with the new history values
   pub restart-done : (K : ℕ → ℕ) → Reads p (g₄ .hd) (applyAll v all) (g .un) K → (t : ℕ) → ((x : Val) → Counted p (g₄ .hd) (applyAll v all) (g .un) x → x .stamp ≤ t)
       → Facts p (finishing g₄ (g .un) K t (upTo t (g .sent))) (applyAll v all)
   restart-done K rd t b =
-      let e : applyAll v all ≡ applyAll v₁ (copies p (naming g₁ w r (g .hd .ser o) (pair w o)) w o π ++ drops p (naming g₁ w r (g .hd .ser o) (pair w o)) w o π) =
-      applyAll-append v ss (copies p (naming g₁ w r (g .hd .ser o) (pair w o)) w o π ++ drops p (naming g₁ w r (g .hd .ser o) (pair w o)) w o π) in
-      rw e (finish-none p g₄ (applyAll v₁ (copies p (naming g₁ w r (g .hd .ser o) (pair w o)) w o π ++ drops p (naming g₁ w r (g .hd .ser o) (pair w o)) w o π))
+      let e : applyAll v all ≡ applyAll v₁ (copies p (naming g₁ w r (g .hd .ser o) (a .zs) (pair w o)) w o π ++ drops p (naming g₁ w r (g .hd .ser o) (a .zs) (pair w o)) w o π) =
+      applyAll-append v ss (copies p (naming g₁ w r (g .hd .ser o) (a .zs) (pair w o)) w o π ++ drops p (naming g₁ w r (g .hd .ser o) (a .zs) (pair w o)) w o π) in
+      rw e (finish-none p g₄ (applyAll v₁ (copies p (naming g₁ w r (g .hd .ser o) (a .zs) (pair w o)) w o π ++ drops p (naming g₁ w r (g .hd .ser o) (a .zs) (pair w o)) w o π))
       (rewrite-clean p g₁ v₁ w o r π a rest facts₁) (rewrite-end p g₁ v₁ w o r π a rest facts₁) K
       (subst (λ (z : View). Reads p (g₄ .hd) z (g .un) K) e rd) t
       (subst (λ (z : View). (x : Val) → Counted p (g₄ .hd) z (g .un) x → x .stamp ≤ t) e b))
 
   abbrev tail : List Store
-  tail = copies p (naming g₁ w r (g .hd .ser o) (pair w o)) w o π ++ drops p (naming g₁ w r (g .hd .ser o) (pair w o)) w o π
+  tail = copies p (naming g₁ w r (g .hd .ser o) (a .zs) (pair w o)) w o π ++ drops p (naming g₁ w r (g .hd .ser o) (a .zs) (pair w o)) w o π
 
   -- with the old history values
   pub restart-facts : Facts p g₄ (applyAll v all)

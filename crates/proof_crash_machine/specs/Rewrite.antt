@@ -1,32 +1,26 @@
 -- (5) The rewrite at restart: headers and stripes of w, then the resets of o. Assumes nothing.
 use mathlib.Core.Path.{_≡_, refl, sym, ap, _∙_, subst}
 use mathlib.Core.List.{List, [], _∷_, _++_}
-use mathlib.Core.Logic.{_⊎_, inl, inr, ⊎-elim, _≢_}
-use Prim.Native.Nat.{ℕ, zero, suc, _+_, _≤_, _<_}
+use mathlib.Core.Bool.{false}
+use mathlib.Core.Logic.{inl, inr, ⊎-elim, _≢_}
+use Prim.Native.Nat.{ℕ, zero, suc, _≤_, _<_}
 use native.Mathlib.Omega.{arith}
 use native.Mathlib.Decide.{ℕ-discrete, decLt}
 use lib.ListN.{length}
-use Rattle.proof_crash_machine.specs.Val.{Val, 𝟘, xorN, decode-all}
+use Rattle.proof_crash_machine.specs.Val.{Val}
 use Rattle.proof_crash_machine.specs.View.{Item, View, Store, In, after, cleared, apply, applyAll, in-last, in-left, in-cases, chunk-val, chunk-num, chunk-hdr}
 use Rattle.proof_crash_machine.specs.View.Item.{hdr, chunk}
 use Rattle.proof_crash_machine.specs.View.Store.{put, reset}
-use Rattle.proof_crash_machine.specs.Facts.{Par, Ghost, L, Stripe, Datum, Counted, Used, Whole, Moved}
-use Rattle.proof_crash_machine.specs.Facts.{Ragged, Facts, used, whole-L, Stripe-same, Stripe-none}
-use Rattle.proof_crash_machine.specs.Facts.Pair.{alone, pair}
+use Rattle.proof_crash_machine.specs.Mask.{Mask, count}
+use Rattle.proof_crash_machine.specs.Facts.{Par, None, Word, self-none, none-fair, none-few, present, unique, Ghost, L, Stripe, Datum, Counted, Used, Whole, Moved, Ragged, Facts, used, whole-L}
+use Rattle.proof_crash_machine.specs.Facts.{Stripe-same, Stripe-more}
+use Rattle.proof_crash_machine.specs.Facts.Pair.{pair}
 use Rattle.proof_crash_machine.specs.Lemma.{pair-o, pair-w, old-own}
 use Rattle.proof_crash_machine.specs.Put
 use Rattle.proof_crash_machine.specs.Land.{Landing, landed, Datum-same}
 use Rattle.proof_crash_machine.specs.Header.{Opening, headed}
 use Rattle.proof_crash_machine.specs.Reset.{Floor, May, reset-kept, moved-kept, Counted-fwd, L-gone, gone, drive-kept, zone-kept, L-back}
 use Rattle.proof_crash_machine.specs.Steps.{list, rows, Prefix, prefix-append, applyAll-append, list-prefix, list-end, rows-prefix, rows-end}
-
--- a drive that is there
-pub present : (p : Par) (m : ℕ) → (d : ℕ) × (d < p .N) × (d ≢ m)
-present p m = go (ℕ-discrete m 0)
-  where
-    go : Dec (m ≡ 0) → (d : ℕ) × (d < p .N) × (d ≢ m)
-    go (yes e) = (1, omega (arith, p .three), omega arith)
-    go (no e) = (0, omega (arith, p .three), omega arith)
 
 -- what is written: c stripes F 0 .. F (c - 1), whose data are those of the stripes src 0 .. of o, which are E 0 ..
 pub record Plan (p : Par) : Type 0 where
@@ -35,14 +29,14 @@ pub record Plan (p : Par) : Type 0 where
   pub F : ℕ → ℕ → Val
   pub E : ℕ → ℕ → Val
   pub few : c ≤ p .S
-  pub xor : (k : ℕ) → k < c → xorN (p .N) (F k) ≡ 𝟘
+  pub word : (k : ℕ) → k < c → Word p k (F k)
   pub to : (k : ℕ) (x : Val) → k < c → Datum p (src k) (E k) x → Datum p k (F k) x
   pub from : (k : ℕ) (x : Val) → k < c → Datum p k (F k) x → Datum p (src k) (E k) x
 
 module _ (p : Par) (g : Ghost) (w o : ℕ) (π : Plan p) where
   -- row 0 is the headers, row k + 1 stripe k
   unfoldable pub item : ℕ → ℕ → Item
-  item zero e = hdr (g .hd .ser w) (g .hd .cop w)
+  item zero e = hdr (g .hd .ser w) (g .hd .cop w) (g .hd .zn w)
   item (suc k) e = chunk k (π .F k e)
 
   unfoldable pub col : ℕ → ℕ → List Item
@@ -109,14 +103,6 @@ module _ (p : Par) (g : Ghost) (w o : ℕ) (π : Plan p) where
   out-step : (v₀ v : View) (d : ℕ) (i : Item) → Out v₀ v → Out v₀ (after v d w i)
   out-step v₀ v d i h e y n = Put.zone-other v d w i e y n ∙ h e y n
 
-  -- how long a column may be
-  at-len : (v : View) (k d e : ℕ) → At v k d → e < p .N → (length (v e w) ≡ k) ⊎ (length (v e w) ≡ suc k)
-  at-len v k d e a l = go (decLt e d)
-    where
-      go : Dec (e < d) → (length (v e w) ≡ k) ⊎ (length (v e w) ≡ suc k)
-      go (yes b) = inr (ap length (a e l .0 b) ∙ length-col e (suc k))
-      go (no b) = inl (ap length (a e l .1 (omega arith)) ∙ length-col e k)
-
   at-in : (v : View) (k d e s : ℕ) (x : Val) → At v k d → e < p .N → In (chunk s x) (v e w) → (suc s < suc k) × (x ≡ π .F s e)
   at-in v k d e s x a l m = go (decLt e d)
     where
@@ -126,10 +112,9 @@ module _ (p : Par) (g : Ghost) (w o : ℕ) (π : Plan p) where
 
   -- ---- what holds of the drives before the rewrite, v₀, after the naming
   pub record Before (v₀ : View) : Type 0 where
-    pub none : p .N ≤ g .un
+    pub none : None p (g .un)
     pub pr : g .pr ≡ pair w o
     pub apart : o ≢ w
-    pub zones : (w < p .Z) × (o < p .Z)
     pub whole : Whole p (g .un) v₀ o
     pub empty : (e : ℕ) → e < p .N → v₀ e w ≡ []
     pub newest : (y : ℕ) → Used p (g .un) v₀ y → g .hd .ser y < g .hd .ser w
@@ -166,18 +151,19 @@ module _ (p : Par) (g : Ghost) (w o : ℕ) (π : Plan p) where
       drive = l;
       empty = a d l .1 (omega arith);
       room = omega (arith, p .fits);
-      inZ = b .zones .0;
+      fits = λ e k. h .«open» .place .put w (inr (inl (o, b .pr))) e k;
+      clear = λ y k n e j r. n (h .«open» .place .apart y w k (inr (inl (o, b .pr))) e j r);
       bare = λ e s x k m. let r : (suc s < 1) × (x ≡ π .F s e) = at-in v 0 d e s x a k m in let z : ⊥ = omega (arith, r .0) in z;
       newest = λ y k n. b .newest y (used₀ v q y n k);
       below = b .below;
       link = λ o′ k n e. go o′ k n e;
       old = λ w′ o′ e. subst (λ (y : ℕ). Whole p (g .un) v y) (old-is w′ o′ e) (whole₁ v q);
       lone = λ y k n. b .pr ∙ ap (pair w) (sym (b .lone y (rag y n k)));
-      space = inr (w, o, b .pr, b .zones .0, b .zones .1);
+      space = λ e k. inr (w, o, b .pr);
     }
       where
         uo : Used p (g .un) v o
-        uo = used p g v (g .un) o (inr refl) (whole-L p g v (g .un) o (inr refl) (whole₁ v q))
+        uo = used p g v (g .un) o (self-none p (g .un) (b .none)) (whole-L p g v (g .un) o (self-none p (g .un) (b .none)) (whole₁ v q))
 
         go : (o′ : ℕ) → Used p (g .un) v o′ → o′ ≢ w → g .hd .cop w ≡ g .hd .ser o′ → g .pr ≡ pair w o′
         go o′ k n e = b .pr ∙ ap (pair w) (h .swap .serials o o′ uo k (sym (h .swap .named w o (b .pr) .1) ∙ e))
@@ -197,13 +183,13 @@ module _ (p : Par) (g : Ghost) (w o : ℕ) (π : Plan p) where
       new = λ x m. let r : (suc k < suc k) × (x ≡ π .F k d) = in-col d (suc k) k x (subst (λ (y : List Item). In (chunk k x) y) (a d l .1 (omega arith)) m) in
           let z : ⊥ = omega (arith, r .0) in z;
       mine = λ e x j m. at-in v (suc k) d e k x a j m .1;
-      xor = π .xor k kc;
-      good = λ x t. h .parity .sound (g .un) (inr refl) o (π .src k) (π .E k) (stripe₁ v q (π .src k) (π .E k) (b .src k kc)) x (π .from k x kc t);
-      ok = λ x t. h .content .fresh (g .un) (inr refl) x (record {
+      word = π .word k kc;
+      good = λ x t. h .parity .sound (g .un) (self-none p (g .un) (b .none)) o (π .src k) (π .E k) (stripe₁ v q (π .src k) (π .E k) (b .src k kc)) x (π .from k x kc t);
+      ok = λ x t. h .content .fresh (g .un) (self-none p (g .un) (b .none)) (none-fair p (g .said) (g .un) (b .none)) x (record {
         z = o;
         s = π .src k;
         f = π .E k;
-        rem = old-own p g v (g .un) w o (inr refl) (h .swap) (b .pr) (whole-L p g v (g .un) o (inr refl) (whole₁ v q));
+        rem = old-own p g v (g .un) w o (self-none p (g .un) (b .none)) (h .swap) (b .pr) (whole-L p g v (g .un) o (self-none p (g .un) (b .none)) (whole₁ v q));
         st = stripe₁ v q (π .src k) (π .E k) (b .src k kc);
         dt = π .from k x kc t;
       });
@@ -246,31 +232,31 @@ module _ (p : Par) (g : Ghost) (w o : ℕ) (π : Plan p) where
       new-stripe : (k : ℕ) → k < π .c → Stripe p v (g .un) w k (π .F k)
       new-stripe k kc = record {
         on = λ e l n. subst (λ (y : List Item). In (chunk k (π .F k e)) y) (sym (full e l)) (col-in e (suc (π .c)) k (omega arith));
-        xor = π .xor k kc;
+        word = π .word k kc;
       }
 
       -- a stripe of w is one of the plan's
-      is-new : (m s : ℕ) (f : ℕ → Val) → Stripe p v m w s f → (s < π .c) × ((e : ℕ) → e < p .N → f e ≡ π .F s e)
-      is-new m s f h = (sc, decode-all (p .N) m f (π .F s) (h .xor ∙ sym (π .xor s sc)) (λ e l n. got e l n .1))
+      is-new : (m : Mask) (s : ℕ) (f : ℕ → Val) → count (p .N) m ≤ p .P → Stripe p v m w s f → (s < π .c) × ((e : ℕ) → e < p .N → f e ≡ π .F s e)
+      is-new m s f few h = (sc, unique p s m few f (π .F s) (h .word) (π .word s sc) (λ e l n. got e l n .1))
         where
-          got : (e : ℕ) → e < p .N → e ≢ m → (suc s < suc (π .c)) × (f e ≡ π .F s e)
+          got : (e : ℕ) → e < p .N → m e ≡ false → (suc s < suc (π .c)) × (f e ≡ π .F s e)
           got e l n = in-col e (suc (π .c)) s (f e) (subst (λ (y : List Item). In (chunk s (f e)) y) (full e l) (h .on e l n))
 
           sc : s < π .c
-          sc = let d : (d : ℕ) × (d < p .N) × (d ≢ m) = present p m in omega (arith, got (d .0) (d .1) (d .2) .0)
+          sc = let d : (d : ℕ) × (d < p .N) × (m d ≡ false) = present p m few in omega (arith, got (d .0) (d .1) (d .2) .0)
 
       moved : Moved p (g .un) v w o
       moved = record {
         whole = λ e l n. omega (arith, ap length (full e l) ∙ length-col e (suc (π .c)));
-        clean = λ m c s f h. let r : (s < π .c) × ((e : ℕ) → e < p .N → f e ≡ π .F s e) = is-new m s f h in record {
+        clean = λ m c s f h. let r : (s < π .c) × ((e : ℕ) → e < p .N → f e ≡ π .F s e) = is-new m s f (c .0) h in record {
           on = λ e l n. subst (λ (y : Val). In (chunk s y) (v e w)) (sym (r .1 e l)) (new-stripe s (r .0) .on e l n);
-          xor = h .xor;
+          word = h .word;
         };
         still = λ m c l s f h x t.
-            let r : (s < π .c) × ((e : ℕ) → e < p .N → f e ≡ π .F s e) = is-new (g .un) s f h in (
+            let r : (s < π .c) × ((e : ℕ) → e < p .N → f e ≡ π .F s e) = is-new (g .un) s f (none-few p (g .un) (b .none)) h in (
               π .src s,
               π .E s,
-              Stripe-none p v (g .un) m o (π .src s) (π .E s) (b .none) (stripe₁ v (i .2) (π .src s) (π .E s) (b .src s (r .0))),
+              Stripe-more p v (g .un) m o (π .src s) (π .E s) c (stripe₁ v (i .2) (π .src s) (π .E s) (b .src s (r .0))),
               π .from s x (r .0) (Datum-same p s f (π .F s) x (r .1) t),
             );
       }
@@ -288,8 +274,8 @@ module _ (p : Par) (g : Ghost) (w o : ℕ) (π : Plan p) where
     unfolding apply
     reset-step d v l (h, q, k, e₀, e₁) = (reset-kept p g v d o l may h floor, moved-kept p g v d o l may w o (b .apart) q, vain, low, λ e y i. sym (zone-kept v d o e y i) ∙ e₁ e y i)
       where
-        n : d ≢ g .un
-        n = omega (arith, l, b .none)
+        n : g .un d ≡ false
+        n = b .none d l
 
         may : May p g v o
         may = record {
@@ -318,7 +304,7 @@ module _ (p : Par) (g : Ghost) (w o : ℕ) (π : Plan p) where
         over x c (yes r) =
             let t : (s′ : ℕ) × (f′ : ℕ → Val) × Stripe p v (g .un) w s′ f′ × Datum p s′ f′ x =
             k (subst (λ (y : ℕ). L p v (g .un) y) r (c .rem .left)) (c .s) (c .f) x (subst (λ (y : ℕ). Stripe p v (g .un) y (c .s) (c .f)) r (c .st)) (c .dt) in
-            let lw : L p (cleared v d o) (g .un) w = whole-L p g (cleared v d o) (g .un) w (inr refl) (q′ .whole) in
+            let lw : L p (cleared v d o) (g .un) w = whole-L p g (cleared v d o) (g .un) w (self-none p (g .un) (b .none)) (q′ .whole) in
             record {
               z = w;
               s = t .0;
@@ -326,8 +312,8 @@ module _ (p : Par) (g : Ghost) (w o : ℕ) (π : Plan p) where
               rem = record {
                 left = lw;
                 own = λ y ly z. L-gone v d o p g (g .un) l n (subst (λ (a : ℕ). L p (cleared v d o) (g .un) a)
-                    (sym (pair-o (sym (b .pr) ∙ h .swap .one w y (used p g v (g .un) w (inr refl) (L-back v d o p g (g .un) w lw))
-                    (used p g v (g .un) y (inr refl) (L-back v d o p g (g .un) y ly)) z))) ly);
+                    (sym (pair-o (sym (b .pr) ∙ h .swap .one w y (used p g v (g .un) w (self-none p (g .un) (b .none)) (L-back v d o p g (g .un) w lw))
+                    (used p g v (g .un) y (self-none p (g .un) (b .none)) (L-back v d o p g (g .un) y ly)) z))) ly);
               };
               st = Stripe-same p v (cleared v d o) (g .un) w (t .0) (t .1)
                   (Rattle.proof_crash_machine.specs.Reset.same v d o p g (g .un) w (inl (λ z. b .apart (sym z)))) (t .2);

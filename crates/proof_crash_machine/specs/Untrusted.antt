@@ -1,25 +1,21 @@
 -- (6) Stores on the untrusted drive keep all facts. Assumes nothing.
-use mathlib.Core.Path.{_≡_, refl, sym, _∙_, subst}
+use mathlib.Core.Path.{_≡_, sym, subst}
 use mathlib.Core.List.{List}
-use mathlib.Core.Logic.{inl, inr, ⊎-elim, _≢_}
+use mathlib.Core.Bool.{false}
+use mathlib.Core.Logic.{inl, inr, ⊎-elim}
 use Prim.Native.Nat.{ℕ, _≤_, _<_}
-use native.Mathlib.Omega.{arith}
 use lib.ListN.{length}
 use Rattle.proof_crash_machine.specs.Val.{Val}
-use Rattle.proof_crash_machine.specs.View.{Item, View}
-use Rattle.proof_crash_machine.specs.Facts.{Par, Ghost, Tr, Choice, Stripe, Datum, Counted, Zone, Used, Whole, Moved, Ragged}
-use Rattle.proof_crash_machine.specs.Facts.{Facts, Same, L-same, Stripe-same, Counted-same}
+use Rattle.proof_crash_machine.specs.View.{Item, View, In}
+use Rattle.proof_crash_machine.specs.View.Item.{chunk}
+use Rattle.proof_crash_machine.specs.Mask.{Mask}
+use Rattle.proof_crash_machine.specs.Facts.{Par, trust, self, fewer, Ghost, Tr, Choice, Stripe, Datum, Counted, Zone, Used, Whole, Moved, Ragged, Facts, Same, L-same, Stripe-same, Counted-same}
 
-module _ (p : Par) (g : Ghost) (lost : g .un < p .N) (v u : View) (same : (e y : ℕ) → e < p .N → e ≢ g .un → v e y ≡ u e y) where
-  -- the only choice is the untrusted drive
-  is : (m : ℕ) → Choice p (g .un) m → m ≡ g .un
-  is m (inl b) = absurd (let q : ⊥ = omega (arith, lost, b) in q)
-  is m (inr e) = e
+module _ (p : Par) (g : Ghost) (v u : View) (same : (e y : ℕ) → e < p .N → g .un e ≡ false → v e y ≡ u e y) where
+  fw : (m : Mask) → Choice p (g .un) m → (y : ℕ) → Same p v u m y
+  fw m c y e l n = same e y l (trust p (g .un) m c e l n)
 
-  fw : (m : ℕ) → Choice p (g .un) m → (y : ℕ) → Same p v u m y
-  fw m c y e l n = same e y l (λ q. n (q ∙ sym (is m c)))
-
-  bw : (m : ℕ) → Choice p (g .un) m → (y : ℕ) → Same p u v m y
+  bw : (m : Mask) → Choice p (g .un) m → (y : ℕ) → Same p u v m y
   bw m c y e l n = sym (fw m c y e l n)
 
   len-fw : (y e : ℕ) → Tr p (g .un) e → 0 < length (v e y) → 0 < length (u e y)
@@ -36,9 +32,10 @@ module _ (p : Par) (g : Ghost) (lost : g .un < p .N) (v u : View) (same : (e y :
 
   pub untrusted : Facts p g v → Facts p g u
   untrusted h = record {
+    lost = h .lost;
     zones = λ d z t. subst (Zone p g d z) (same d z (t .0) (t .1)) (h .zones d z t);
     parity = record {
-      whole = λ b. absurd (let q : ⊥ = omega (arith, lost, b) in q);
+      whole = λ m c y s f on. h .parity .whole m c y s f (λ e l n. subst (λ (x : List Item). In (chunk s (f e)) x) (bw m c y e l n) (on e l n));
       sound = λ m c y s f st x dt. h .parity .sound m c y s f (Stripe-same p u v m y s f (bw m c y) st) x dt;
     };
     swap = record {
@@ -49,22 +46,21 @@ module _ (p : Par) (g : Ghost) (lost : g .un < p .N) (v u : View) (same : (e y :
       safe = λ w o e. ⊎-elim (λ (k : Whole p (g .un) v o). inl (λ d l n. len-fw o d (l, n) (k d l n)))
           (λ (k : Moved p (g .un) v w o). inr (record {
             whole = λ d l n. len-fw w d (l, n) (k .whole d l n);
-            clean = λ m c s f st. Stripe-same p v u (g .un) w s f (fw (g .un) (inr refl) w) (k .clean m c s f (Stripe-same p u v m w s f (bw m c w) st));
+            clean = λ m c s f st. Stripe-same p v u (g .un) w s f (fw (g .un) (self p (g .un) (h .lost .few)) w) (k .clean m c s f (Stripe-same p u v m w s f (bw m c w) st));
             still = λ m c l s f st x dt.
                 let t : (s′ : ℕ) × (f′ : ℕ → Val) × Stripe p v m o s′ f′ × Datum p s′ f′ x =
-                k .still m c (L-same p u v m o (bw m c o) l) s f (Stripe-same p u v (g .un) w s f (bw (g .un) (inr refl) w) st) x dt in
+                k .still m c (L-same p u v m o (bw m c o) l) s f (Stripe-same p u v (g .un) w s f (bw (g .un) (self p (g .un) (h .lost .few)) w) st) x dt in
                 (t .0, t .1, Stripe-same p v u m o (t .0) (t .1) (fw m c o) (t .2), t .3);
           })) (h .swap .safe w o e);
     };
     «open» = record {
-      bound = λ y k. h .«open» .bound y (used-bw y k);
+      place = fewer p (g .hd) (g .pr) (Used p (g .un) v) (Used p (g .un) u) used-bw (h .«open» .place);
       ragged = λ y z a b. h .«open» .ragged y z (rag-bw y a) (rag-bw z b);
-      room = ⊎-elim (λ (k : (y : ℕ) × (y < p .Z) × (Used p (g .un) v y → ⊥)). inl (k .0, k .1, λ q. k .2 (used-bw (k .0) q))) (λ k. inr k) (h .«open» .room);
     };
     content = record {
-      fresh = λ m c x k. h .content .fresh m c x (Counted-same p g u v m (bw m c) (fw m c) x k);
+      fresh = λ m c nb x k. h .content .fresh m c nb x (Counted-same p g u v m (bw m c) (fw m c) x k);
       floor = λ a. ⊎-elim (λ k. inl k)
           (λ (k : (x : Val) × Counted p (g .hd) v (g .un) x × (x .addr ≡ a) × (g .base a ≤ x .stamp)).
-          inr (k .0, Counted-same p g v u (g .un) (fw (g .un) (inr refl)) (bw (g .un) (inr refl)) (k .0) (k .1), k .2, k .3)) (h .content .floor a);
+          inr (k .0, Counted-same p g v u (g .un) (fw (g .un) (self p (g .un) (h .lost .few))) (bw (g .un) (self p (g .un) (h .lost .few))) (k .0) (k .1), k .2, k .3)) (h .content .floor a);
     };
   }

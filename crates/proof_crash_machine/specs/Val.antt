@@ -1,5 +1,5 @@
 -- What a chunk carries: address, stamp, block (byte index to byte); exclusive or over a stripe, and the law that decodes. Assumes nothing.
-use mathlib.Core.Path.{_≡_, refl, sym, ap, ap₂, _∙_, subst}
+use mathlib.Core.Path.{_≡_, refl, sym, ap, ap₂, _∙_}
 use mathlib.Core.Logic.{_≢_}
 use Prim.Native.Nat.{ℕ, zero, suc, _<_}
 use native.Mathlib.Omega.{arith}
@@ -70,30 +70,6 @@ unfolding xorN
 xorN-same zero f h e = refl
 xorN-same (suc n) f h e = ap₂ _⊕_ (e n (omega arith)) (xorN-same n f h (λ d l. e d (omega arith)))
 
--- two stripes with one exclusive or that agree but at m agree at m
-pub decode : (n m : ℕ) (f h : ℕ → Val) → m < n → xorN n f ≡ xorN n h → ((d : ℕ) → d < n → d ≢ m → f d ≡ h d) → f m ≡ h m
-unfolding xorN
-decode zero m f h l e k = absurd (let q : ⊥ = omega arith in q)
-decode (suc n) m f h l e k = go (ℕ-discrete m n) (decode n m f h)
-  where
-    go : Dec (m ≡ n) → (m < n → xorN n f ≡ xorN n h → ((d : ℕ) → d < n → d ≢ m → f d ≡ h d) → f m ≡ h m) → f m ≡ h m
-    go (yes q) ih =
-        let r : xorN n f ≡ xorN n h = xorN-same n f h (λ d b. k d (omega arith) (omega arith)) in
-        let e′ : f n ⊕ xorN n h ≡ h n ⊕ xorN n h = ap (λ (x : Val). f n ⊕ x) (sym r) ∙ e in
-        rw q (⊕-right (f n) (h n) (xorN n h) e′)
-    go (no q) ih =
-        let r : f n ≡ h n = k n (omega arith) (λ w. q (sym w)) in
-        let e′ : h n ⊕ xorN n f ≡ h n ⊕ xorN n h = ap (λ (x : Val). x ⊕ xorN n f) (sym r) ∙ e in
-        ih (omega arith) (⊕-left (xorN n f) (xorN n h) (h n) e′) (λ d b w. k d (omega arith) w)
-
--- so they agree everywhere
-pub decode-all : (n m : ℕ) (f h : ℕ → Val) → xorN n f ≡ xorN n h → ((d : ℕ) → d < n → d ≢ m → f d ≡ h d) → (d : ℕ) → d < n → f d ≡ h d
-decode-all n m f h e k d l = go (ℕ-discrete d m)
-  where
-    go : Dec (d ≡ m) → f d ≡ h d
-    go (yes q) = rw q (decode n m f h (subst (λ (x : ℕ). x < n) q l) e k)
-    go (no q) = k d l q
-
 -- one more value where there was none
 pub xorN-put : (n m : ℕ) (f h : ℕ → Val) → m < n → ((d : ℕ) → d < n → d ≢ m → f d ≡ h d) → h m ≡ 𝟘 → xorN n f ≡ f m ⊕ xorN n h
 unfolding xorN
@@ -105,18 +81,3 @@ xorN-put (suc n) m f h l k e = go (ℕ-discrete m n) (xorN-put n m f h)
         ap₂ _⊕_ (ap f (sym q)) (xorN-same n f h (λ d b. k d (omega arith) (omega arith)) ∙ sym (⊕-zero (xorN n h)) ∙ ap (λ (x : Val). x ⊕ xorN n h) (sym e ∙ ap h q))
     go (no q) ih =
         ap₂ _⊕_ (k n (omega arith) (λ w. q (sym w))) (ih (omega arith) (λ d b w. k d (omega arith) w) e) ∙ ⊕-swap (h n) (f m) (xorN n h)
-
--- one value changed
-pub xorN-change : (n m : ℕ) (f h : ℕ → Val) → m < n → ((d : ℕ) → d < n → d ≢ m → f d ≡ h d) → xorN n f ⊕ h m ≡ xorN n h ⊕ f m
-unfolding xorN
-xorN-change zero m f h l k = absurd (let q : ⊥ = omega arith in q)
-xorN-change (suc n) m f h l k = go (ℕ-discrete m n) (xorN-change n m f h)
-  where
-    go : Dec (m ≡ n) → (m < n → ((d : ℕ) → d < n → d ≢ m → f d ≡ h d) → xorN n f ⊕ h m ≡ xorN n h ⊕ f m) → f n ⊕ xorN n f ⊕ h m ≡ h n ⊕ xorN n h ⊕ f m
-    go (yes q) ih =
-        let r : xorN n f ≡ xorN n h = xorN-same n f h (λ d b. k d (omega arith) (omega arith)) in
-        rw (q, r) (⊕-comm (f n ⊕ xorN n h) (h n) ∙ ⊕-swap (h n) (f n) (xorN n h) ∙ ⊕-comm (f n) (h n ⊕ xorN n h))
-    go (no q) ih =
-        ⊕-assoc (f n) (xorN n f) (h m)
-        ∙ ap₂ _⊕_ (k n (omega arith) (λ w. q (sym w))) (ih (omega arith) (λ d b w. k d (omega arith) w))
-        ∙ sym (⊕-assoc (h n) (xorN n h) (f m))

@@ -9,7 +9,8 @@ use lib.ListN.{length, take}
 use Rattle.proof_crash_machine.specs.Val.{Val}
 
 pub data Item : Type 0 where
-  hdr : ℕ → ℕ → Item
+  -- serial, copied serial, the zones of the segment by drive
+  hdr : ℕ → ℕ → (ℕ → ℕ) → Item
   chunk : ℕ → Val → Item
   foot : ℕ → Item
 
@@ -88,10 +89,6 @@ pub in-some : (i : Item) (l : List Item) → In i l → 0 < length l
 in-some i [] m = absurd m
 in-some i (j ∷ l) m = omega arith
 
-pub none-in : (i : Item) (l : List Item) → length l ≡ 0 → In i l → ⊥
-none-in i [] e m = m
-none-in i (j ∷ l) e m = let q : ⊥ = omega arith in q
-
 -- constructors
 pub chunk-val : {s t : ℕ} {x y : Val} → chunk s x ≡ chunk t y → x ≡ y
 chunk-val e = cc
@@ -99,7 +96,7 @@ chunk-val e = cc
 pub chunk-num : {s t : ℕ} {x y : Val} → chunk s x ≡ chunk t y → s ≡ t
 chunk-num e = cc
 
-pub chunk-hdr : {s r c : ℕ} {x : Val} → chunk s x ≡ hdr r c → ⊥
+pub chunk-hdr : {s r c : ℕ} {n : ℕ → ℕ} {x : Val} → chunk s x ≡ hdr r c n → ⊥
 chunk-hdr e = let z : _≡_ {A = ℕ} 0 1 = cc in let q : ⊥ = omega arith in q
 
 pub chunk-foot : {s k : ℕ} {x : Val} → chunk s x ≡ foot k → ⊥

@@ -11,22 +11,23 @@ use lib.ListN.{length, getD}
 use Rattle.spec.specs.declared.Params.{Params}
 use Rattle.spec.specs.Drives.{View}
 use Rattle.spec.specs.Layout.{group}
-use Rattle.spec.specs.Lists.{upFrom, below, any, isMember}
-use Rattle.spec.specs.Params.{footers, capacity, named}
+use Rattle.spec.specs.Lists.{upFrom, below, any, isMember, isIn}
+use Rattle.spec.specs.Params.{footers, capacity}
 use Rattle.spec.specs.Segments.{remaining, Segment, segmentOf, counts, counted}
 use Rattle.law_basic.specs.Be.{room}
 use Rattle.law_basic.specs.Geometry.{Ranged}
 use Rattle.law_basic.specs.Ranges.{upFrom-snoc, length-below, map-append, length-keep}
 use Rattle.law_drives.specs.Tests.{cond-true, cond-false}
-use Rattle.proof_crash_machine.specs.Facts.{Ghost, Choice, Stripe, Ragged}
+use Rattle.proof_crash_machine.specs.Facts.{Ghost, Choice, Stripe, Ragged, self}
 use Rattle.proof_crash_machine.specs.Rebuild2.{RPlan, chunks, column}
-use Rattle.proof_crash_machine.specs.Rewrite.{st}
 use Rattle.proof_crash_machine.specs.Val.{Val}
 use Rattle.proof_crash_machine.specs.View.{Item}
 use Rattle.proof_crash_machine.specs.View.Item.{hdr, chunk, foot}
+use Rattle.proof_crash_machine.specs.Mask.{count}
+use Rattle.proof_crash_machine.specs.Rebuild.{withUn}
 use Rattle.proof_crash_items.specs.Items.{itemsIn}
 use Rattle.proof_crash_items.specs.Member.{Has, below-has, has-below, any-has, has-any, getD-has, has-getD}
-use Rattle.proof_crash_items.specs.Ranges.{capacity-few, parOf}
+use Rattle.proof_crash_items.specs.Ranges.{capacity-few, parOf, parities}
 use Rattle.proof_crash_items.specs.Refuse.{rising-below}
 use Rattle.proof_crash_items.specs.SegFacts.{segment-fields, seg-low, ragged-of}
 use Rattle.proof_crash_items.specs.Segs.{OnDrives, has-remaining}
@@ -46,29 +47,29 @@ unfolding below upFrom
 map-index f [] = refl
 map-index {B} f (a ∷ l) = ap (λ (x : List B). f a ∷ x) (map-shift f a l 0 (length l) ∙ map-index f l)
 
-module _ (p : Params) (r : Ranged p) (g : Ghost) (v : View) (k : OnDrives p r g v) (un : g .un < p .N) where
-  abbrev d : ℕ
-  d = g .un
+module _ (p : Params) (r : Ranged p) (g₀ : Ghost) (m : ℕ) (few-lost : count (p .N) (isIn m) ≤ parities p) (v : View) (k : OnDrives p r (withUn g₀ (isIn m)) v) where
+  abbrev g : Ghost
+  g = withUn g₀ (isIn m)
 
-  abbrev c : Choice (parOf p r) (g .un) (g .un)
-  c = inr refl
+  abbrev c : Choice (parOf p r) (isIn m) (isIn m)
+  c = self (parOf p r) (isIn m) few-lost
 
   abbrev G : ℕ → Segment
-  G z = segmentOf p v (named (g .un)) z
+  G z = segmentOf p v m z
 
   abbrev rem : List ℕ
-  rem = remaining p v (named (g .un))
+  rem = remaining p v m
 
   unfoldable pub planCount : ℕ → ℕ
-  planCount z = cond (isMember z (remaining p v (named (g .un)))) (length (counted p (named (g .un)) (segmentOf p v (named (g .un)) z))) 0
+  planCount z = cond (isMember z (remaining p v m)) (length (counted p m (segmentOf p v m z))) 0
 
   unfoldable pub planFeet : ℕ → ℕ
-  planFeet z = cond (isMember z (remaining p v (named (g .un))) && segmentOf p v (named (g .un)) z .full) (footers p) 0
+  planFeet z = cond (isMember z (remaining p v m) && segmentOf p v m z .full) (footers p) 0
 
-  member : (z : ℕ) → Has z (remaining p v (named (g .un))) → isMember z (remaining p v (named (g .un))) ≡ true
+  member : (z : ℕ) → Has z (remaining p v m) → isMember z (remaining p v m) ≡ true
   member z i = unfold isMember in has-any (λ x. eqb z x) rem z i (eq-eqb z z refl)
 
-  of-member : (z : ℕ) → isMember z (remaining p v (named (g .un))) ≡ true → Has z (remaining p v (named (g .un)))
+  of-member : (z : ℕ) → isMember z (remaining p v m) ≡ true → Has z (remaining p v m)
   of-member z e = go (reveal e)
     where
       reveal : isMember z rem ≡ true → any (λ x. eqb z x) rem ≡ true
@@ -77,39 +78,39 @@ module _ (p : Params) (r : Ranged p) (g : Ghost) (v : View) (k : OnDrives p r g 
       go : any (λ x. eqb z x) rem ≡ true → Has z rem
       go e = let q : (y : ℕ) × Has y rem × (eqb z y ≡ true) = any-has (λ x. eqb z x) rem e in subst (λ (x : ℕ). Has x rem) (sym (eqb-true z (q .0) (q .2))) (q .1)
 
-  pub count-here : (z : ℕ) → Has z (remaining p v (named (g .un))) → planCount z ≡ length (counted p (named (g .un)) (G z))
-  count-here z i = unfold planCount in cond-true (isMember z rem) (length (counted p (named (g .un)) (G z))) 0 (member z i)
+  pub count-here : (z : ℕ) → Has z (remaining p v m) → planCount z ≡ length (counted p m (G z))
+  count-here z i = unfold planCount in cond-true (isMember z rem) (length (counted p m (G z))) 0 (member z i)
 
-  pub feet-here : (z : ℕ) → Has z (remaining p v (named (g .un))) → planFeet z ≡ cond (G z .full) (footers p) 0
+  pub feet-here : (z : ℕ) → Has z (remaining p v m) → planFeet z ≡ cond (G z .full) (footers p) 0
   feet-here z i = unfold planFeet in ap (λ (b : Bool). cond (b && G z .full) (footers p) 0) (member z i)
 
-  few : (z : ℕ) → length (counted p (named (g .un)) (G z)) ≤ p .S
-  few z = unfold counted in omega (arith, length-keep (counts p (named (g .un)) (G z)) (below (p .S)), length-below (p .S))
+  few : (z : ℕ) → length (counted p m (G z)) ≤ p .S
+  few z = unfold counted in omega (arith, length-keep (counts p m (G z)) (below (p .S)), length-below (p .S))
 
-  all-S : (z : ℕ) → z < p .Z → G z .full ≡ true → length (counted p (named (g .un)) (G z)) ≡ p .S
+  all-S : (z : ℕ) → z < p .Z → G z .full ≡ true → length (counted p m (G z)) ≡ p .S
   all-S z zb e =
-      ap length (rising-same (counted p (named (g .un)) (G z)) (below (p .S)) (counted-rising p r g v k (g .un) c z) (rising-below (p .S))
-      (λ s h. has-below s (p .S) (counted-has p r g v k (g .un) c z s h .0))
-      (λ s h. sealed-counts p r g v k (g .un) c z s zb (sym (segment-fields p r g v k (g .un) c z .3) ∙ e) (below-has s (p .S) h))) ∙ length-below (p .S)
+      ap length (rising-same (counted p m (G z)) (below (p .S)) (counted-rising p r g v k m c z) (rising-below (p .S))
+      (λ s h. has-below s (p .S) (counted-has p r g v k m c z s h .0))
+      (λ s h. sealed-counts p r g v k m c z s zb (sym (segment-fields p r g v k m c z .3) ∙ e) (below-has s (p .S) h))) ∙ length-below (p .S)
 
-  low : (z : ℕ) → Has z (remaining p v (named (g .un))) → z < p .Z
-  low z i = seg-low p r g v k (g .un) c z i
+  low : (z : ℕ) → Has z (remaining p v m) → z < p .Z
+  low z i = seg-low p r g v k m c z i
 
   -- count and footers by cases: not remaining, remaining and unsealed, remaining and sealed
   cases :
       (z : ℕ)
-      → ((planCount z ≡ 0) × (planFeet z ≡ 0)) ⊎ (Has z (remaining p v (named (g .un)))
-      × (planCount z ≡ length (counted p (named (g .un)) (G z)))
+      → ((planCount z ≡ 0) × (planFeet z ≡ 0)) ⊎ (Has z (remaining p v m)
+      × (planCount z ≡ length (counted p m (G z)))
       × (((G z .full ≡ false) × (planFeet z ≡ 0)) ⊎ ((G z .full ≡ true) × (planFeet z ≡ footers p))))
   cases z = go (isMember z rem) refl
     where
       go :
           (b : Bool)
           → isMember z rem ≡ b
-          → ((planCount z ≡ 0) × (planFeet z ≡ 0)) ⊎ (Has z (remaining p v (named (g .un)))
-          × (planCount z ≡ length (counted p (named (g .un)) (G z)))
+          → ((planCount z ≡ 0) × (planFeet z ≡ 0)) ⊎ (Has z (remaining p v m)
+          × (planCount z ≡ length (counted p m (G z)))
           × (((G z .full ≡ false) × (planFeet z ≡ 0)) ⊎ ((G z .full ≡ true) × (planFeet z ≡ footers p))))
-      go false e = inl ((unfold planCount in cond-false (isMember z rem) (length (counted p (named (g .un)) (G z))) 0 e), (unfold planFeet in ap (λ (b : Bool). cond (b && G z .full) (footers p) 0) e))
+      go false e = inl ((unfold planCount in cond-false (isMember z rem) (length (counted p m (G z))) 0 e), (unfold planFeet in ap (λ (b : Bool). cond (b && G z .full) (footers p) 0) e))
       go true e = inr (of-member z e, count-here z (of-member z e), two (G z .full) refl)
         where
           two : (b : Bool) → G z .full ≡ b → ((G z .full ≡ false) × (planFeet z ≡ 0)) ⊎ ((G z .full ≡ true) × (planFeet z ≡ footers p))
@@ -119,51 +120,51 @@ module _ (p : Params) (r : Ranged p) (g : Ghost) (v : View) (k : OnDrives p r g 
   abbrev Cases : ℕ → Type 0
   Cases z =
       ((planCount z ≡ 0) × (planFeet z ≡ 0))
-      ⊎ (Has z (remaining p v (named (g .un)))
-      × (planCount z ≡ length (counted p (named (g .un)) (G z)))
+      ⊎ (Has z (remaining p v m)
+      × (planCount z ≡ length (counted p m (G z)))
       × (((G z .full ≡ false) × (planFeet z ≡ 0)) ⊎ ((G z .full ≡ true) × (planFeet z ≡ footers p))))
 
   abbrev src : ℕ → ℕ → ℕ
-  src z j = getD (counted p (named (g .un)) (G z)) j 0
+  src z j = getD (counted p m (G z)) j 0
 
   pub plan : RPlan (parOf p r) g (itemsIn p v)
   plan = record {
     c = planCount;
-    src = λ z j. getD (counted p (named (g .un)) (segmentOf p v (named (g .un)) z)) j 0;
-    E = λ z j e. pieceAt p r g v k (g .un) (inr refl) z (getD (counted p (named (g .un)) (segmentOf p v (named (g .un)) z)) j 0) e;
+    src = λ z j. getD (counted p m (segmentOf p v m z)) j 0;
+    E = λ z j e. pieceAt p r g v k m c z (getD (counted p m (segmentOf p v m z)) j 0) e;
     foots = planFeet;
-    st = λ z rr j l. st? z (has-remaining p r g v k (g .un) c z rr) j l;
-    every = λ z s f rr q. every? z s f (has-remaining p r g v k (g .un) c z rr) q;
+    st = λ z rr j l. st? z (has-remaining p r g v k m c z rr) j l;
+    every = λ z s f rr q. every? z s f (has-remaining p r g v k m c z rr) q;
     inj = λ z i j a b e. inj? z i j a b e (cases z);
     grp = λ z j l. grp? z j l (cases z);
     sealed = λ z b s l. sealed? z b s l (cases z);
     room = λ z. room? z (cases z);
-    ragged = λ z rr b. ragged? z (has-remaining p r g v k (g .un) c z rr) b (cases z);
+    ragged = λ z rr b. ragged? z (has-remaining p r g v k m c z rr) b (cases z);
   }
     where
-      st? : (z : ℕ) → Has z rem → (j : ℕ) → j < planCount z → Stripe (parOf p r) (itemsIn p v) (g .un) z (src z j) (λ e. pieceAt p r g v k (g .un) (inr refl) z (src z j) e)
-      st? z i j l = counted-stripe p r g v k (g .un) c z (src z j) (low z i) (getD-has (counted p (named (g .un)) (G z)) j 0 (omega (arith, l, count-here z i)))
+      st? : (z : ℕ) → Has z rem → (j : ℕ) → j < planCount z → Stripe (parOf p r) (itemsIn p v) (isIn m) z (src z j) (λ e. pieceAt p r g v k m c z (src z j) e)
+      st? z i j l = counted-stripe p r g v k m c z (src z j) (low z i) (getD-has (counted p m (G z)) j 0 (omega (arith, l, count-here z i)))
 
-      every? : (z s : ℕ) (f : ℕ → Val) → Has z rem → Stripe (parOf p r) (itemsIn p v) (g .un) z s f → (j : ℕ) × (j < planCount z) × (src z j ≡ s)
+      every? : (z s : ℕ) (f : ℕ → Val) → Has z rem → Stripe (parOf p r) (itemsIn p v) (isIn m) z s f → (j : ℕ) × (j < planCount z) × (src z j ≡ s)
       every? z s f i q =
-          let a : (j : ℕ) × (j < length (counted p (named (g .un)) (G z))) × (src z j ≡ s) = has-getD (counted p (named (g .un)) (G z)) s 0 (stripe-counted p r g v k (g .un) c z s f q .0) in
+          let a : (j : ℕ) × (j < length (counted p m (G z))) × (src z j ≡ s) = has-getD (counted p m (G z)) s 0 (stripe-counted p r g v k m c z s f q .0) in
           (a .0, omega (arith, a .1, count-here z i), a .2)
 
       inj? : (z i j : ℕ) → i < planCount z → j < planCount z → src z i ≡ src z j → Cases z → i ≡ j
       inj? z i j a b e (inl (q, w)) = absurd (let x : ⊥ = omega (arith, a, q) in x)
-      inj? z i j a b e (inr (h, q, w)) = rising-one (counted p (named (g .un)) (G z)) (counted-rising p r g v k (g .un) c z) i j (omega (arith, a, q)) (omega (arith, b, q)) e
+      inj? z i j a b e (inr (h, q, w)) = rising-one (counted p m (G z)) (counted-rising p r g v k m c z) i j (omega (arith, a, q)) (omega (arith, b, q)) e
 
       grp? : (z j : ℕ) → j < planCount z → Cases z → (src z j < p .S) × (j < p .S) × (group p (src z j) ≡ group p j)
       grp? z j l (inl (q, w)) = absurd (let x : ⊥ = omega (arith, l, q) in x)
-      grp? z j l (inr (h, q, w)) = counted-group p r g v k (g .un) c z j (low z h) (omega (arith, l, q))
+      grp? z j l (inr (h, q, w)) = counted-group p r g v k m c z j (low z h) (omega (arith, l, q))
 
       sealed? : (z : ℕ) → suc (p .S) < suc (planCount z + planFeet z) → (s : ℕ) → s < p .S → Cases z → (j : ℕ) × (j < planCount z) × (src z j ≡ s)
       sealed? z b s l (inl (q, w)) = absurd (let x : ⊥ = omega (arith, b, q, w) in x)
       sealed? z b s l (inr (h, q, inl (f, w))) = absurd (let x : ⊥ = omega (arith, b, q, w, few z) in x)
       sealed? z b s l (inr (h, q, inr (f, w))) =
-          let a : (j : ℕ) × (j < length (counted p (named (g .un)) (G z))) × (src z j ≡ s) =
-          has-getD (counted p (named (g .un)) (G z)) s 0
-          (sealed-counts p r g v k (g .un) c z s (low z h) (sym (segment-fields p r g v k (g .un) c z .3) ∙ f) l) in
+          let a : (j : ℕ) × (j < length (counted p m (G z))) × (src z j ≡ s) =
+          has-getD (counted p m (G z)) s 0
+          (sealed-counts p r g v k m c z s (low z h) (sym (segment-fields p r g v k m c z .3) ∙ f) l) in
           (a .0, omega (arith, a .1, q), a .2)
 
       room? : (z : ℕ) → Cases z → suc (planCount z + planFeet z) ≤ capacity p
@@ -171,51 +172,51 @@ module _ (p : Params) (r : Ranged p) (g : Ghost) (v : View) (k : OnDrives p r g 
       room? z (inr (h, q, inl (f, w))) = omega (arith, q, w, few z, capacity-few p r)
       room? z (inr (h, q, inr (f, w))) = unfold capacity in omega (arith, q, w, few z)
 
-      ragged? : (z : ℕ) → Has z rem → suc (planCount z + planFeet z) < capacity p → Cases z → Ragged (parOf p r) (g .un) (itemsIn p v) z
+      ragged? : (z : ℕ) → Has z rem → suc (planCount z + planFeet z) < capacity p → Cases z → Ragged (parOf p r) (isIn m) (itemsIn p v) z
       ragged? z i b (inl (q, w)) = go (G z .full) refl
         where
-          go : (t : Bool) → G z .full ≡ t → Ragged (parOf p r) (g .un) (itemsIn p v) z
-          go false f = ragged-of p r g v k (g .un) c z i f
-          go true f = absurd (let x : length (counted p (named (g .un)) (G z)) ≡ p .S = all-S z (low z i) f in let y : ⊥ = omega (arith, x, q, count-here z i, r .stripes-low) in y)
-      ragged? z i b (inr (h, q, inl (f, w))) = ragged-of p r g v k (g .un) c z i f
-      ragged? z i b (inr (h, q, inr (f, w))) = absurd (unfold capacity in (let x : length (counted p (named (g .un)) (G z)) ≡ p .S = all-S z (low z i) f in let y : ⊥ = omega (arith, x, q, w, b) in y))
+          go : (t : Bool) → G z .full ≡ t → Ragged (parOf p r) (isIn m) (itemsIn p v) z
+          go false f = ragged-of p r g v k m c z i f
+          go true f = absurd (let x : length (counted p m (G z)) ≡ p .S = all-S z (low z i) f in let y : ⊥ = omega (arith, x, q, count-here z i, r .stripes-low) in y)
+      ragged? z i b (inr (h, q, inl (f, w))) = ragged-of p r g v k m c z i f
+      ragged? z i b (inr (h, q, inr (f, w))) = absurd (unfold capacity in (let x : length (counted p m (G z)) ≡ p .S = all-S z (low z i) f in let y : ⊥ = omega (arith, x, q, w, b) in y))
 
   plan-foots : (z : ℕ) → plan .foots z ≡ planFeet z
   unfolding plan
   plan-foots z = refl
 
   -- ---- the machine's columns
-  module _ (z : ℕ) (i : Has z (remaining p v (named (g .un)))) where
+  module _ (d z : ℕ) (i : Has z (remaining p v m)) where
     abbrev cs : List ℕ
-    cs = counted p (named (g .un)) (G z)
+    cs = counted p m (G z)
 
     abbrev it : ℕ → Item
-    it j = chunk (src z j) (pieceAt p r g v k (g .un) (inr refl) z (src z j) (g .un))
+    it j = chunk (src z j) (pieceAt p r g v k m c z (src z j) d)
 
-    chunks-are : (n : ℕ) → chunks (parOf p r) g (itemsIn p v) plan z n ≡ hdr (g .hd .ser z) (g .hd .cop z) ∷ map it (below n)
+    chunks-are : (n : ℕ) → chunks (parOf p r) g (itemsIn p v) plan d z n ≡ hdr (g .hd .ser z) (g .hd .cop z) (g .hd .zn z) ∷ map it (below n)
     unfolding chunks plan below upFrom
     chunks-are zero = refl
-    chunks-are (suc n) = ap (λ (x : List Item). x ++ (it n ∷ [])) (chunks-are n) ∙ ap (λ (x : List Item). hdr (g .hd .ser z) (g .hd .cop z) ∷ x) (snoc n)
+    chunks-are (suc n) = ap (λ (x : List Item). x ++ (it n ∷ [])) (chunks-are n) ∙ ap (λ (x : List Item). hdr (g .hd .ser z) (g .hd .cop z) (g .hd .zn z) ∷ x) (snoc n)
       where
         snoc : (n : ℕ) → map it (upFrom 0 n) ++ (it n ∷ []) ≡ map it (upFrom 0 (suc n))
         snoc n = sym (ap (map it) (upFrom-snoc 0 n) ∙ map-append it (upFrom 0 n) ((0 + n) ∷ []) ∙ ap (λ (x : ℕ). map it (upFrom 0 n) ++ (it x ∷ [])) (let e : 0 + n ≡ n = omega arith in e))
 
-    feet-are : (j : ℕ) → column (parOf p r) g (itemsIn p v) plan z j ≡ chunks (parOf p r) g (itemsIn p v) plan z (planCount z) ++ map foot (below j)
+    feet-are : (j : ℕ) → column (parOf p r) g (itemsIn p v) plan d z j ≡ chunks (parOf p r) g (itemsIn p v) plan d z (planCount z) ++ map foot (below j)
     unfolding column plan below upFrom
-    feet-are zero = sym (append-nil (chunks (parOf p r) g (itemsIn p v) plan z (planCount z)))
-    feet-are (suc j) = ap (λ (x : List Item). x ++ (foot j ∷ [])) (feet-are j) ∙ append-assoc (chunks (parOf p r) g (itemsIn p v) plan z (planCount z)) (map foot (upFrom 0 j)) (foot j ∷ [])
-        ∙ ap (λ (x : List Item). chunks (parOf p r) g (itemsIn p v) plan z (planCount z) ++ x) (snoc j)
+    feet-are zero = sym (append-nil (chunks (parOf p r) g (itemsIn p v) plan d z (planCount z)))
+    feet-are (suc j) = ap (λ (x : List Item). x ++ (foot j ∷ [])) (feet-are j) ∙ append-assoc (chunks (parOf p r) g (itemsIn p v) plan d z (planCount z)) (map foot (upFrom 0 j)) (foot j ∷ [])
+        ∙ ap (λ (x : List Item). chunks (parOf p r) g (itemsIn p v) plan d z (planCount z) ++ x) (snoc j)
       where
         snoc : (n : ℕ) → map foot (upFrom 0 n) ++ (foot n ∷ []) ≡ map foot (upFrom 0 (suc n))
         snoc n = sym (ap (map foot) (upFrom-snoc 0 n) ∙ map-append foot (upFrom 0 n) ((0 + n) ∷ []) ∙ ap (λ (x : ℕ). map foot (upFrom 0 n) ++ (foot x ∷ [])) (let e : 0 + n ≡ n = omega arith in e))
 
-    pub column-is : column (parOf p r) g (itemsIn p v) plan z (planFeet z) ≡ zoneItems p r g v k (g .un) (inr refl) z
+    pub column-is : column (parOf p r) g (itemsIn p v) plan d z (planFeet z) ≡ zoneItems p r g v k m c d z
     column-is =
         feet-are (planFeet z)
-        ∙ ap₂ (λ (x y : List Item). x ++ y) (ap (chunks (parOf p r) g (itemsIn p v) plan z) (count-here z i)
+        ∙ ap₂ (λ (x y : List Item). x ++ y) (ap (chunks (parOf p r) g (itemsIn p v) plan d z) (count-here z i)
         ∙ chunks-are (length cs)
-        ∙ ap (λ (x : List Item). hdr (g .hd .ser z) (g .hd .cop z) ∷ x)
-        (map-index (λ s. chunk s (pieceAt p r g v k (g .un) (inr refl) z s (g .un))) cs))
+        ∙ ap (λ (x : List Item). hdr (g .hd .ser z) (g .hd .cop z) (g .hd .zn z) ∷ x)
+        (map-index (λ s. chunk s (pieceAt p r g v k m c z s d)) cs))
         (ap (λ (n : ℕ). map foot (below n)) (feet-here z i) ∙ feet-cond (G z .full))
         ∙ (unfold zoneItems in refl)
       where
@@ -223,5 +224,5 @@ module _ (p : Params) (r : Ranged p) (g : Ghost) (v : View) (k : OnDrives p r g 
         feet-cond true = refl
         feet-cond false = unfold below upFrom in refl
 
-    pub column-foots : column (parOf p r) g (itemsIn p v) plan z (plan .foots z) ≡ zoneItems p r g v k (g .un) (inr refl) z
-    column-foots = ap (column (parOf p r) g (itemsIn p v) plan z) (plan-foots z) ∙ column-is
+    pub column-foots : column (parOf p r) g (itemsIn p v) plan d z (plan .foots z) ≡ zoneItems p r g v k m c d z
+    column-foots = ap (column (parOf p r) g (itemsIn p v) plan d z) (plan-foots z) ∙ column-is

@@ -1,7 +1,7 @@
 -- Rebuild: all of the drive. Wherever it is cut, and where it ends. Assumes nothing.
 use mathlib.Core.Path.{_≡_, refl, sym, ap, _∙_, subst}
 use mathlib.Core.List.{List, [], _∷_, _++_, map}
-use mathlib.Core.Bool.{Bool}
+use mathlib.Core.Bool.{Bool, false, true}
 use mathlib.Core.Logic.{_⊎_, inl, inr, ⊎-elim, _≢_}
 use Prim.Native.Nat.{ℕ, zero, suc, _<_}
 use native.Mathlib.Decide.{decLt, ℕ-discrete}
@@ -10,25 +10,23 @@ use lib.ListN.{take}
 use Rattle.spec.specs.declared.Params.{Params}
 use Rattle.spec.specs.Drives.{Zone, stored, View, zoneAt, pointerAt, Store, putZone, resetZone, storeView, storeAll}
 use Rattle.spec.specs.Drives.Store.{put, reset}
-use Rattle.spec.specs.Lists.{below, flat}
+use Rattle.spec.specs.Lists.{below, flat, isIn}
 use Rattle.spec.specs.Params.{named}
 use Rattle.spec.specs.Rebuild.{rebuiltZone, rebuildStores}
 use Rattle.spec.specs.Segments.{remaining, Segment, segmentOf, segments}
 use Rattle.law_basic.specs.Geometry.{Ranged}
 use Rattle.law_basic.specs.Stores.{storeAll-append}
-use Rattle.proof_crash_machine.specs.Facts.{Ghost, Choice, R}
+use Rattle.proof_crash_machine.specs.Facts.{Ghost, Choice, R, self}
 use Rattle.proof_crash_machine.specs.History.{Mode}
 use Rattle.proof_crash_machine.specs.History.Mode.{off, ro}
 use Rattle.proof_crash_machine.specs.History.Step.{rebuild as m-rebuild, rebuild-store, rebuild-done}
-use Rattle.proof_crash_machine.specs.Image.{items}
-use Rattle.proof_crash_machine.specs.Put.{drive-other}
 use Rattle.proof_crash_machine.specs.Rebuild.{withUn, Rebuilt as m-Rebuilt}
-use Rattle.proof_crash_machine.specs.Rebuild2.{puts, puts-here, puts-other, column, stored as m-stored}
+use Rattle.proof_crash_machine.specs.Rebuild2.{puts, puts-here, puts-other, column, stored as m-stored, RPlan}
 use Rattle.proof_crash_machine.specs.Steps.{applyAll-append}
 use Rattle.proof_crash_machine.specs.Val.{Val}
-use Rattle.proof_crash_machine.specs.View.{Item, View as m-View, Store as m-Store, after, apply, applyAll}
+use Rattle.proof_crash_machine.specs.View.{Item, View as m-View, Store as m-Store, applyAll}
 use Rattle.proof_crash_machine.specs.View.Store.{reset as m-reset}
-use Rattle.proof_crash_items.specs.Items.{itemsFrom, itemsOf, itemsIn, items-in, storeItem, storeItems}
+use Rattle.proof_crash_items.specs.Items.{itemsFrom, itemsOf, itemsIn, items-in, storeItem, storeItems, outside-nothing}
 use Rattle.proof_crash_items.specs.Member.{Has, append-has, below-has, has-below, flat-has, map-has}
 use Rattle.proof_crash_items.specs.Ranges.{parOf}
 use Rattle.proof_crash_items.specs.Refuse.{Rising, remaining-rising}
@@ -36,10 +34,10 @@ use Rattle.proof_crash_items.specs.SegFacts.{seg-low, seg-R}
 use Rattle.proof_crash_items.specs.Segs.{OnDrives, has-remaining}
 use Rattle.proof_crash_items.specs.Shape.{Shape, zone-set, zone-set-other, shape-store}
 use Rattle.proof_crash_items.specs.Sound.{AllSound, BytesOn, BytesOk, sound-fits, bytes-stores, sound-take, sound-drop, Follows, follows-nil, follows-append, follows-all}
-use Rattle.proof_crash_items.specs.Start.{outside-nothing}
 use Rattle.proof_crash_items.specs.Stripes.{pointer-is}
 use Rattle.proof_crash_items.specs.Table.{flat-map}
 use Rattle.proof_crash_items.specs.ZoneBytes.{bytes-empty}
+use Rattle.proof_crash_items.specs.Named.{never-beyond, none-out, named-other, named-out, named-self, named-in}
 use Rattle.proof_crash_restarts.specs.Link.{stateOn, Linked, linked-step, shape-after, shape-cut, bytes-after, bytes-cut}
 use Rattle.proof_crash_restarts.specs.Missing.{missing-on}
 use Rattle.proof_crash_restarts.specs.Order.{pointer-zone}
@@ -47,17 +45,6 @@ use Rattle.proof_crash_rebuilds.specs.Column.{plan, column-foots}
 use Rattle.proof_crash_rebuilds.specs.Zones.{on-other, zoneItems, zone-follows, zone-on}
 
 -- ---- the machine's runs of puts
-
-pub puts-drive : (x : m-View) (d z : ℕ) (l : List Item) (e y : ℕ) → e ≢ d → applyAll x (puts d z l) e y ≡ x e y
-unfolding puts applyAll apply
-puts-drive x d z [] e y n = refl
-puts-drive x d z (i ∷ l) e y n = puts-drive (after x d z i) d z l e y n ∙ drive-other x d z i e y n
-
-flat-drive : (f : ℕ → List Item) (d : ℕ) (l : List ℕ) (x : m-View) (e y : ℕ) → e ≢ d → applyAll x (flat (λ z. puts d z (f z)) l) e y ≡ x e y
-unfolding flat applyAll
-flat-drive f d [] x e y n = refl
-flat-drive f d (z ∷ l) x e y n =
-    ap (λ (u : m-View). u e y) (applyAll-append x (puts d z (f z)) (flat (λ z. puts d z (f z)) l)) ∙ flat-drive f d l (applyAll x (puts d z (f z))) e y n ∙ puts-drive x d z (f z) e y n
 
 flat-none : (f : ℕ → List Item) (d : ℕ) (l : List ℕ) (x : m-View) (y : ℕ) → (Has y l → ⊥) → applyAll x (flat (λ z. puts d z (f z)) l) d y ≡ x d y
 unfolding flat applyAll
@@ -109,32 +96,26 @@ drive-resets-zero p r d b (z ∷ l) h v s y q =
     go (inr (inl w)) = inl (reset-step-zero p d z b (h z (inl refl)) v s y (inr w))
     go (inr (inr w)) = inr w
 
-drive-resets-other : (p : Params) → Ranged p → (d : ℕ) → d < p .N → (l : List ℕ) → ((z : ℕ) → Has z l → z < p .Z) → (v : View) → Shape p v → (e y : ℕ) → e ≢ d
-    → zoneAt (storeAll storeView (map (λ z. reset d z) l) v) e y ≡ zoneAt v e y
-unfolding storeAll
-drive-resets-other p r d b [] h v s e y n = refl
-drive-resets-other p r d b (z ∷ l) h v s e y n =
-    drive-resets-other p r d b l (λ e i. h e (inr i)) (storeView (reset d z) v) (shape-store p v (reset d z) s (b, h z (inl refl))) e y n
-    ∙ (unfold storeView in zone-set-other p v s d z (resetZone (zoneAt v d z)) b e y (inl n))
-
 -- ---- the rebuild
 
-module _ (p : Params) (r : Ranged p) (v : View) (g : Ghost) (a : List Val) (s : Bool) (mo : Mode) (lk : Linked p r v g a s mo) (d : ℕ) (dl : d < p .N) (ch : Choice (parOf p r) (g .un) d) where
+module _ (p : Params) (r : Ranged p) (v : View) (g : Ghost) (a : List Val) (s : Bool) (mo : Mode) (lk : Linked p r v g a s mo) (d : ℕ) (dl : d < p .N)
+    (ch : Choice (parOf p r) (g .un) (isIn (named d))) where
   abbrev gD : Ghost
-  gD = withUn g d
+  gD = withUn g (isIn (named d))
 
-  abbrev kD : OnDrives p r (withUn g d) v
-  kD = missing-on p r v v g a s mo lk d dl ch (lk .shape) (λ e y l n. refl)
+  abbrev lost : (e : ℕ) × (e < p .N) × (isIn (named d) e ≡ true)
+  lost = (d, dl, named-self p r d dl)
 
-  abbrev gs : List Segment
-  gs = segments p v (named d)
+  abbrev kD : OnDrives p r (withUn g (isIn (named d))) v
+  kD = missing-on p r v v g a s mo lk (named d) lost ch (lk .shape) (λ e y l n. refl)
 
-  abbrev rem : List ℕ
-  rem = remaining p v (named d)
+  abbrev cD : Choice (parOf p r) (isIn (named d)) (isIn (named d))
+  cD = self (parOf p r) (isIn (named d)) (ch .0)
 
   -- it starts: from now on the drive isn't trusted
-  pub started : Linked p r v (withUn g d) a s ro
-  started = linked-step p r v v g (withUn g d) a a s s mo ro (itemsIn p v) lk (m-rebuild (stateOn p v g a s mo) d dl ch) refl (lk .shape) (kD .bytes)
+  pub started : Linked p r v (withUn g (isIn (named d))) a s ro
+  started = linked-step p r v v g (withUn g (isIn (named d))) a a s s mo ro (itemsIn p v) lk
+      (m-rebuild (stateOn p v g a s mo) (isIn (named d)) ch (never-beyond p r (g .said) (isIn (named d)) (ch .0))) refl (lk .shape) (kD .bytes)
 
   abbrev v₁ : View
   v₁ = storeAll storeView (map (λ z. reset d z) (below (p .Z))) v
@@ -153,24 +134,24 @@ module _ (p : Params) (r : Ranged p) (v : View) (g : Ghost) (a : List Val) (s : 
 
   -- zone after zone
   zones-follow : (l : List ℕ) → Rising l → ((z : ℕ) → Has z l → Has z (remaining p v (named d))) → (w : View) → Shape p w → ((z : ℕ) → Has z l → pointerAt w d z ≡ 0)
-      → Follows p w (flat (λ z. rebuiltZone p d (segmentOf p v (named d) z)) l) (flat (λ z. puts d z (zoneItems p r (withUn g d) v kD d (inr refl) z)) l)
+      → Follows p w (flat (λ z. rebuiltZone p d (segmentOf p v (named d) z)) l) (flat (λ z. puts d z (zoneItems p r (withUn g (isIn (named d))) v kD (named d) cD d z)) l)
   unfolding flat
   zones-follow [] q h w sh e = follows-nil p w
   zones-follow (z ∷ l) q h w sh e =
-      let f : Follows p w (rebuiltZone p d (segmentOf p v (named d) z)) (puts d z (zoneItems p r (withUn g d) v kD d (inr refl) z)) =
-      zone-follows p r (withUn g d) v kD d (inr refl) dl z (h z (inl refl)) w sh (e z (inl refl)) in
+      let f : Follows p w (rebuiltZone p d (segmentOf p v (named d) z)) (puts d z (zoneItems p r (withUn g (isIn (named d))) v kD (named d) cD d z)) =
+      zone-follows p r (withUn g (isIn (named d))) v kD d cD dl z (h z (inl refl)) w sh (e z (inl refl)) in
       let sh′ : Shape p (storeAll storeView (rebuiltZone p d (segmentOf p v (named d) z)) w) =
-      shape-after p r w (rebuiltZone p d (segmentOf p v (named d) z)) (puts d z (zoneItems p r (withUn g d) v kD d (inr refl) z)) sh f in
+      shape-after p r w (rebuiltZone p d (segmentOf p v (named d) z)) (puts d z (zoneItems p r (withUn g (isIn (named d))) v kD (named d) cD d z)) sh f in
       follows-append p w (rebuiltZone p d (segmentOf p v (named d) z)) (flat (λ z. rebuiltZone p d (segmentOf p v (named d) z)) l)
-      (puts d z (zoneItems p r (withUn g d) v kD d (inr refl) z)) (flat (λ z. puts d z (zoneItems p r (withUn g d) v kD d (inr refl) z)) l) f
+      (puts d z (zoneItems p r (withUn g (isIn (named d))) v kD (named d) cD d z)) (flat (λ z. puts d z (zoneItems p r (withUn g (isIn (named d))) v kD (named d) cD d z)) l) f
       (zones-follow l (q .1) (λ y i. h y (inr i)) (storeAll storeView (rebuiltZone p d (segmentOf p v (named d) z)) w) sh′ (λ y i.
       pointer-zone (storeAll storeView (rebuiltZone p d (segmentOf p v (named d) z)) w) w d y
       (on-other p r d z (rebuiltZone p d (segmentOf p v (named d) z)) w sh (f .sound)
-      (zone-on p r (withUn g d) v kD d (inr refl) dl z (h z (inl refl))) dl d y (inr (λ x. let j : ⊥ = omega (arith, x, q .0 y i) in j)))
+      (zone-on p r (withUn g (isIn (named d))) v kD d cD dl z (h z (inl refl))) dl d y (inr (λ x. let j : ⊥ = omega (arith, x, q .0 y i) in j)))
       ∙ e y (inr i)))
 
   abbrev ms : List m-Store
-  ms = map (λ z. m-reset d z) (below (p .Z)) ++ flat (λ z. puts d z (zoneItems p r (withUn g d) v kD d (inr refl) z)) (remaining p v (named d))
+  ms = map (λ z. m-reset d z) (below (p .Z)) ++ flat (λ z. puts d z (zoneItems p r (withUn g (isIn (named d))) v kD (named d) cD d z)) (remaining p v (named d))
 
   abbrev ss : List Store
   ss = rebuildStores p d (segments p v (named d))
@@ -179,9 +160,9 @@ module _ (p : Params) (r : Ranged p) (v : View) (g : Ghost) (a : List Val) (s : 
   unfolding rebuildStores segments
   rebuild-follows = subst (λ (x : List Store). Follows p v (map (λ z. reset d z) (below (p .Z)) ++ x) ms) (sym (flat-map (rebuiltZone p d) (segmentOf p v (named d)) (remaining p v (named d))))
       (follows-append p v (map (λ z. reset d z) (below (p .Z))) (flat (λ z. rebuiltZone p d (segmentOf p v (named d) z)) (remaining p v (named d)))
-      (map (λ z. m-reset d z) (below (p .Z))) (flat (λ z. puts d z (zoneItems p r (withUn g d) v kD d (inr refl) z)) (remaining p v (named d)))
+      (map (λ z. m-reset d z) (below (p .Z))) (flat (λ z. puts d z (zoneItems p r (withUn g (isIn (named d))) v kD (named d) cD d z)) (remaining p v (named d)))
       first
-      (zones-follow (remaining p v (named d)) (remaining-rising p v (named d)) (λ z i. i) v₁ shape₁ (λ z i. zero₁ z (seg-low p r (withUn g d) v kD d (inr refl) z i))))
+      (zones-follow (remaining p v (named d)) (remaining-rising p v (named d)) (λ z i. i) v₁ shape₁ (λ z i. zero₁ z (seg-low p r (withUn g (isIn (named d))) v kD (named d) cD z i))))
 
   -- ---- the other drives are untouched
   abbrev OnDrive : Store → Type 0
@@ -195,7 +176,8 @@ module _ (p : Params) (r : Ranged p) (v : View) (g : Ghost) (a : List Val) (s : 
       let y : (y : Segment) × Has y (map (segmentOf p v (named d)) (remaining p v (named d))) × Has x (rebuiltZone p d y) =
       flat-has (rebuiltZone p d) x (map (segmentOf p v (named d)) (remaining p v (named d))) q in
       let z : (z : ℕ) × Has z (remaining p v (named d)) × (y .0 ≡ segmentOf p v (named d) z) = map-has (segmentOf p v (named d)) (y .0) (remaining p v (named d)) (y .1) in
-      let w : (b : List ℕ) × (t : List ℕ) × (x ≡ put d (z .0) b t) = zone-on p r (withUn g d) v kD d (inr refl) dl (z .0) (z .1) x (subst (λ (k : Segment). Has x (rebuiltZone p d k)) (z .2) (y .2)) in
+      let w : (b : List ℕ) × (t : List ℕ) × (x ≡ put d (z .0) b t) = zone-on p r (withUn g (isIn (named d))) v kD d cD dl (z .0) (z .1) x
+      (subst (λ (k : Segment). Has x (rebuiltZone p d k)) (z .2) (y .2)) in
       inr (z .0, w .0, w .1, w .2)) (append-has x (map (λ z. reset d z) (below (p .Z))) (flat (rebuiltZone p d) (map (segmentOf p v (named d)) (remaining p v (named d)))) i)
 
   stores-other : (l : List Store) (w : View) → Shape p w → AllSound p w l → ((x : Store) → Has x l → OnDrive x) → (e y : ℕ) → e ≢ d → zoneAt (storeAll storeView l w) e y ≡ zoneAt w e y
@@ -215,10 +197,10 @@ module _ (p : Params) (r : Ranged p) (v : View) (g : Ghost) (a : List Val) (s : 
   has-take (suc n) (y ∷ l) x (inr i) = inr (has-take n l x i)
 
   -- wherever it is cut
-  pub rebuild-cut : (n : ℕ) → Linked p r (storeAll storeView (take n ss) v) (withUn g d) a s off
-  rebuild-cut n = linked-step p r v (storeAll storeView (take n ss) v) (withUn g d) (withUn g d) a a s s ro off (itemsIn p (storeAll storeView (take n ss) v)) started
-      (rebuild-store (stateOn p v (withUn g d) a s ro) (itemsIn p (storeAll storeView (take n ss) v)) dl (λ e y l q. items-same e y q) off (inr refl)) refl
-      (shape-cut p r v ss ms (lk .shape) rebuild-follows n) (bytes-cut p r v ss ms (lk .shape) rebuild-follows d n (kD .bytes))
+  pub rebuild-cut : (n : ℕ) → Linked p r (storeAll storeView (take n ss) v) (withUn g (isIn (named d))) a s off
+  rebuild-cut n = linked-step p r v (storeAll storeView (take n ss) v) (withUn g (isIn (named d))) (withUn g (isIn (named d))) a a s s ro off (itemsIn p (storeAll storeView (take n ss) v)) started
+      (rebuild-store (stateOn p v (withUn g (isIn (named d))) a s ro) (itemsIn p (storeAll storeView (take n ss) v)) lost (λ e y l q. items-same e y (named-out p r d e l q)) off (inr refl)) refl
+      (shape-cut p r v ss ms (lk .shape) rebuild-follows n) (bytes-cut p r v ss ms (lk .shape) rebuild-follows (isIn (named d)) n (kD .bytes))
     where
       items-same : (e y : ℕ) → e ≢ d → itemsIn p v e y ≡ itemsIn p (storeAll storeView (take n ss) v) e y
       items-same e y q = items-in p v e y ∙ ap (itemsOf p) (sym (stores-other (take n ss) v (lk .shape) (sound-take p v ss n (rebuild-follows .sound)) (λ x i. on-drive x (has-take n ss x i)) e y q))
@@ -231,11 +213,12 @@ module _ (p : Params) (r : Ranged p) (v : View) (g : Ghost) (a : List Val) (s : 
   shape-u : Shape p u
   shape-u = shape-after p r v ss ms (lk .shape) rebuild-follows
 
-  items-u : itemsIn p u ≡ applyAll (applyAll (itemsIn p v) (map (λ z. m-reset d z) (below (p .Z)))) (flat (λ z. puts d z (zoneItems p r (withUn g d) v kD d (inr refl) z)) (remaining p v (named d)))
+  items-u : itemsIn p u ≡ applyAll (applyAll (itemsIn p v) (map (λ z. m-reset d z) (below (p .Z)))) (flat (λ z. puts d z (zoneItems p r (withUn g (isIn (named d))) v kD (named d) cD d z))
+      (remaining p v (named d)))
   items-u =
       follows-all p r v ss ms (lk .shape) rebuild-follows
       ∙ applyAll-append (itemsIn p v) (map (λ z. m-reset d z) (below (p .Z)))
-      (flat (λ z. puts d z (zoneItems p r (withUn g d) v kD d (inr refl) z)) (remaining p v (named d)))
+      (flat (λ z. puts d z (zoneItems p r (withUn g (isIn (named d))) v kD (named d) cD d z)) (remaining p v (named d)))
 
   emptied : (z : ℕ) → z < p .Z → applyAll (itemsIn p v) (map (λ z. m-reset d z) (below (p .Z))) d z ≡ []
   emptied z b = ap (λ (x : m-View). x d z) (sym (follows-all p r v (map (λ z. reset d z) (below (p .Z))) (map (λ z. m-reset d z) (below (p .Z))) (lk .shape) first))
@@ -246,37 +229,45 @@ module _ (p : Params) (r : Ranged p) (v : View) (g : Ghost) (a : List Val) (s : 
 
   full-u :
       (z : ℕ)
-      → R (parOf p r) (g .hd) (itemsIn p v) d z
-      → itemsIn p u d z ≡ column (parOf p r) (withUn g d) (itemsIn p v) (plan p r (withUn g d) v kD dl) z (plan p r (withUn g d) v kD dl .foots z)
+      → R (parOf p r) (g .hd) (itemsIn p v) (isIn (named d)) z
+      → itemsIn p u d z ≡ column (parOf p r) (withUn g (isIn (named d))) (itemsIn p v) (plan p r g (named d) (ch .0) v kD) d z (plan p r g (named d) (ch .0) v kD .foots z)
   full-u z rr =
-      let i : Has z (remaining p v (named d)) = has-remaining p r (withUn g d) v kD d (inr refl) z rr in
+      let i : Has z (remaining p v (named d)) = has-remaining p r (withUn g (isIn (named d))) v kD (named d) cD z rr in
       ap (λ (x : m-View). x d z) items-u
-      ∙ flat-one (zoneItems p r (withUn g d) v kD d (inr refl)) d (remaining p v (named d)) (remaining-rising p v (named d)) (applyAll (itemsIn p v) (map (λ z. m-reset d z) (below (p .Z)))) z i
-      ∙ ap (λ (x : List Item). x ++ zoneItems p r (withUn g d) v kD d (inr refl) z) (emptied z (seg-low p r (withUn g d) v kD d (inr refl) z i))
-      ∙ sym (column-foots p r (withUn g d) v kD dl z i)
+      ∙ flat-one (zoneItems p r (withUn g (isIn (named d))) v kD (named d) cD d) d (remaining p v (named d)) (remaining-rising p v (named d))
+      (applyAll (itemsIn p v) (map (λ z. m-reset d z) (below (p .Z)))) z i
+      ∙ ap (λ (x : List Item). x ++ zoneItems p r (withUn g (isIn (named d))) v kD (named d) cD d z) (emptied z (seg-low p r (withUn g (isIn (named d))) v kD (named d) cD z i))
+      ∙ sym (column-foots p r g (named d) (ch .0) v kD d z i)
 
-  none-u : (z : ℕ) → (R (parOf p r) (g .hd) (itemsIn p v) d z → ⊥) → itemsIn p u d z ≡ []
+  none-u : (z : ℕ) → (R (parOf p r) (g .hd) (itemsIn p v) (isIn (named d)) z → ⊥) → itemsIn p u d z ≡ []
   none-u z n = go (decLt z (p .Z))
     where
       go : Dec (z < p .Z) → itemsIn p u d z ≡ []
       go (no b) = outside-nothing p u shape-u d z (λ x y. b y)
       go (yes b) = ap (λ (x : m-View). x d z) items-u
-          ∙ flat-none (zoneItems p r (withUn g d) v kD d (inr refl)) d (remaining p v (named d))
-          (applyAll (itemsIn p v) (map (λ z. m-reset d z) (below (p .Z)))) z (λ i. n (seg-R p r (withUn g d) v kD d (inr refl) z i))
+          ∙ flat-none (zoneItems p r (withUn g (isIn (named d))) v kD (named d) cD d) d (remaining p v (named d))
+          (applyAll (itemsIn p v) (map (λ z. m-reset d z) (below (p .Z)))) z (λ i. n (seg-R p r (withUn g (isIn (named d))) v kD (named d) cD z i))
           ∙ emptied z b
 
-  same-u : (e y : ℕ) → e < p .N → e ≢ d → itemsIn p v e y ≡ itemsIn p u e y
-  same-u e y l n = items-in p v e y ∙ ap (itemsOf p) (sym (stores-other ss v (lk .shape) (rebuild-follows .sound) on-drive e y n)) ∙ sym (items-in p u e y)
+  same-u : (e y : ℕ) → e < p .N → isIn (named d) e ≡ false → itemsIn p v e y ≡ itemsIn p u e y
+  same-u e y l n =
+      items-in p v e y
+      ∙ ap (itemsOf p) (sym (stores-other ss v (lk .shape) (rebuild-follows .sound) on-drive e y (named-out p r d e l n))) ∙ sym (items-in p u e y)
 
-  rebuilt? : m-Rebuilt (parOf p r) (withUn g d) (itemsIn p v) (itemsIn p u)
-  rebuilt? = m-stored (parOf p r) (withUn g d) (itemsIn p v) (plan p r (withUn g d) v kD dl) (itemsIn p u) (kD .facts) dl same-u full-u none-u
+  rebuilt? : m-Rebuilt (parOf p r) (withUn g (isIn (named d))) (itemsIn p v) (itemsIn p u)
+  rebuilt? = m-stored (parOf p r) (withUn g (isIn (named d))) (itemsIn p v) π (itemsIn p u) (kD .facts) same-u
+      (λ e z i rr. subst (λ (x : ℕ). itemsIn p u x z ≡ column (parOf p r) gD (itemsIn p v) π x z (π .foots z)) (sym (named-in p r d e (i .0) (i .1))) (full-u z rr))
+      (λ e z i n. subst (λ (x : ℕ). itemsIn p u x z ≡ []) (sym (named-in p r d e (i .0) (i .1))) (none-u z n))
+    where
+      π : RPlan (parOf p r) gD (itemsIn p v)
+      π = plan p r g (named d) (ch .0) v kD
 
   -- the byte facts hold of all drives
-  bytes-u : BytesOk p (p .N) u
+  bytes-u : BytesOk p (isIn 0) u
   bytes-u e l n = go (ℕ-discrete e d)
     where
       go : Dec (e ≡ d) → BytesOn p u e
-      go (no q) = bytes-after p r v ss ms (lk .shape) rebuild-follows d (kD .bytes) e l q
+      go (no q) = bytes-after p r v ss ms (lk .shape) rebuild-follows (isIn (named d)) (kD .bytes) e l (named-other p r d e l q)
       go (yes q) = subst (BytesOn p u) (sym q) drive
         where
           ts : List Store
@@ -300,7 +291,7 @@ module _ (p : Params) (r : Ranged p) (v : View) (g : Ghost) (a : List Val) (s : 
               split : u ≡ storeAll storeView ts v₁
               split = unfold rebuildStores in storeAll-append storeView (map (λ z. reset d z) (below (p .Z))) (flat (rebuiltZone p d) (segments p v (named d))) v
 
-  pub rebuild-end : Linked p r u (withUn (withUn g d) (p .N)) a s ro
+  pub rebuild-end : Linked p r u (withUn (withUn g (isIn (named d))) (isIn 0)) a s ro
   rebuild-end =
-      linked-step p r v u (withUn g d) (withUn (withUn g d) (p .N)) a a s s ro ro (itemsIn p u) started
-      (rebuild-done (stateOn p v (withUn g d) a s ro) (itemsIn p u) (p .N) (omega arith) dl rebuilt?) refl shape-u bytes-u
+      linked-step p r v u (withUn g (isIn (named d))) (withUn (withUn g (isIn (named d))) (isIn 0)) a a s s ro ro (itemsIn p u) started
+      (rebuild-done (stateOn p v (withUn g (isIn (named d))) a s ro) (itemsIn p u) (isIn 0) (none-out p r) lost rebuilt?) refl shape-u bytes-u

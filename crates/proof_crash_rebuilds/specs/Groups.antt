@@ -1,8 +1,7 @@
 -- Where a stripe is, all stripes of the groups before it are: so counted stripes in rising order lie at offsets of their groups. Assumes nothing.
 use mathlib.Core.Path.{_≡_, refl, sym, ap, _∙_, subst}
 use mathlib.Core.List.{List}
-use mathlib.Core.Bool.{true}
-use mathlib.Core.Logic.{_≢_}
+use mathlib.Core.Bool.{true, false}
 use Prim.Native.Nat.{ℕ, suc, _+_, _-_, _*_, _%_, _≤_, _<_}
 use native.Mathlib.Nat.{mod-lt, suc-mul, mul-le-mul-right, div-add-mod', div-lt-iff-lt-mul}
 use native.Mathlib.Decide.{decLt}
@@ -12,13 +11,12 @@ use lib.Arith.{digits-div}
 use Rattle.spec.specs.declared.Params.{Params}
 use Rattle.spec.specs.Drives.{View, zoneAt, sealedIn, dataStored}
 use Rattle.spec.specs.Layout.{group, recordOf}
-use Rattle.spec.specs.Lists.{below}
-use Rattle.spec.specs.Params.{capacity, named}
+use Rattle.spec.specs.Lists.{below, isIn}
+use Rattle.spec.specs.Params.{capacity}
 use Rattle.spec.specs.Read.Found.{here}
 use Rattle.spec.specs.Segments.{Segment, segmentOf, offsetOn, hasChunk, counts, counted}
 use Rattle.law_basic.specs.Geometry.{Ranged}
 use Rattle.law_drives.specs.Counting.{pigeon}
-use Rattle.proof_crash_machine.specs.Exec.{low}
 use Rattle.proof_crash_machine.specs.Facts.{Ghost, Choice, Off}
 use Rattle.proof_crash_machine.specs.Put.{off-in}
 use Rattle.proof_crash_machine.specs.Val.{Val}
@@ -33,9 +31,9 @@ use Rattle.proof_crash_items.specs.Stripes.{stored-below, sealed-full, offset-o
 use Rattle.proof_crash_items.specs.ZoneBytes.{blockIn}
 use Rattle.proof_crash_rebuilds.specs.Sorted.{rising-index, rising-least, onto}
 
-module _ (p : Params) (r : Ranged p) (g : Ghost) (v : View) (k : OnDrives p r g v) (m : ℕ) (c : Choice (parOf p r) (g .un) m) where
+module _ (p : Params) (r : Ranged p) (g : Ghost) (v : View) (k : OnDrives p r g v) (m : ℕ) (c : Choice (parOf p r) (g .un) (isIn m)) where
   abbrev G : ℕ → Segment
-  G z = segmentOf p v (named m) z
+  G z = segmentOf p v m z
 
   gp : 0 < p .G
   gp = omega (arith, r .group-low)
@@ -56,7 +54,7 @@ module _ (p : Params) (r : Ranged p) (g : Ghost) (v : View) (k : OnDrives p r g 
       let b : suc q * p .G ≤ group p s * p .G = mul-le-mul-right (p .G) l in
       omega (arith, a .0, b, suc-mul q (p .G))
 
-  module _ (z d : ℕ) (zb : z < p .Z) (l : d < p .N) (n : d ≢ m) where
+  module _ (z d : ℕ) (zb : z < p .Z) (l : d < p .N) (n : isIn m d ≡ false) where
     at : ℕ → ℕ
     at o = recordOf (blockIn (zoneAt v d z) (suc o) .spare) .stripe
 
@@ -128,19 +126,19 @@ module _ (p : Params) (r : Ranged p) (g : Ghost) (v : View) (k : OnDrives p r g 
 
   -- ---- counted stripes
   abbrev cs : ℕ → List ℕ
-  cs z = counted p (named m) (G z)
+  cs z = counted p m (G z)
 
-  pub counted-rising : (z : ℕ) → Rising (counted p (named m) (G z))
-  counted-rising z = unfold counted in rising-keep (counts p (named m) (G z)) (below (p .S)) (rising-below (p .S))
+  pub counted-rising : (z : ℕ) → Rising (counted p m (G z))
+  counted-rising z = unfold counted in rising-keep (counts p m (G z)) (below (p .S)) (rising-below (p .S))
 
-  pub earlier-counts : (z s t : ℕ) → z < p .Z → Has s (counted p (named m) (G z)) → t < p .S → group p t < group p s → Has t (counted p (named m) (G z))
+  pub earlier-counts : (z s t : ℕ) → z < p .Z → Has s (counted p m (G z)) → t < p .S → group p t < group p s → Has t (counted p m (G z))
   earlier-counts z s t zb h tl e = has-counted p r g v k m c z t tl (λ d l n. earlier z d zb l n s t (counted-has p r g v k m c z s h .1 d l n) tl e)
 
   pub counted-group :
       (z j : ℕ)
       → z < p .Z
-      → j < length (counted p (named m) (G z))
-      → (getD (counted p (named m) (G z)) j 0 < p .S) × (j < p .S) × (group p (getD (counted p (named m) (G z)) j 0) ≡ group p j)
+      → j < length (counted p m (G z))
+      → (getD (counted p m (G z)) j 0 < p .S) × (j < p .S) × (group p (getD (counted p m (G z)) j 0) ≡ group p j)
   counted-group z j zb jl =
       let s : ℕ = getD (cs z) j 0 in
       let h : Has s (cs z) = getD-has (cs z) j 0 jl in
@@ -168,9 +166,9 @@ module _ (p : Params) (r : Ranged p) (g : Ghost) (v : View) (k : OnDrives p r g 
       index t (no b) h = (0, λ x. absurd (b x))
 
   -- a sealed segment has every stripe
-  pub sealed-counts : (z s : ℕ) → z < p .Z → sealedIn p v (named m) z ≡ true → s < p .S → Has s (counted p (named m) (G z))
+  pub sealed-counts : (z s : ℕ) → z < p .Z → sealedIn p v m z ≡ true → s < p .S → Has s (counted p m (G z))
   sealed-counts z s zb e sl = has-counted p r g v k m c z s sl (λ d l n.
-      let t : d ≢ g .un = trusted p r g v k m c d l n in
+      let t : g .un d ≡ false = trusted p r g v k m c d l n in
       let b : length (itemsIn p v d z) ≡ capacity p = zone-len p r g v k d z l t zb ∙ sealed-full p r g v k m c z d e l n in
       let x : (x : Val) × In (chunk s x) (itemsIn p v d z) = zone-facts p r g v k d z l t .sealed (omega (arith, b, capacity-few p r)) s sl in
       in-has-chunk p r g v k m c z s d (x .0) zb l n (x .1))

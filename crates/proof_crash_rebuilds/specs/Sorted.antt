@@ -11,7 +11,6 @@ use lib.Dec.{ltb}
 use lib.ListN.{length, getD}
 use Rattle.law_drives.specs.Counting.{pigeon}
 use Rattle.law_drives.specs.Tests.{cond-true, cond-false}
-use Rattle.proof_crash_machine.specs.Exec.{low}
 use Rattle.proof_crash_items.specs.Member.{getD-has}
 use Rattle.proof_crash_items.specs.Refuse.{Rising}
 

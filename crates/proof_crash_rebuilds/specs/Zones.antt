@@ -12,7 +12,7 @@ use Rattle.spec.specs.declared.Params.{Params}
 use Rattle.spec.specs.Drives.{Chunk, mkChunk, Zone, View, zoneAt, pointerAt, chunkAt, Store, putZone, storeView, storeAll, zoneOn, dataStored, zeroSpare}
 use Rattle.spec.specs.Drives.Store.{put}
 use Rattle.spec.specs.Layout.{headerBlock, headerSerial, headerCopied, recordBytes, recordOf, footerBlock}
-use Rattle.spec.specs.Lists.{upFrom, below}
+use Rattle.spec.specs.Lists.{upFrom, below, isIn}
 use Rattle.spec.specs.Params.{footers, named, present}
 use Rattle.spec.specs.Parity.{Piece, parityRec, parityPiece}
 use Rattle.spec.specs.Rebuild.{rebuiltZone}
@@ -21,22 +21,20 @@ use Rattle.law_basic.specs.Geometry.{Ranged}
 use Rattle.law_basic.specs.Ranges.{length-below, map-map, getD-map, length-keep}
 use Rattle.law_basic.specs.Xor.{length-parity}
 use Rattle.proof_crash_machine.specs.Facts.{Ghost, Choice}
-use Rattle.proof_crash_machine.specs.History.{at}
-use Rattle.proof_crash_items.specs.ZoneBytes.Kind.{footer, header, datum}
-use Rattle.proof_crash_machine.specs.Image.{items}
 use Rattle.proof_crash_machine.specs.Rebuild2.{puts}
 use Rattle.proof_crash_machine.specs.Steps.{list}
 use Rattle.proof_crash_machine.specs.View.{Item, Store as m-Store}
 use Rattle.proof_crash_machine.specs.View.Item.{hdr, chunk, foot}
 use Rattle.proof_crash_machine.specs.View.Store.{put as m-put}
+use Rattle.proof_crash_items.specs.ZoneBytes.Kind.{footer, header, datum}
 use Rattle.proof_crash_items.specs.Codec.{Wide}
 use Rattle.proof_crash_items.specs.Items.{valueOf, itemAt, item-foot, storeItem, storeItems}
 use Rattle.proof_crash_items.specs.Member.{Has, append-has, below-has, has-below, map-has, getD-has}
-use Rattle.proof_crash_items.specs.Named.{present-has, low-drive}
+use Rattle.proof_crash_items.specs.Named.{present-has, low-drive, named-self}
 use Rattle.proof_crash_items.specs.Ranges.{capacity-few, parOf}
 use Rattle.proof_crash_items.specs.Refuse.{rising-below}
-use Rattle.proof_crash_items.specs.SegFacts.{segment-fields, seg-low, begun-on, serial-is, copied-is}
-use Rattle.proof_crash_items.specs.Segs.{OnDrives, zone-bytes, trusted}
+use Rattle.proof_crash_items.specs.SegFacts.{segment-fields, seg-low, begun-on, serial-is, copied-is, seg-used}
+use Rattle.proof_crash_items.specs.Segs.{OnDrives, zone-bytes, trusted, used-zones}
 use Rattle.proof_crash_items.specs.Shape.{Shape, zone-set-other, ZoneShape, shape-zone, shape-store, put-at, put-pointer}
 use Rattle.proof_crash_items.specs.Sound.{Sound, AllSound, sound-fits, Follows, follows-nil, follows-cons, follows-append, store-put, follows-list}
 use Rattle.proof_crash_items.specs.Stripes.{stored-below, pointer-is, offset-on, stored-piece, stored-long, counted-has, pieceAt, piece-lost}
@@ -80,13 +78,14 @@ on-other p r d z (s ∷ ss) v h f a l e y n =
     one : (b : List ℕ) × (t : List ℕ) × (s ≡ put d z b t) → zoneAt (storeView s v) e y ≡ zoneAt v e y
     one (b, t, q) = ap (λ (x : Store). zoneAt (storeView x v) e y) q ∙ (unfold storeView in zone-set-other p v h d z (putZone b t (zoneAt v d z)) l e y n)
 
--- what zone z gets
-unfoldable pub zoneItems : (p : Params) (r : Ranged p) (g : Ghost) (v : View) (k : OnDrives p r g v) (d : ℕ) (c : Choice (parOf p r) (g .un) d) → ℕ → List Item
-zoneItems p r g v k d c z =
-    hdr (g .hd .ser z) (g .hd .cop z) ∷ (map (λ s. chunk s (pieceAt p r g v k d c z s d)) (counted p (named d) (segmentOf p v (named d) z)) ++ cond
-    (segmentOf p v (named d) z .full) (map foot (below (footers p))) [])
+-- what zone z of drive d gets, where the drives m are missing
+unfoldable pub zoneItems : (p : Params) (r : Ranged p) (g : Ghost) (v : View) (k : OnDrives p r g v) (m : ℕ) (c : Choice (parOf p r) (g .un) (isIn m)) → ℕ → ℕ → List Item
+zoneItems p r g v k m c d z =
+    hdr (g .hd .ser z) (g .hd .cop z) (g .hd .zn z) ∷ (map (λ s. chunk s (pieceAt p r g v k m c z s d)) (counted p m (segmentOf p v m z)) ++ cond
+    (segmentOf p v m z .full) (map foot (below (footers p))) [])
 
-module _ (p : Params) (r : Ranged p) (g : Ghost) (v : View) (k : OnDrives p r g v) (d : ℕ) (c : Choice (parOf p r) (g .un) d) (dl : d < p .N) (z : ℕ) (i : Has z (remaining p v (named d))) where
+module _ (p : Params) (r : Ranged p) (g : Ghost) (v : View) (k : OnDrives p r g v) (d : ℕ) (c : Choice (parOf p r) (g .un) (isIn (named d))) (dl : d < p .N) (z : ℕ)
+    (i : Has z (remaining p v (named d))) where
   abbrev G : Segment
   G = segmentOf p v (named d) z
 
@@ -94,16 +93,16 @@ module _ (p : Params) (r : Ranged p) (g : Ghost) (v : View) (k : OnDrives p r g 
   cs = counted p (named d) G
 
   zb : z < p .Z
-  zb = seg-low p r g v k d c z i
+  zb = seg-low p r g v k (named d) c z i
 
   abbrev piece : ℕ → Piece
   piece s = pieceOf p (named d) (segmentOf p v (named d) z) s d
 
-  here? : (s e : ℕ) → Has s (counted p (named d) G) → e < p .N → e ≢ d → hasChunk G s e ≡ true
-  here? s e h l n = counted-has p r g v k d c z s h .1 e l n
+  here? : (s e : ℕ) → Has s (counted p (named d) G) → e < p .N → isIn (named d) e ≡ false → hasChunk G s e ≡ true
+  here? s e h l n = counted-has p r g v k (named d) c z s h .1 e l n
 
   lost : (s : ℕ) → piece s ≡ parityPiece p s (map (storedPiece G s) (present p (named d)))
-  lost s = piece-lost p r g v k d c z s dl
+  lost s = piece-lost p r g v k (named d) c z s d (named-self p r d dl)
 
   pub piece-length : (s : ℕ) → Has s (counted p (named d) G) → length (piece s .block) ≡ p .B
   piece-length s h = ap (λ (q : Piece). length (q .block)) (lost s) ∙ long
@@ -111,22 +110,24 @@ module _ (p : Params) (r : Ranged p) (g : Ghost) (v : View) (k : OnDrives p r g 
       long : length (parityPiece p s (map (storedPiece G s) (present p (named d))) .block) ≡ p .B
       long = unfold parityPiece in length-parity (p .B) (map (λ (q : Piece). q .block) (map (storedPiece G s) (present p (named d))))
           (blocks-of-long (p .B) (map (storedPiece G s) (present p (named d))) (pieces-long (p .B) (storedPiece G s) (present p (named d))
-          (λ e m. stored-long p r g v k d c z s e zb (present-has p r d e m .0) (present-has p r d e m .1) (here? s e h (present-has p r d e m .0) (present-has p r d e m .1)))))
+          (λ e m. stored-long p r g v k (named d) c z s e zb (present-has p (named d) e m .0) (present-has p (named d) e m .1)
+          (here? s e h (present-has p (named d) e m .0) (present-has p (named d) e m .1)))))
 
   pub piece-fits : (s : ℕ) → Has s (counted p (named d) G) → Wide (piece s .rec)
   piece-fits s h =
-      subst (λ (q : Piece). Wide (q .rec)) (sym (lost s)) (parity-wide p s (map (storedPiece G s) (present p (named d))) (omega (arith, counted-has p r g v k d c z s h .0, r .stripes-high)) (λ q m.
+      subst (λ (q : Piece). Wide (q .rec)) (sym (lost s)) (parity-wide p s (map (storedPiece G s) (present p (named d)))
+      (omega (arith, counted-has p r g v k (named d) c z s h .0, r .stripes-high)) (λ q m.
       let e : (e : ℕ) × Has e (present p (named d)) × (q ≡ storedPiece G s e) = map-has (storedPiece G s) q (present p (named d)) m in
-      let l : (e .0 < p .N) × (e .0 ≢ d) = present-has p r d (e .0) (e .1) in
+      let l : (e .0 < p .N) × (isIn (named d) (e .0) ≡ false) = present-has p (named d) (e .0) (e .1) in
       subst (λ (x : Piece). Wide (x .rec)) (sym (e .2)) (wide-at (e .0) (l .0) (l .1))))
     where
-      wide-at : (e : ℕ) → e < p .N → e ≢ d → Wide (storedPiece G s e .rec)
+      wide-at : (e : ℕ) → e < p .N → isIn (named d) e ≡ false → Wide (storedPiece G s e .rec)
       wide-at e l n =
           let a : (offsetOn G e s < dataStored p (zoneAt v e z)) × (recordOf (blockIn (zoneAt v e z) (suc (offsetOn G e s)) .spare) .stripe ≡ s) =
-          offset-on p r g v k d c z s e zb l n (here? s e h l n) in
+          offset-on p r g v k (named d) c z s e zb l n (here? s e h l n) in
           let b : (offsetOn G e s < p .S) × (suc (offsetOn G e s) < zoneAt v e z .pointer) = stored-below p (zoneAt v e z) (offsetOn G e s) (a .0) in
-          subst (λ (q : Piece). Wide (q .rec)) (sym (stored-piece p r g v k d c z s e zb l n (here? s e h l n)))
-          (zone-bytes p r g v k e z l (trusted p r g v k d c e l n) zb .wide (offsetOn G e s) (b .0) (b .1))
+          subst (λ (q : Piece). Wide (q .rec)) (sym (stored-piece p r g v k (named d) c z s e zb l n (here? s e h l n)))
+          (zone-bytes p r g v k e z l (trusted p r g v k (named d) c e l n) zb .wide (offsetOn G e s) (b .0) (b .1))
 
   pub piece-number : (s : ℕ) → piece s .rec .stripe ≡ s
   piece-number s = ap (λ (q : Piece). q .rec .stripe) (lost s) ∙ is
@@ -135,9 +136,9 @@ module _ (p : Params) (r : Ranged p) (g : Ghost) (v : View) (k : OnDrives p r g 
       is = unfold parityPiece parityRec in refl
 
   abbrev chunkIt : ℕ → Item
-  chunkIt s = chunk s (pieceAt p r g v k d c z s d)
+  chunkIt s = chunk s (pieceAt p r g v k (named d) c z s d)
 
-  chunk-is : (s : ℕ) → chunk (piece s .rec .stripe) (valueOf (piece s .block) (piece s .rec)) ≡ chunk s (pieceAt p r g v k d c z s d)
+  chunk-is : (s : ℕ) → chunk (piece s .rec .stripe) (valueOf (piece s .block) (piece s .rec)) ≡ chunk s (pieceAt p r g v k (named d) c z s d)
   chunk-is s = ap₂ chunk (piece-number s) (unfold pieceAt pieceValue in refl)
 
   -- ---- chunks
@@ -197,13 +198,13 @@ module _ (p : Params) (r : Ranged p) (g : Ghost) (v : View) (k : OnDrives p r g 
 
   -- ---- header
   abbrev hItem : Item
-  hItem = hdr (g .hd .ser z) (g .hd .cop z)
+  hItem = hdr (g .hd .ser z) (g .hd .cop z) (g .hd .zn z)
 
   wide-heads : (G .serial < 256 ^ 8) × (G .copied < 256 ^ 8)
   wide-heads =
-      let e : (lowDrive p (named d) < p .N) × (lowDrive p (named d) ≢ d) = low-drive p r d in
-      let t : lowDrive p (named d) ≢ g .un = trusted p r g v k d c (lowDrive p (named d)) (e .0) (e .1) in
-      let b : 0 < pointerAt v (lowDrive p (named d)) z = begun-on p r g v k d c z i (lowDrive p (named d)) (e .0) (e .1) in
+      let e : (lowDrive p (named d) < p .N) × (isIn (named d) (lowDrive p (named d)) ≡ false) = low-drive p (named d) r (c .0) in
+      let t : g .un (lowDrive p (named d)) ≡ false = trusted p r g v k (named d) c (lowDrive p (named d)) (e .0) (e .1) in
+      let b : 0 < pointerAt v (lowDrive p (named d)) z = begun-on p r g v k (named d) c z i (lowDrive p (named d)) (e .0) (e .1) in
       let q : (headerSerial (blockIn (zoneAt v (lowDrive p (named d)) z) 0 .block) < 256 ^ 8) × (headerCopied (blockIn (zoneAt v (lowDrive p (named d)) z) 0 .block) < 256 ^ 8) =
       zone-bytes p r g v k (lowDrive p (named d)) z (e .0) t zb .serials (subst (λ (x : ℕ). 0 < x) (sym (pointer-is v (lowDrive p (named d)) z)) b) in
       reveal q
@@ -229,10 +230,10 @@ module _ (p : Params) (r : Ranged p) (g : Ghost) (v : View) (k : OnDrives p r g 
       )
     where
       kd : Kind p d z (zoneAt w d z) (headerBlock p d z (G .serial) (G .copied)) zeroSpare
-      kd = header (G .serial) (G .copied) (pointer-is w d z ∙ e) (wide-heads .0) (wide-heads .1)
+      kd = header (G .serial) (G .copied) (pointer-is w d z ∙ e) (omega (arith, zb, r .zones-high)) (wide-heads .0) (wide-heads .1)
 
       item-is : kindItem p d z (zoneAt w d z) (headerBlock p d z (G .serial) (G .copied)) zeroSpare kd ≡ hItem
-      item-is = unfold kindItem in ap₂ hdr (serial-is p r g v k d c z i) (copied-is p r g v k d c z i)
+      item-is = unfold kindItem in λ j. hdr (serial-is p r g v k (named d) c z i j) (copied-is p r g v k (named d) c z i j) (sym (used-zones p r g v k z (seg-used p r g v k (named d) c z i)) j)
 
   -- ---- footers
   abbrev made : List (List ℕ)
@@ -290,8 +291,8 @@ module _ (p : Params) (r : Ranged p) (g : Ghost) (v : View) (k : OnDrives p r g 
           ∙ item-foot p (p .S + j) (mkChunk (footerBlock p made j) zeroSpare) (omega arith) ∙ ap foot (let e : p .S + j - p .S ≡ j = omega arith in e)
 
   all-S : G .full ≡ true → length (counted p (named d) G) ≡ p .S
-  all-S e = ap length (rising-same cs (below (p .S)) (counted-rising p r g v k d c z) (rising-below (p .S)) (λ s h. has-below s (p .S) (counted-has p r g v k d c z s h .0))
-      (λ s h. sealed-counts p r g v k d c z s zb (sym (segment-fields p r g v k d c z .3) ∙ e) (below-has s (p .S) h))) ∙ length-below (p .S)
+  all-S e = ap length (rising-same cs (below (p .S)) (counted-rising p r g v k (named d) c z) (rising-below (p .S)) (λ s h. has-below s (p .S) (counted-has p r g v k (named d) c z s h .0))
+      (λ s h. sealed-counts p r g v k (named d) c z s zb (sym (segment-fields p r g v k (named d) c z .3) ∙ e) (below-has s (p .S) h))) ∙ length-below (p .S)
 
   abbrev fs : List Store
   fs = map (λ j. put d z (footerBlock p made j) zeroSpare) (below (footers p))
@@ -312,11 +313,11 @@ module _ (p : Params) (r : Ranged p) (g : Ghost) (v : View) (k : OnDrives p r g 
       (map (putPiece d x) (map piece cs) ++ cond (G .full) (map (λ j. put d x (footerBlock p made j) zeroSpare) (below (footers p))) [])) seg-z
     where
       seg-z : zoneOn (G .seg) d ≡ z
-      seg-z = unfold zoneOn in segment-fields p r g v k d c z .0
+      seg-z = unfold zoneOn in segment-fields p r g v k (named d) c z .0
 
-  pub zone-follows : (w : View) → Shape p w → pointerAt w d z ≡ 0 → Follows p w (rebuiltZone p d G) (puts d z (zoneItems p r g v k d c z))
+  pub zone-follows : (w : View) → Shape p w → pointerAt w d z ≡ 0 → Follows p w (rebuiltZone p d G) (puts d z (zoneItems p r g v k (named d) c d z))
   zone-follows w h e =
-      subst (λ (x : List Store). Follows p w x (puts d z (zoneItems p r g v k d c z))) (sym rebuilt-is) (subst
+      subst (λ (x : List Store). Follows p w x (puts d z (zoneItems p r g v k (named d) c d z))) (sym rebuilt-is) (subst
       (Follows p w (hs ∷ (map (putPiece d z) (map piece cs) ++ cond (G .full) fs []))) (sym items-are)
       (follows-cons p w hs (map (putPiece d z) (map piece cs) ++ cond (G .full) fs []) (m-put d z hItem)
       (puts d z (map chunkIt cs) ++ puts d z (cond (G .full) (map foot (below (footers p))) [])) (a .0) (a .1)
@@ -329,7 +330,7 @@ module _ (p : Params) (r : Ranged p) (g : Ghost) (v : View) (k : OnDrives p r g 
       b : Follows p (storeView hs w) (map (putPiece d z) (map piece cs)) (puts d z (map chunkIt cs)) × Rows (length cs) (storeAll storeView (map (putPiece d z) (map piece cs)) (storeView hs w))
       b = chunks-follow cs 0 (λ t l. ap (λ (x : ℕ). getD cs x 0) (let q : t ≡ 0 + t = omega arith in q)) (omega arith) (storeView hs w) (a .2)
 
-      items-are : puts d z (zoneItems p r g v k d c z) ≡ m-put d z hItem ∷ (puts d z (map chunkIt cs) ++ puts d z (cond (G .full) (map foot (below (footers p))) []))
+      items-are : puts d z (zoneItems p r g v k (named d) c d z) ≡ m-put d z hItem ∷ (puts d z (map chunkIt cs) ++ puts d z (cond (G .full) (map foot (below (footers p))) []))
       items-are = unfold zoneItems puts in ap (λ (l : List m-Store). m-put d z hItem ∷ l) (puts-append d z (map chunkIt cs) (cond (G .full) (map foot (below (footers p))) []))
 
   -- all of it on zone z of drive d

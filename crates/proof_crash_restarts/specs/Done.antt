@@ -2,16 +2,14 @@
 use mathlib.Core.Path.{_≡_, refl, subst}
 use mathlib.Core.List.{List}
 use mathlib.Core.Bool.{Bool, true, false}
-use mathlib.Core.Logic.{inr}
 use Prim.Native.Nat.{ℕ, _≤_, _<_}
 use lib.ListN.{set}
 use Rattle.spec.specs.declared.Params.{Params}
 use Rattle.spec.specs.Drives.{View}
 use Rattle.spec.specs.Lists.Opt.{none}
-use Rattle.spec.specs.Params.{noDrive, named}
 use Rattle.spec.specs.Segments.{segments, candidates, greatestStamp, greatestSerial}
 use Rattle.law_basic.specs.Geometry.{Ranged}
-use Rattle.proof_crash_machine.specs.Facts.{Par, Ghost, InV, Stripe, Counted, Used, Whole as m-Whole, Ragged}
+use Rattle.proof_crash_machine.specs.Facts.{Ghost, InV, Stripe, Counted, Used, Whole as m-Whole, Ragged, None, none-fair, self-none}
 use Rattle.proof_crash_machine.specs.Facts.Pair.{alone}
 use Rattle.proof_crash_machine.specs.Finish.{Reads, upTo, finishing}
 use Rattle.proof_crash_machine.specs.Ghosts.{withPr}
@@ -19,8 +17,6 @@ use Rattle.proof_crash_machine.specs.History.{Mode, Dropping, Step, Claim, clai
 use Rattle.proof_crash_machine.specs.History.Mode.{run}
 use Rattle.proof_crash_machine.specs.History.Step.{restart-plain}
 use Rattle.proof_crash_machine.specs.Memory2.{restMem}
-use Rattle.proof_crash_machine.specs.OpenSeg.{opened}
-use Rattle.proof_crash_machine.specs.Reset.{same}
 use Rattle.proof_crash_machine.specs.Rest.{Unsealed}
 use Rattle.proof_crash_machine.specs.Val.{Val}
 use Rattle.proof_crash_machine.specs.View.Item.{chunk}
@@ -33,14 +29,14 @@ use Rattle.proof_crash_restarts.specs.Link.{stateOn, Linked, linked-step
 use Rattle.proof_crash_restarts.specs.Rest.{Settled}
 
 unfoldable pub stampTop : Params → View → ℕ
-stampTop p v = greatestStamp (candidates p (named noDrive) (segments p v (named noDrive)))
+stampTop p v = greatestStamp (candidates p 0 (segments p v 0))
 
 unfoldable pub serialTop : Params → View → ℕ
-serialTop p v = greatestSerial (segments p v (named noDrive))
+serialTop p v = greatestSerial (segments p v 0)
 
 -- what it read: at each address the greatest counted stamp
 unfoldable pub readOn : (p : Params) (r : Ranged p) (g : Ghost) (v : View) → Settled p r g v → ℕ → ℕ
-readOn p r g v k = stampRead p r g v (k .on) noDrive (none-choice p r g v k)
+readOn p r g v k = stampRead p r g v (k .on) 0 (none-choice p r g v k)
 
 pub record RestartDone (p : Params) (r : Ranged p) (g : Ghost) (a : List Val) (s : Bool) (u : View) : Type 0 where
   pub g′ : Ghost
@@ -54,22 +50,14 @@ pub record RestartDone (p : Params) (r : Ranged p) (g : Ghost) (a : List Val) (s
   -- what is claimed of it, for the history before it
   pub acked : (x : Val) → InV x a → x .stamp ≤ readOn p r g′ u set (x .addr)
   pub sent : (i : ℕ) → 0 < readOn p r g′ u set i → (x : Val) × InV x (g .sent) × (x .addr ≡ i) × (x .stamp ≡ readOn p r g′ u set i)
+  pub floor : (i : ℕ) → g .last i ≤ readOn p r g′ u set i
   pub still : s ≡ false → (i : ℕ) → readOn p r g′ u set i ≡ g .last i
 
 -- ---- nothing to rewrite
 
-module _ (p : Params) (r : Ranged p) (v u : View) (g : Ghost) (a : List Val) (s : Bool) (m : Mode) (k : Linked p r v g a s m) (none : p .N ≤ g .un)
+module _ (p : Params) (r : Ranged p) (v u : View) (g : Ghost) (a : List Val) (s : Bool) (m : Mode) (k : Linked p r v g a s m) (none : None (parOf p r) (g .un))
     (ms : List m-Store) (d : Dropping (parOf p r) g (itemsIn p v) none ms) (e : applyAll (itemsIn p v) ms ≡ itemsIn p u)
     (set : Settled p r (withPr g alone) u) (ord : InOrder p u) where
-  P : Par
-  P = parOf p r
-
-  g₁ : Ghost
-  g₁ = withPr g alone
-
-  K : ℕ → ℕ
-  K = readOn p r (withPr g alone) u set
-
   o : (b : Bool) × (z : ℕ) × (n : ℕ) × Opened p r (withPr g alone) u b z n
   o = opened-is p r (withPr g alone) u set ord
 
@@ -110,13 +98,14 @@ module _ (p : Params) (r : Ranged p) (v u : View) (g : Ghost) (a : List Val) (s 
       (λ t rd up rg wh bl sr. restart-plain (stateOn p v g a s m) none ms d t (readOn p r (withPr g alone) u set) (stampTop p u) rd up (o .0) (o .1) (o .2) (o .3 .few) rg wh bl (serialTop p u) sr)
       tid rd up (o .3 .lone) (o .3 .whole) (o .3 .low) sr
 
-  c : Claim (stateOn p v g a s m) (readOn p r (withPr g alone) u set)
-  c = claim (parOf p r) (stateOn p v g a s m) (k .inv) (withPr g alone) (itemsIn p u) (set .on .facts) refl refl refl refl (g .un) (inr refl) (readOn p r (withPr g alone) u set) rd
+  c : Claim (parOf p r) (stateOn p v g a s m) (g .un) (readOn p r (withPr g alone) u set)
+  c = claim (parOf p r) (stateOn p v g a s m) (k .inv) (withPr g alone) (itemsIn p u) (set .on .facts) refl refl refl refl refl (g .un) (self-none (parOf p r) (g .un) none)
+      (readOn p r (withPr g alone) u set) rd
 
   pub plain-done : RestartDone p r g a s u
   plain-done = record {
     g′ = withPr g alone;
-    same = record { un = refl; sent = refl; last = refl; base = refl; top = refl };
+    same = record { un = refl; said = refl; sent = refl; last = refl; base = refl; top = refl };
     set = set;
     b = o .0;
     z = o .1;
@@ -126,5 +115,6 @@ module _ (p : Params) (r : Ranged p) (v u : View) (g : Ghost) (a : List Val) (s 
         (run (restMem (o .0) (o .1) (o .2) (stampTop p u) (serialTop p u))) (itemsIn p u) k the-step refl (set .on .shape) (set .on .bytes);
     acked = c .acked;
     sent = c .sent;
-    still = c .same;
+    floor = c .floor;
+    still = λ q. c .same q (none-fair (parOf p r) (g .said) (g .un) none);
   }

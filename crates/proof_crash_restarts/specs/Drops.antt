@@ -3,35 +3,34 @@ use mathlib.Core.Path.{_≡_, refl, sym, ap, _∙_, subst}
 use mathlib.Core.List.{List, [], _∷_, map}
 use mathlib.Core.Bool.{true, not}
 use mathlib.Core.Logic.{inl, inr, _≢_}
-use Prim.Native.Nat.{ℕ, _≤_, _<_}
+use Prim.Native.Nat.{ℕ, _<_}
 use borrow.Author.Tests.{eq-eqb, ne-eqb}
-use native.Mathlib.Omega.{arith}
 use lib.Dec.{eqb}
+use lib.ListN.{length}
 use Rattle.spec.specs.declared.Params.{Params}
 use Rattle.spec.specs.Drives.{Zone, View, zoneAt, pointerAt, resetZone, storeView, storeAll, segmentNumbers, zoneOn, resetStores}
 use Rattle.spec.specs.Drives.Store.{reset}
 use Rattle.spec.specs.Lists.Opt.{none}
-use Rattle.spec.specs.Lists.{below, any, flat}
-use Rattle.spec.specs.Params.{noDrive, named, drivesOf}
+use Rattle.spec.specs.Lists.{below, any, flat, isIn}
+use Rattle.spec.specs.Params.{drivesOf}
 use Rattle.spec.specs.Restart.{freeZones, dropStores}
 use Rattle.spec.specs.Segments.{remaining, Segment, segmentOf, segments}
 use Rattle.law_basic.specs.Geometry.{Ranged}
 use Rattle.law_basic.specs.Stores.{storeAll-append}
 use Rattle.proof_crash_machine.specs.Drop.{DropOf}
 use Rattle.proof_crash_machine.specs.Exec.{not-2}
-use Rattle.proof_crash_machine.specs.Facts.{Ghost, Used}
+use Rattle.proof_crash_machine.specs.Facts.{Ghost, None}
 use Rattle.proof_crash_machine.specs.History.{Dropping}
-use Rattle.proof_crash_machine.specs.Image.{items}
-use Rattle.proof_crash_machine.specs.Reset.{gone}
 use Rattle.proof_crash_machine.specs.Rest.{InS, Dropped}
 use Rattle.proof_crash_machine.specs.View.{Store as m-Store, AllS}
 use Rattle.proof_crash_machine.specs.View.Store.{reset as m-reset}
 use Rattle.proof_crash_items.specs.Items.{itemsIn, storeItem, storeItems}
 use Rattle.proof_crash_items.specs.Member.{Has, keep-has, has-keep, below-has, has-below, has-any, none-any, flat-has, has-flat, map-has, has-map}
 use Rattle.proof_crash_items.specs.Ranges.{parOf}
-use Rattle.proof_crash_items.specs.Segs.{OnDrives, has-remaining, remaining-has}
+use Rattle.proof_crash_items.specs.Segs.{OnDrives, has-remaining, remaining-has, used-below}
 use Rattle.proof_crash_items.specs.Shape.{Shape, zone-set, zone-set-other, set-elim, shape-store, shape-stores}
 use Rattle.proof_crash_items.specs.Sound.{all-fit, Follows}
+use Rattle.proof_crash_items.specs.Named.{zero-choice, none-out}
 use Rattle.proof_crash_restarts.specs.Order.{all-S, in-S, follows-flat}
 use Rattle.proof_crash_restarts.specs.Same.{R-none-any}
 
@@ -161,32 +160,31 @@ module _ (p : Params) (r : Ranged p) where
 
 -- ---- the machine's Dropping
 
-module _ (p : Params) (r : Ranged p) (g : Ghost) (v : View) (k : OnDrives p r g v) (none : p .N ≤ g .un) where
-  far : p .N ≤ noDrive
-  unfolding noDrive
-  far = omega (arith, r .drives-high)
+module _ (p : Params) (r : Ranged p) (g : Ghost) (v : View) (k : OnDrives p r g v) (none : None (parOf p r) (g .un)) where
+  far : None (parOf p r) (isIn 0)
+  far = none-out p r
 
-  gone-of : (z : ℕ) → (Has z (remaining p v (named noDrive)) → ⊥) → Dropped (parOf p r) g (itemsIn p v) z
-  gone-of z n q = n (has-remaining p r g v k noDrive (inl none) z (R-none-any (parOf p r) (g .hd) (itemsIn p v) (g .un) noDrive none far z q))
+  gone-of : (z : ℕ) → (Has z (remaining p v 0) → ⊥) → Dropped (parOf p r) g (itemsIn p v) z
+  gone-of z n q = n (has-remaining p r g v k 0 (zero-choice p r (g .un) none) z (R-none-any (parOf p r) (g .hd) (itemsIn p v) (g .un) (isIn 0) none far z q))
 
-  of-gone : (z : ℕ) → Dropped (parOf p r) g (itemsIn p v) z → Has z (remaining p v (named noDrive)) → ⊥
-  of-gone z q i = q (R-none-any (parOf p r) (g .hd) (itemsIn p v) noDrive (g .un) far none z (remaining-has p r g v k noDrive (inl none) z i .1))
+  of-gone : (z : ℕ) → Dropped (parOf p r) g (itemsIn p v) z → Has z (remaining p v 0) → ⊥
+  of-gone z q i = q (R-none-any (parOf p r) (g .hd) (itemsIn p v) (isIn 0) (g .un) far none z (remaining-has p r g v k 0 (zero-choice p r (g .un) none) z i .1))
 
-  pub dropping : Dropping (parOf p r) g (itemsIn p v) none (dropItems p (segments p v (named noDrive)))
+  pub dropping : Dropping (parOf p r) g (itemsIn p v) none (dropItems p (segments p v 0))
   unfolding dropItems
   dropping = record { are = are; every = every }
     where
       ms : List m-Store
-      ms = flat (λ z. map (λ d. m-reset d z) (drivesOf p)) (freeZones p (segments p v (named noDrive)))
+      ms = flat (λ z. map (λ d. m-reset d z) (drivesOf p)) (freeZones p (segments p v 0))
 
-      are : AllS (DropOf (parOf p r) g none (Dropped (parOf p r) g (itemsIn p v))) (flat (λ z. map (λ d. m-reset d z) (drivesOf p)) (freeZones p (segments p v (named noDrive))))
+      are : AllS (DropOf (parOf p r) g none (Dropped (parOf p r) g (itemsIn p v))) (flat (λ z. map (λ d. m-reset d z) (drivesOf p)) (freeZones p (segments p v 0)))
       are = all-S (DropOf (parOf p r) g none (Dropped (parOf p r) g (itemsIn p v))) ms (λ s i.
-          let a : (z : ℕ) × Has z (freeZones p (segments p v (named noDrive))) × Has s (map (λ d. m-reset d z) (drivesOf p)) =
-          flat-has (λ z. map (λ d. m-reset d z) (drivesOf p)) s (freeZones p (segments p v (named noDrive))) i in
+          let a : (z : ℕ) × Has z (freeZones p (segments p v 0)) × Has s (map (λ d. m-reset d z) (drivesOf p)) =
+          flat-has (λ z. map (λ d. m-reset d z) (drivesOf p)) s (freeZones p (segments p v 0)) i in
           let b : (d : ℕ) × Has d (drivesOf p) × (s ≡ m-reset d (a .0)) = map-has (λ d. m-reset d (a .0)) s (drivesOf p) (a .2) in
-          (b .0, a .0, drives-low p r (b .0) (b .1), gone-of (a .0) (free-has p r v (named noDrive) (a .0) (a .1) .1), b .2))
+          (b .0, a .0, drives-low p r (b .0) (b .1), gone-of (a .0) (free-has p r v 0 (a .0) (a .1) .1), b .2))
 
-      every : (z : ℕ) → Used (parOf p r) (g .un) (itemsIn p v) z → Dropped (parOf p r) g (itemsIn p v) z → (d : ℕ) → d < p .N
-          → InS (m-reset d z) (flat (λ z. map (λ d. m-reset d z) (drivesOf p)) (freeZones p (segments p v (named noDrive))))
-      every z u q d l = in-S (m-reset d z) ms (has-flat (λ z. map (λ d. m-reset d z) (drivesOf p)) (m-reset d z) (freeZones p (segments p v (named noDrive))) z
-          (has-free p r v (named noDrive) z (k .facts .«open» .bound z u) (of-gone z q)) (has-map (λ d. m-reset d z) (drivesOf p) d (unfold drivesOf in has-below d (p .N) l)))
+      every : (z : ℕ) → Dropped (parOf p r) g (itemsIn p v) z → (d : ℕ) → d < p .N → 0 < length (itemsIn p v d z)
+          → InS (m-reset d z) (flat (λ z. map (λ d. m-reset d z) (drivesOf p)) (freeZones p (segments p v 0)))
+      every z q d l u = in-S (m-reset d z) ms (has-flat (λ z. map (λ d. m-reset d z) (drivesOf p)) (m-reset d z) (freeZones p (segments p v 0)) z
+          (has-free p r v 0 z (used-below p r g v k z (d, (l, none d l), u)) (of-gone z q)) (has-map (λ d. m-reset d z) (drivesOf p) d (unfold drivesOf in has-below d (p .N) l)))

@@ -15,31 +15,27 @@ use Rattle.spec.specs.Drives.Store.{put}
 use Rattle.spec.specs.Faults.{footersStored}
 use Rattle.spec.specs.Layout.{recordOf, footerBlock}
 use Rattle.spec.specs.Lists.Opt.{none}
-use Rattle.spec.specs.Lists.{upFrom, below, consIf, keep, flat}
-use Rattle.spec.specs.Params.{footers, capacity, noDrive, named, drivesOf}
+use Rattle.spec.specs.Lists.{upFrom, below, consIf, keep, flat, isIn}
+use Rattle.spec.specs.Params.{footers, capacity, drivesOf}
 use Rattle.spec.specs.Restart.{isWhole, missingFooters}
 use Rattle.spec.specs.Segments.{remaining, Segment, segmentOf, offsetOn, hasChunk, counts, counted}
 use Rattle.law_basic.specs.Geometry.{Ranged}
 use Rattle.law_basic.specs.Ranges.{length-below, map-map, getD-map-below, length-keep}
 use Rattle.law_drives.specs.Counting.{pigeon}
 use Rattle.law_drives.specs.Tests.{clash}
-use Rattle.proof_crash_machine.specs.Exec.{low}
 use Rattle.proof_crash_machine.specs.Facts.Pair.{alone}
 use Rattle.proof_crash_machine.specs.Facts.{Ghost, R, Stripe, Used}
 use Rattle.proof_crash_machine.specs.Ghosts.{withPr}
 use Rattle.proof_crash_machine.specs.History.Mode.{off}
-use Rattle.proof_crash_machine.specs.History.{at}
-use Rattle.proof_crash_items.specs.ZoneBytes.Kind.{footer}
 use Rattle.proof_crash_machine.specs.History.Step.{restart-footer}
 use Rattle.proof_crash_machine.specs.Put.{in-fwd, R-fwd as Put·R-fwd, Used-back as Put·Used-back}
-use Rattle.proof_crash_machine.specs.Reset.{same}
-use Rattle.proof_crash_machine.specs.Rewrite.{st, left}
 use Rattle.proof_crash_machine.specs.Val.{Val}
 use Rattle.proof_crash_machine.specs.View.{Item, View as m-View, after, In}
 use Rattle.proof_crash_machine.specs.View.Item.{chunk, foot}
+use Rattle.proof_crash_items.specs.ZoneBytes.Kind.{footer}
 use Rattle.proof_crash_items.specs.Items.{itemsOf, itemsIn, items-in}
 use Rattle.proof_crash_items.specs.Member.{Has, has-keep, below-has, has-below}
-use Rattle.proof_crash_items.specs.Named.{none-named, present-all}
+use Rattle.proof_crash_items.specs.Named.{present-all, zero-few}
 use Rattle.proof_crash_items.specs.Ranges.{parOf}
 use Rattle.proof_crash_items.specs.Segs.{zone-bytes, zone-len}
 use Rattle.proof_crash_items.specs.Shape.{Shape, zone-set, zone-set-other, shape-zone, shape-store}
@@ -71,9 +67,6 @@ keep-full {A} f (b ∷ l) e a i = go (f b) refl e i (keep-full f l)
         long e = unfold consIf in (let x : length (keep f l) ≡ suc (length l) = e in let y : ⊥ = omega (arith, x, length-keep f l) in y)
 
 module _ (p : Params) (r : Ranged p) (g₀ : Ghost) (a : List Val) (s : Bool) where
-  abbrev gA : Ghost
-  gA = withPr g₀ alone
-
   -- what holds after each store: the facts, and all stripes of o on every drive
   pub record Footing (o : ℕ) (w : View) : Type 0 where
     pub linked : Linked p r w (withPr g₀ alone) a s off
@@ -84,13 +77,7 @@ module _ (p : Params) (r : Ranged p) (g₀ : Ghost) (a : List Val) (s : Bool) wh
     foot-kind : (w : View) (d j : ℕ) → pointerAt w d o ≡ suc (p .S + j) → j < footers p → Kind p d o (zoneAt w d o) (footerBlock p (sparesIn p (zoneAt w d o)) j) zeroSpare
     foot-kind w d j e l = footer j (pointer-is w d o ∙ e) l
 
-    foot-view : View → ℕ → ℕ → View
-    foot-view w d j = storeView (put d o (footerBlock p (sparesIn p (zoneAt w d o)) j) zeroSpare) w
-
     module _ (w : View) (d j : ℕ) (k : Footing o w) (dl : d < p .N) (e : pointerAt w d o ≡ suc (p .S + j)) (jl : j < footers p) where
-      w′ : View
-      w′ = foot-view w d j
-
       sound : Sound p w (put d o (footerBlock p (sparesIn p (zoneAt w d o)) j) zeroSpare)
       sound = (dl, ob, foot-kind w d j e jl)
 
@@ -101,7 +88,7 @@ module _ (p : Params) (r : Ranged p) (g₀ : Ghost) (a : List Val) (s : Bool) wh
           is-foot = unfold kindItem foot-kind in refl
 
       len : length (itemsIn p w d o) ≡ suc (p .S + j)
-      len = zone-len p r (withPr g₀ alone) w (k .set .on) d o dl (omega (arith, dl, k .set .none)) ob ∙ e
+      len = zone-len p r (withPr g₀ alone) w (k .set .on) d o dl (k .set .none d dl) ob ∙ e
 
       shape′ : Shape p (storeView (put d o (footerBlock p (sparesIn p (zoneAt w d o)) j) zeroSpare) w)
       shape′ =
@@ -250,38 +237,38 @@ module _ (p : Params) (r : Ranged p) (g₀ : Ghost) (a : List Val) (s : Bool) wh
 
 -- ---- a whole segment
 
-module _ (p : Params) (r : Ranged p) (g : Ghost) (v : View) (k : Settled p r g v) (o : ℕ) (i : Has o (remaining p v (named noDrive))) (w : isWhole p (segmentOf p v (named noDrive) o) ≡ true) where
+module _ (p : Params) (r : Ranged p) (g : Ghost) (v : View) (k : Settled p r g v) (o : ℕ) (i : Has o (remaining p v 0)) (w : isWhole p (segmentOf p v 0 o) ≡ true) where
   abbrev G : Segment
-  G = segmentOf p v (named noDrive) o
+  G = segmentOf p v 0 o
 
   ob : o < p .Z
   ob = settled-used p r g v k o i .0
 
-  all-count : (s : ℕ) → s < p .S → Has s (counted p (named noDrive) G)
-  all-count s l = unfold counted in has-keep (counts p (named noDrive) G) s (below (p .S)) (has-below s (p .S) l) (keep-full (counts p (named noDrive) G) (below (p .S)) full s (has-below s (p .S) l))
+  all-count : (s : ℕ) → s < p .S → Has s (counted p 0 G)
+  all-count s l = unfold counted in has-keep (counts p 0 G) s (below (p .S)) (has-below s (p .S) l) (keep-full (counts p 0 G) (below (p .S)) full s (has-below s (p .S) l))
     where
-      full : length (keep (counts p (named noDrive) G) (below (p .S))) ≡ length (below (p .S))
+      full : length (keep (counts p 0 G) (below (p .S))) ≡ length (below (p .S))
       full = long ∙ sym (length-below (p .S))
         where
-          long : length (keep (counts p (named noDrive) G) (below (p .S))) ≡ p .S
-          long = subst (λ (n : ℕ). length (keep (counts p n G) (below (p .S))) ≡ p .S) (sym none-named) (unfold isWhole counted in eqb-true (length (keep (counts p 0 G) (below (p .S)))) (p .S) w)
+          long : length (keep (counts p 0 G) (below (p .S))) ≡ p .S
+          long = unfold isWhole counted in eqb-true (length (keep (counts p 0 G) (below (p .S)))) (p .S) w
 
   pub whole-stripes : (d t : ℕ) → d < p .N → t < p .S → (x : Val) × In (chunk t x) (itemsIn p v d o)
   whole-stripes d t l b =
-      let st : Stripe (parOf p r) (itemsIn p v) noDrive o t (pieceAt p r g v (k .on) noDrive (none-choice p r g v k) o t) =
-      counted-stripe p r g v (k .on) noDrive (none-choice p r g v k) o t ob (all-count t b) in
-      (pieceAt p r g v (k .on) noDrive (none-choice p r g v k) o t d, st .on d l (omega (arith, l, far-off p r g v k)))
+      let st : Stripe (parOf p r) (itemsIn p v) (isIn 0) o t (pieceAt p r g v (k .on) 0 (none-choice p r g v k) o t) =
+      counted-stripe p r g v (k .on) 0 (none-choice p r g v k) o t ob (all-count t b) in
+      (pieceAt p r g v (k .on) 0 (none-choice p r g v k) o t d, st .on d l (far-off p r g v k d l))
 
   -- its data blocks are all there
   pub whole-pointers : (d : ℕ) → d < p .N → pointerAt v d o ≡ suc (p .S + footersStored p (zoneAt v d o))
   whole-pointers d l =
-      let n : d ≢ noDrive = omega (arith, l, far-off p r g v k) in
-      let has : (t : ℕ) → t < p .S → hasChunk G t d ≡ true = λ t b. counted-has p r g v (k .on) noDrive (none-choice p r g v k) o t (all-count t b) .1 d l n in
+      let n : isIn 0 d ≡ false = far-off p r g v k d l in
+      let has : (t : ℕ) → t < p .S → hasChunk G t d ≡ true = λ t b. counted-has p r g v (k .on) 0 (none-choice p r g v k) o t (all-count t b) .1 d l n in
       let at : (t : ℕ) → t < p .S → (offsetOn G d t < dataStored p (zoneAt v d o)) × (recordOf (blockIn (zoneAt v d o) (suc (offsetOn G d t)) .spare) .stripe ≡ t) =
-      λ t b. offset-on p r g v (k .on) noDrive (none-choice p r g v k) o t d ob l n (has t b) in
+      λ t b. offset-on p r g v (k .on) 0 (none-choice p r g v k) o t d ob l n (has t b) in
       let q : p .S ≤ dataStored p (zoneAt v d o) = pigeon (p .S) (dataStored p (zoneAt v d o)) (λ t. offsetOn G d t) (λ t b. at t b .0)
       (λ s t a b e. sym (at s a .1) ∙ ap (λ (x : ℕ). recordOf (blockIn (zoneAt v d o) (suc x) .spare) .stripe) e ∙ at t b .1) in
-      let low : zoneAt v d o .pointer ≤ capacity p = zone-bytes p r g v (k .on) d o l (omega (arith, l, k .none)) ob .low in
+      let low : zoneAt v d o .pointer ≤ capacity p = zone-bytes p r g v (k .on) d o l (k .none d l) ob .low in
       sym (pointer-is v d o) ∙ exact (zoneAt v d o) q low
     where
       exact : (z : Zone) → p .S ≤ dataStored p z → z .pointer ≤ capacity p → z .pointer ≡ suc (p .S + footersStored p z)
@@ -310,33 +297,30 @@ module _ (p : Params) (r : Ranged p) (g : Ghost) (v : View) (k : Settled p r g v
 
 -- ---- once all footers stand, every segment is full
 
-module _ (p : Params) (r : Ranged p) (g₀ : Ghost) (a : List Val) (s : Bool) (v u : View) (k : Settled p r (withPr g₀ alone) v) (o : ℕ) (i : Has o (remaining p v (named noDrive)))
-    (un : segmentOf p v (named noDrive) o .full ≡ false) (q : Upto p r g₀ a s o (settled-used p r (withPr g₀ alone) v k o i .0) v (p .N) u) where
-  abbrev gB : Ghost
-  gB = withPr g₀ alone
-
-  all-full : (z : ℕ) → Has z (remaining p u (named noDrive)) → segmentOf p u (named noDrive) z .full ≡ false → ⊥
+module _ (p : Params) (r : Ranged p) (g₀ : Ghost) (a : List Val) (s : Bool) (v u : View) (k : Settled p r (withPr g₀ alone) v) (o : ℕ) (i : Has o (remaining p v 0))
+    (un : segmentOf p v 0 o .full ≡ false) (q : Upto p r g₀ a s o (settled-used p r (withPr g₀ alone) v k o i .0) v (p .N) u) where
+  all-full : (z : ℕ) → Has z (remaining p u 0) → segmentOf p u 0 z .full ≡ false → ⊥
   all-full z j e = go (ℕ-discrete z o)
     where
       set : Settled p r (withPr g₀ alone) u
       set = q .foot .set
 
       go : Dec (z ≡ o) → ⊥
-      go (yes w) = clash sealed (sym (full-is p r (withPr g₀ alone) u set o) ∙ ap (λ (x : ℕ). segmentOf p u (named noDrive) x .full) (sym w) ∙ e)
+      go (yes w) = clash sealed (sym (full-is p r (withPr g₀ alone) u set o) ∙ ap (λ (x : ℕ). segmentOf p u 0 x .full) (sym w) ∙ e)
         where
-          sealed : sealedIn p u (named noDrive) o ≡ true
-          sealed = unfold sealedIn zoneOn in present-all p r noDrive (λ d. eqb (pointerAt u d o) (capacity p)) (λ d l n. eq-eqb (pointerAt u d o) (capacity p) (q .done d l l))
+          sealed : sealedIn p u 0 o ≡ true
+          sealed = unfold sealedIn zoneOn in present-all p 0 (λ d. eqb (pointerAt u d o) (capacity p)) (λ d l n. eq-eqb (pointerAt u d o) (capacity p) (q .done d l l))
       go (no w) =
           let same : (d : ℕ) → d < p .N → zoneAt u d z ≡ zoneAt v d z = λ d l. q .other d z w in
           let used? : (z < p .Z) × Used (parOf p r) (g₀ .un) (itemsIn p u) z = settled-used p r (withPr g₀ alone) u set z j in
-          let j′ : Has z (remaining p v (named noDrive)) = settled-remains p r (withPr g₀ alone) v k z (
+          let j′ : Has z (remaining p v 0) = settled-remains p r (withPr g₀ alone) v k z (
             used? .1 .0,
             used? .1 .1,
             subst (λ (x : List Item). 0 < length x)
                 (items-in p u (used? .1 .0) z ∙ ap (itemsOf p) (same (used? .1 .0) (used? .1 .1 .0)) ∙ sym (items-in p v (used? .1 .0) z))
                 (used? .1 .2),
           ) in
-          w (one-of p r (withPr g₀ alone) v k z o j′ i (ap (λ (x : Segment). x .full) (sym (segment-same p r v u noDrive z same)) ∙ e) un)
+          w (one-of p r (withPr g₀ alone) v k z o j′ i (ap (λ (x : Segment). x .full) (sym (segment-same p r v u 0 z (zero-few p r) same)) ∙ e) un)
 
   pub feet-order : InOrder p u
   feet-order z j e = absurd (all-full z j e)

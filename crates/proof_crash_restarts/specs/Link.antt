@@ -10,11 +10,9 @@ use Rattle.law_basic.specs.Geometry.{Ranged}
 use Rattle.proof_crash_machine.specs.Facts.{Ghost}
 use Rattle.proof_crash_machine.specs.History.{Mode, State as m-State, Inv, Step, kept}
 use Rattle.proof_crash_machine.specs.History.Mode.{off}
-use Rattle.proof_crash_machine.specs.History.Step.{lose}
-use Rattle.proof_crash_machine.specs.Reset.{same}
-use Rattle.proof_crash_machine.specs.Rewrite.{st}
 use Rattle.proof_crash_machine.specs.Val.{Val}
 use Rattle.proof_crash_machine.specs.View.{View as m-View, Store as m-Store}
+use Rattle.proof_crash_machine.specs.Mask.{Mask}
 use Rattle.proof_crash_items.specs.Items.{itemsIn}
 use Rattle.proof_crash_items.specs.Ranges.{parOf}
 use Rattle.proof_crash_items.specs.Segs.{OnDrives}
@@ -50,15 +48,16 @@ module _ (p : Params) (r : Ranged p) (v : View) (ss : List Store) (ms : List m-S
   pub shape-cut : (n : ℕ) → Shape p (storeAll storeView (take n ss) v)
   shape-cut n = shape-stores p v (take n ss) h (fit-take p v ss n (all-fit p r v ss h (f .sound)))
 
-  pub bytes-after : (un : ℕ) → BytesOk p un v → BytesOk p un (storeAll storeView ss v)
+  pub bytes-after : (un : Mask) → BytesOk p un v → BytesOk p un (storeAll storeView ss v)
   bytes-after un b d l n = bytes-stores p r v ss h (f .sound) d (b d l n)
 
-  pub bytes-cut : (un n : ℕ) → BytesOk p un v → BytesOk p un (storeAll storeView (take n ss) v)
+  pub bytes-cut : (un : Mask) (n : ℕ) → BytesOk p un v → BytesOk p un (storeAll storeView (take n ss) v)
   bytes-cut un n b d l k = bytes-stores p r v (take n ss) h (sound-take p v ss n (f .sound)) d (b d l k)
 
 -- what a cut leaves of the history
 pub record SameHistory (g g′ : Ghost) : Type 0 where
   pub un : g′ .un ≡ g .un
+  pub said : g′ .said ≡ g .said
   pub sent : g′ .sent ≡ g .sent
   pub last : g′ .last ≡ g .last
   pub base : g′ .base ≡ g .base
@@ -71,8 +70,4 @@ pub record CutTo (p : Params) (r : Ranged p) (g : Ghost) (a : List Val) (s : Boo
   pub linked : Linked p r u g′ a s off
 
 pub same-history : (g : Ghost) → SameHistory g g
-same-history g = record { un = refl; sent = refl; last = refl; base = refl; top = refl }
-
--- power may be cut where nothing is stored
-pub cut-here : (p : Params) (r : Ranged p) (v : View) (g : Ghost) (a : List Val) (s : Bool) (m : Mode) → Linked p r v g a s m → Linked p r v g a s off
-cut-here p r v g a s m k = linked-step p r v v g g a a s s m off (itemsIn p v) k (lose (stateOn p v g a s m)) refl (k .shape) (k .bytes)
+same-history g = record { un = refl; said = refl; sent = refl; last = refl; base = refl; top = refl }

@@ -2,6 +2,7 @@
 use mathlib.Core.Path.{_≡_, refl, sym, ap, ap₂, _∙_, subst}
 use mathlib.Core.List.{List, [], _∷_, _++_, map}
 use mathlib.Core.Logic.{_⊎_, inl, inr, _≢_}
+use mathlib.Core.Bool.{false}
 use Prim.Native.Nat.{ℕ, zero, suc, _+_, _^_, _≤_, _<_}
 use native.Mathlib.Decide.{ℕ-discrete}
 use native.Mathlib.Omega.{arith}
@@ -12,7 +13,7 @@ use Rattle.spec.specs.Drives.{Zone, View, zoneAt, pointerAt, chunkAt, putZone, 
 use Rattle.spec.specs.Drives.Store.{put}
 use Rattle.spec.specs.Layout.{headerBlock, headerSerial, recordBytes}
 use Rattle.spec.specs.Lists.{upFrom, below}
-use Rattle.spec.specs.Params.{noDrive, named, drivesOf}
+use Rattle.spec.specs.Params.{drivesOf}
 use Rattle.spec.specs.Parity.{Piece}
 use Rattle.spec.specs.Read.Found.{here}
 use Rattle.spec.specs.Restart.{movedPieces, movedOn, movedStripe, movedStripes, rewriteStores}
@@ -22,14 +23,13 @@ use Rattle.law_basic.specs.Stores.{storeAll-append}
 use Rattle.proof_crash_machine.specs.Facts.Pair.{pair}
 use Rattle.proof_crash_machine.specs.Facts.{Ghost}
 use Rattle.proof_crash_machine.specs.Name.{setN-same, naming}
-use Rattle.proof_crash_machine.specs.Rewrite.{Plan as m-Plan, item as m-item, st, copies, drops, left}
+use Rattle.proof_crash_machine.specs.Rewrite.{Plan as m-Plan, item as m-item, copies, drops, st}
 use Rattle.proof_crash_machine.specs.Steps.{list, rows}
 use Rattle.proof_crash_machine.specs.View.{Item, Store as m-Store}
 use Rattle.proof_crash_machine.specs.View.Item.{hdr, chunk}
 use Rattle.proof_crash_machine.specs.View.Store.{put as m-put, reset as m-reset}
 use Rattle.proof_crash_items.specs.Items.{valueOf, storeItem}
 use Rattle.proof_crash_items.specs.Member.{Has, getD-has}
-use Rattle.proof_crash_items.specs.Named.{none-named}
 use Rattle.proof_crash_items.specs.Ranges.{parOf}
 use Rattle.proof_crash_items.specs.SegFacts.{begun-on, serial-is}
 use Rattle.proof_crash_items.specs.Segs.{zone-bytes, head-serials}
@@ -101,13 +101,13 @@ module _ (p : Params) (r : Ranged p) (v : View) (w : ℕ) (wb : w < p .Z) where
           (follows-end p (At t) (λ d. put d w (b d) (sp d)) (λ d. m-put d w (it d)) (p .N) row-step 0 (p .N) (p .N) (omega arith) (omega arith) u a),
     )
 
-module _ (p : Params) (r : Ranged p) (g : Ghost) (v : View) (k : Settled p r g v) (o : ℕ) (i : Has o (remaining p v (named noDrive))) (w : ℕ) (wb : w < p .Z)
+module _ (p : Params) (r : Ranged p) (g : Ghost) (v : View) (k : Settled p r g v) (o : ℕ) (i : Has o (remaining p v 0)) (w : ℕ) (wb : w < p .Z)
     (empty : (e : ℕ) → e < p .N → pointerAt v e w ≡ 0) (n : ℕ) (nl : n < 256 ^ 8) where
   abbrev G : Segment
-  G = segmentOf p v (named noDrive) o
+  G = segmentOf p v 0 o
 
   abbrev gM : Ghost
-  gM = naming g w n (g .hd .ser o) (pair w o)
+  gM = naming g w n (g .hd .ser o) (zoneOn w) (pair w o)
 
   abbrev π : m-Plan (parOf p r)
   π = planOf p r g v k o i
@@ -116,14 +116,14 @@ module _ (p : Params) (r : Ranged p) (g : Ghost) (v : View) (k : Settled p r g v
   ob = settled-used p r g v k o i .0
 
   old-serial : G .serial ≡ g .hd .ser o
-  old-serial = serial-is p r g v (k .on) noDrive (none-choice p r g v k) o i
+  old-serial = serial-is p r g v (k .on) 0 (none-choice p r g v k) o i
 
   -- it is a serial that the header's bytes hold
   old-wide : G .serial < 256 ^ 8
   old-wide =
       let d0 : 0 < p .N = omega (arith, r .drives-low) in
-      let t : 0 ≢ g .un = omega (arith, r .drives-low, k .none) in
-      let b : 0 < pointerAt v 0 o = begun-on p r g v (k .on) noDrive (none-choice p r g v k) o i 0 d0 (omega (arith, d0, far-off p r g v k)) in
+      let t : g .un 0 ≡ false = k .none 0 d0 in
+      let b : 0 < pointerAt v 0 o = begun-on p r g v (k .on) 0 (none-choice p r g v k) o i 0 d0 (far-off p r g v k 0 d0) in
       let h : headerSerial (headerAt v 0 o) ≡ g .hd .ser o = head-serials p r g v (k .on) 0 o d0 t ob b .0 in
       let q : headerSerial (headerAt v 0 o) < 256 ^ 8 = wide (zone-bytes p r g v (k .on) 0 o d0 t ob .serials (subst (λ (x : ℕ). 0 < x) (sym (pointer-is v 0 o)) b) .0) in
       subst (λ (x : ℕ). x < 256 ^ 8) (h ∙ sym old-serial) q
@@ -135,8 +135,8 @@ module _ (p : Params) (r : Ranged p) (g : Ghost) (v : View) (k : Settled p r g v
   first = record { shape = k .on .shape; done = λ e l b. absurd (let q : ⊥ = omega arith in q); left = λ e l b. empty e l; other = λ e y n. refl }
 
   -- ---- headers
-  header-is : (d : ℕ) → hdr n (G .serial) ≡ m-item (parOf p r) gM w o π 0 d
-  header-is d = unfold m-item in sym (ap₂ hdr (setN-same (g .hd .ser) w n) (setN-same (g .hd .cop) w (g .hd .ser o) ∙ sym old-serial))
+  header-is : (d : ℕ) → hdr n (G .serial) (zoneOn w) ≡ m-item (parOf p r) gM w o π 0 d
+  header-is d = unfold m-item in λ j. hdr (sym (setN-same (g .hd .ser) w n) j) (sym (setN-same (g .hd .cop) w (g .hd .ser o) ∙ sym old-serial) j) (sym (setN-same (g .hd .zn) w (zoneOn w)) j)
 
   abbrev row : ℕ → ℕ → m-Store
   row j d = st (parOf p r) gM w o π j d
@@ -144,16 +144,16 @@ module _ (p : Params) (r : Ranged p) (g : Ghost) (v : View) (k : Settled p r g v
   headers-follow : Follows p v (headerStores p w n (G .serial)) (list (row 0) 0 (p .N)) × At p r v w wb 1 0 (storeAll storeView (headerStores p w n (G .serial)) v)
   unfolding headerStores drivesOf below zoneOn st
   headers-follow = row-follows p r v w wb 0 (λ d. headerBlock p d w n (G .serial)) (λ d. zeroSpare) (λ d. m-item (parOf p r) gM w o π 0 d)
-      (λ d u l a. (header n (G .serial) (pointer-is u d w ∙ a .left d l (omega arith)) nl old-wide, (unfold kindItem in header-is d))) v first
+      (λ d u l a. (header n (G .serial) (pointer-is u d w ∙ a .left d l (omega arith)) (omega (arith, wb, r .zones-high)) nl old-wide, (unfold kindItem in header-is d))) v first
 
   -- ---- a stripe
   abbrev cs : List ℕ
-  cs = counted p (named noDrive) G
+  cs = counted p 0 G
 
   stripe-is : (j d : ℕ) (q : Piece) → q .rec .stripe ≡ j → pieceValue q ≡ plan-F p r g v k o i j d → chunk (q .rec .stripe) (valueOf (q .block) (q .rec)) ≡ m-item (parOf p r) gM w o π (suc j) d
   stripe-is j d q e f = unfold m-item in ap₂ chunk e (sym (value-same (q .block) (q .rec)) ∙ f)
 
-  stripe-follow : (s j : ℕ) → Has s (counted p (named noDrive) G) → j < p .S → s ≡ getD (counted p (named noDrive) G) j 0 → (u : View) → At p r v w wb (suc j) 0 u
+  stripe-follow : (s j : ℕ) → Has s (counted p 0 G) → j < p .S → s ≡ getD (counted p 0 G) j 0 → (u : View) → At p r v w wb (suc j) 0 u
       → Follows p u (movedStripe p G w s j) (list (row (suc j)) 0 (p .N)) × At p r v w wb (suc (suc j)) 0 (storeAll storeView (movedStripe p G w s j) u)
   unfolding movedStripe putPiece drivesOf below zoneOn st
   stripe-follow s j h jl e u a = row-follows p r v w wb (suc j) (λ d. movedOn p (movedPieces p G s j) j d .block) (λ d. recordBytes (movedOn p (movedPieces p G s j) j d .rec))
@@ -168,9 +168,9 @@ module _ (p : Params) (r : Ranged p) (g : Ghost) (v : View) (k : Settled p r g v
       plan-is d = ap (λ (x : ℕ). pieceValue (movedOn p (movedPieces p G x j) j d)) e ∙ sym (plan-F-is p r g v k o i j d)
 
   -- ---- all stripes
-  moved-follow : (ss : List ℕ) (j : ℕ) → ((t : ℕ) → t < length ss → getD ss t 0 ≡ getD (counted p (named noDrive) G) (j + t) 0) → j + length ss ≡ length (counted p (named noDrive) G)
+  moved-follow : (ss : List ℕ) (j : ℕ) → ((t : ℕ) → t < length ss → getD ss t 0 ≡ getD (counted p 0 G) (j + t) 0) → j + length ss ≡ length (counted p 0 G)
       → (u : View) → At p r v w wb (suc j) 0 u
-      → Follows p u (movedStripes p G w ss j) (rows row (p .N) (suc j) (length ss)) × At p r v w wb (suc (length (counted p (named noDrive) G))) 0 (storeAll storeView (movedStripes p G w ss j) u)
+      → Follows p u (movedStripes p G w ss j) (rows row (p .N) (suc j) (length ss)) × At p r v w wb (suc (length (counted p 0 G))) 0 (storeAll storeView (movedStripes p G w ss j) u)
   unfolding movedStripes rows storeAll
   moved-follow [] j h e u a = (follows-nil p u, subst (λ (x : ℕ). At p r v w wb (suc x) 0 u) (let q : j ≡ length cs = omega (arith, e) in q) a)
   moved-follow (s ∷ ss) j h e u a =
@@ -209,5 +209,4 @@ module _ (p : Params) (r : Ranged p) (g : Ghost) (v : View) (k : Settled p r g v
       (resets-follow′ (storeAll storeView (headerStores p w n (G .serial) ++ movedStripes p G w (counted p 0 G) 0) v))
     where
       moved? : (u : View) → At p r v w wb 1 0 u → Follows p u (movedStripes p G w (counted p 0 G) 0) (rows row (p .N) 1 (length cs))
-      moved? u a = subst (λ (x : ℕ). Follows p u (movedStripes p G w (counted p x G) 0) (rows row (p .N) 1 (length cs))) none-named
-          (moved-follow cs 0 (λ t l. ap (λ (x : ℕ). getD cs x 0) (let q : t ≡ 0 + t = omega arith in q)) (omega arith) u a .0)
+      moved? u a = moved-follow cs 0 (λ t l. ap (λ (x : ℕ). getD cs x 0) (let q : t ≡ 0 + t = omega arith in q)) (omega arith) u a .0

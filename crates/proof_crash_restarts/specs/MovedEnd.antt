@@ -2,23 +2,23 @@
 use mathlib.Core.Path.{_≡_, refl, sym, ap, _∙_, subst}
 use mathlib.Core.List.{List, [], _++_}
 use mathlib.Core.Bool.{Bool, true, false, not, _&&_}
-use mathlib.Core.Logic.{inr, ⊎-elim, _≢_}
+use mathlib.Core.Logic.{⊎-elim}
 use Prim.Native.Nat.{ℕ, _^_, _≤_, _<_}
 use native.Mathlib.Decide.{ℕ-discrete}
 use native.Mathlib.Omega.{arith}
 use lib.ListN.{length, take, set}
 use Rattle.spec.specs.declared.Params.{Params}
 use Rattle.spec.specs.Bytes.{part}
-use Rattle.spec.specs.Drives.{View, pointerAt, Store, storeView, storeAll}
+use Rattle.spec.specs.Drives.{View, pointerAt, Store, storeView, storeAll, zoneOn}
 use Rattle.spec.specs.Lists.Opt.{none}
-use Rattle.spec.specs.Lists.{below, any}
-use Rattle.spec.specs.Params.{capacity, noDrive, named, present}
+use Rattle.spec.specs.Lists.{below, any, isIn}
+use Rattle.spec.specs.Params.{capacity, present}
 use Rattle.spec.specs.Restart.{rewriteStores, dropStores}
 use Rattle.spec.specs.Segments.{remaining, Segment, segmentOf, segments, hasChunk, counts, counted, uncounted, storedPiece}
 use Rattle.law_basic.specs.Geometry.{Ranged}
 use Rattle.law_basic.specs.Ranges.{length-below, and-false}
 use Rattle.proof_crash_machine.specs.Facts.Pair.{alone, pair}
-use Rattle.proof_crash_machine.specs.Facts.{Ghost, Choice, R, Counted, Used, Whole as m-Whole, Ragged, Facts, used}
+use Rattle.proof_crash_machine.specs.Facts.{Ghost, Choice, R, Counted, Used, Whole as m-Whole, Ragged, Facts, used, None, none-fair, self-none}
 use Rattle.proof_crash_machine.specs.Finish.{Reads, upTo, finishing, Clean}
 use Rattle.proof_crash_machine.specs.Ghosts.{withPr}
 use Rattle.proof_crash_machine.specs.History.{Mode, Step, Claim, claim}
@@ -27,10 +27,8 @@ use Rattle.proof_crash_machine.specs.History.Step.{restart-cut₁, restart-cut�
 use Rattle.proof_crash_machine.specs.Lemma.{pair-alone}
 use Rattle.proof_crash_machine.specs.Memory2.{restMem}
 use Rattle.proof_crash_machine.specs.Name.{naming}
-use Rattle.proof_crash_machine.specs.OpenSeg.{opened}
-use Rattle.proof_crash_machine.specs.Reset.{gone, same}
 use Rattle.proof_crash_machine.specs.Restart.{Ready, rewrite-low, rewrite-has, rewrite-others, rewrite-empty, rewrite-end, rewrite-clean}
-use Rattle.proof_crash_machine.specs.Rewrite.{Plan as m-Plan, copies, drops, left}
+use Rattle.proof_crash_machine.specs.Rewrite.{Plan as m-Plan, copies, drops}
 use Rattle.proof_crash_machine.specs.Steps.{applyAll-append}
 use Rattle.proof_crash_machine.specs.Val.{Val}
 use Rattle.proof_crash_machine.specs.View.{Item, View as m-View, Store as m-Store, applyAll, In}
@@ -55,51 +53,48 @@ use Rattle.proof_crash_restarts.specs.Order.{rising-same}
 use Rattle.proof_crash_restarts.specs.Rest.{Settled, far-off, dropped-items, after-settled}
 use Rattle.proof_crash_restarts.specs.Runs.{Always}
 
-module _ (p : Params) (r : Ranged p) (v₀ : View) (g₀ : Ghost) (a : List Val) (s : Bool) (m : Mode) (lk : Linked p r v₀ g₀ a s m) (none : p .N ≤ g₀ .un) where
+module _ (p : Params) (r : Ranged p) (v₀ : View) (g₀ : Ghost) (a : List Val) (s : Bool) (m : Mode) (lk : Linked p r v₀ g₀ a s m) (none : None (parOf p r) (g₀ .un)) where
   abbrev on₀ : OnDrives p r g₀ v₀
   on₀ = linked-on p r v₀ g₀ a s m lk
 
   abbrev g : Ghost
   g = withPr g₀ alone
 
-  abbrev gs : List Segment
-  gs = segments p v₀ (named noDrive)
-
   abbrev v : View
-  v = storeAll storeView (dropStores p (segments p v₀ (named noDrive))) v₀
+  v = storeAll storeView (dropStores p (segments p v₀ 0)) v₀
 
   abbrev k : Settled p r (withPr g₀ alone) v
   k = after-settled p r g₀ v₀ (linked-on p r v₀ g₀ a s m lk) none
 
   abbrev ms : List m-Store
-  ms = dropItems p (segments p v₀ (named noDrive))
+  ms = dropItems p (segments p v₀ 0)
 
   -- cut while it resets
-  pub drops-cut : Always (CutTo p r g₀ a s) v₀ (dropStores p (segments p v₀ (named noDrive)))
+  pub drops-cut : Always (CutTo p r g₀ a s) v₀ (dropStores p (segments p v₀ 0))
   drops-cut n = record {
     g′ = g₀;
     same = same-history g₀;
-    linked = linked-step p r v₀ (storeAll storeView (take n (dropStores p (segments p v₀ (named noDrive)))) v₀) g₀ g₀ a a s s m off (applyAll (itemsIn p v₀) (take n ms)) lk
+    linked = linked-step p r v₀ (storeAll storeView (take n (dropStores p (segments p v₀ 0))) v₀) g₀ g₀ a a s s m off (applyAll (itemsIn p v₀) (take n ms)) lk
         (restart-cut₁ (stateOn p v₀ g₀ a s m) n none ms (dropping p r g₀ v₀ on₀ none))
-        (sym (follows-cut p r v₀ (dropStores p (segments p v₀ (named noDrive))) ms n (lk .shape) fd))
-        (shape-cut p r v₀ (dropStores p (segments p v₀ (named noDrive))) ms (lk .shape) fd n)
-        (bytes-cut p r v₀ (dropStores p (segments p v₀ (named noDrive))) ms (lk .shape) fd (g₀ .un) n (lk .bytes));
+        (sym (follows-cut p r v₀ (dropStores p (segments p v₀ 0)) ms n (lk .shape) fd))
+        (shape-cut p r v₀ (dropStores p (segments p v₀ 0)) ms (lk .shape) fd n)
+        (bytes-cut p r v₀ (dropStores p (segments p v₀ 0)) ms (lk .shape) fd (g₀ .un) n (lk .bytes));
   }
     where
-      fd : Follows p v₀ (dropStores p (segments p v₀ (named noDrive))) (dropItems p (segments p v₀ (named noDrive)))
-      fd = drops-follow p r v₀ v₀ (named noDrive)
+      fd : Follows p v₀ (dropStores p (segments p v₀ 0)) (dropItems p (segments p v₀ 0))
+      fd = drops-follow p r v₀ v₀ 0
 
-  module _ (o : ℕ) (i : Has o (remaining p v (named noDrive))) (un : segmentOf p v (named noDrive) o .full ≡ false)
+  module _ (o : ℕ) (i : Has o (remaining p v 0)) (un : segmentOf p v 0 o .full ≡ false)
       (w : ℕ) (wb : w < p .Z) (empty : (e : ℕ) → e < p .N → pointerAt v e w ≡ 0) (n : ℕ) (nl : n < 256 ^ 8) (top : serialTop p v < n)
-      (part : length (counted p (named noDrive) (segmentOf p v (named noDrive) o)) < p .S) where
+      (part : length (counted p 0 (segmentOf p v 0 o)) < p .S) where
     abbrev π : m-Plan (parOf p r)
     π = planOf p r (withPr g₀ alone) v k o i
 
     abbrev gM : Ghost
-    gM = naming (withPr g₀ alone) w n (g₀ .hd .ser o) (pair w o)
+    gM = naming (withPr g₀ alone) w n (g₀ .hd .ser o) (zoneOn w) (pair w o)
 
     abbrev ss : List Store
-    ss = rewriteStores p (segmentOf p v (named noDrive) o) w n
+    ss = rewriteStores p (segmentOf p v 0 o) w n
 
     abbrev tail : List m-Store
     tail = copies (parOf p r) gM w o π ++ drops (parOf p r) gM w o π
@@ -107,17 +102,17 @@ module _ (p : Params) (r : Ranged p) (v₀ : View) (g₀ : Ghost) (a : List Val)
     follow : Follows p v ss tail
     follow = rewrite-follows p r (withPr g₀ alone) v k o i w wb empty n nl
 
-    ready : Ready (parOf p r) (withPr g₀ alone) (itemsIn p v) w o n π
-    ready = plan-ready p r (withPr g₀ alone) v k o i w un wb empty n top refl
+    abbrev ready : Ready (parOf p r) (withPr g₀ alone) (itemsIn p v) w o n π
+    ready = plan-ready p r (withPr g₀ alone) v k o i w un wb empty n top (itemsIn p v) refl refl
 
-    ready₀ : Ready (parOf p r) (withPr g₀ alone) (applyAll (itemsIn p v₀) ms) w o n π
-    ready₀ = subst (λ (u : m-View). Ready (parOf p r) (withPr g₀ alone) u w o n π) (dropped-items p r g₀ v₀ on₀ none) ready
+    abbrev ready₀ : Ready (parOf p r) (withPr g₀ alone) (applyAll (itemsIn p v₀) ms) w o n π
+    ready₀ = plan-ready p r (withPr g₀ alone) v k o i w un wb empty n top (applyAll (itemsIn p v₀) ms) (dropped-items p r g₀ v₀ on₀ none) refl
 
     -- cut while it rewrites
     pub moved-cut : Always (CutTo p r g₀ a s) v ss
     moved-cut j = record {
       g′ = gM;
-      same = record { un = refl; sent = refl; last = refl; base = refl; top = refl };
+      same = record { un = refl; said = refl; sent = refl; last = refl; base = refl; top = refl };
       linked = linked-step p r v₀ (storeAll storeView (take j ss) v) g₀ gM a a s s m off (applyAll (applyAll (itemsIn p v₀) ms) (take j tail)) lk
           (restart-cut₂ (stateOn p v₀ g₀ a s m) j none ms (dropping p r g₀ v₀ on₀ none) w o n π ready₀)
           (ap (λ (u : m-View). applyAll u (take j tail)) (sym (dropped-items p r g₀ v₀ on₀ none)) ∙ sym (follows-cut p r v ss tail j (k .on .shape) follow))
@@ -143,7 +138,7 @@ module _ (p : Params) (r : Ranged p) (v₀ : View) (g₀ : Ghost) (a : List Val)
     rest-end : (z : ℕ) → Used (parOf p r) (g₀ .un) (applyAll (itemsIn p v) tail) z → R (parOf p r) (gE .hd) (applyAll (itemsIn p v) tail) (g₀ .un) z
     rest-end z q = record {
       left = clean-end .whole z q;
-      own = λ y l e. pair-alone (sym (facts-end .swap .one z y q (used (parOf p r) gE (applyAll (itemsIn p v) tail) (g₀ .un) y (inr refl) l) e));
+      own = λ y l e. pair-alone (sym (facts-end .swap .one z y q (used (parOf p r) gE (applyAll (itemsIn p v) tail) (g₀ .un) y (self-none (parOf p r) (g₀ .un) none) l) e));
     }
 
     set-end : Settled p r gE u
@@ -159,7 +154,7 @@ module _ (p : Params) (r : Ranged p) (v₀ : View) (g₀ : Ghost) (a : List Val)
     }
 
     abbrev c : ℕ
-    c = length (counted p (named noDrive) (segmentOf p v (named noDrive) o))
+    c = length (counted p 0 (segmentOf p v 0 o))
 
     low-end : (d t : ℕ) (x : Val) → d < p .N → In (chunk t x) (itemsIn p u d w) → t < c
     low-end d t x l q = rewrite-low (parOf p r) (withPr g₀ alone) (itemsIn p v) w o n π ready (k .rest) (k .on .facts) d t x l (subst (λ (y : m-View). In (chunk t x) (y d w)) items-end q)
@@ -168,66 +163,66 @@ module _ (p : Params) (r : Ranged p) (v₀ : View) (g₀ : Ghost) (a : List Val)
     has-end d t l b =
         (π .F t d, subst (λ (y : m-View). In (chunk t (π .F t d)) (y d w)) (sym items-end) (rewrite-has (parOf p r) (withPr g₀ alone) (itemsIn p v) w o n π ready (k .rest) (k .on .facts) d t l b))
 
-    ch : Choice (parOf p r) (gE .un) noDrive
+    ch : Choice (parOf p r) (gE .un) (isIn 0)
     ch = none-choice p r gE u set-end
 
-    away : (d : ℕ) → d < p .N → d ≢ noDrive
-    away d l = omega (arith, l, far-off p r gE u set-end)
+    away : (d : ℕ) → d < p .N → isIn 0 d ≡ false
+    away d l = far-off p r gE u set-end d l
 
-    counts-end : (t : ℕ) → t < c → Has t (counted p (named noDrive) (segmentOf p u (named noDrive) w))
-    counts-end t b = has-counted p r gE u (set-end .on) noDrive ch w t (omega (arith, b, plan-few p r (withPr g₀ alone) v k o i))
-        (λ d l q. in-has-chunk p r gE u (set-end .on) noDrive ch w t d (has-end d t l b .0) wb l q (has-end d t l b .1))
+    counts-end : (t : ℕ) → t < c → Has t (counted p 0 (segmentOf p u 0 w))
+    counts-end t b = has-counted p r gE u (set-end .on) 0 ch w t (omega (arith, b, plan-few p r (withPr g₀ alone) v k o i))
+        (λ d l q. in-has-chunk p r gE u (set-end .on) 0 ch w t d (has-end d t l b .0) wb l q (has-end d t l b .1))
 
-    counted-end : (t : ℕ) → Has t (counted p (named noDrive) (segmentOf p u (named noDrive) w)) → t < c
+    counted-end : (t : ℕ) → Has t (counted p 0 (segmentOf p u 0 w)) → t < c
     counted-end t q =
         let d0 : 0 < p .N = omega (arith, r .drives-low) in
-        low-end 0 t (pieceAt p r gE u (set-end .on) noDrive ch w t 0) d0 (counted-stripe p r gE u (set-end .on) noDrive ch w t wb q .on 0 d0 (away 0 d0))
+        low-end 0 t (pieceAt p r gE u (set-end .on) 0 ch w t 0) d0 (counted-stripe p r gE u (set-end .on) 0 ch w t wb q .on 0 d0 (away 0 d0))
 
-    counted-is : counted p (named noDrive) (segmentOf p u (named noDrive) w) ≡ below c
-    counted-is = rising-same (counted p (named noDrive) (segmentOf p u (named noDrive) w)) (below c) rises (rising-below c)
+    counted-is : counted p 0 (segmentOf p u 0 w) ≡ below c
+    counted-is = rising-same (counted p 0 (segmentOf p u 0 w)) (below c) rises (rising-below c)
         (λ t q. has-below t c (counted-end t q)) (λ t q. counts-end t (below-has t c q))
       where
-        rises : Rising (counted p (named noDrive) (segmentOf p u (named noDrive) w))
-        rises = unfold counted in rising-keep (counts p (named noDrive) (segmentOf p u (named noDrive) w)) (below (p .S)) (rising-below (p .S))
+        rises : Rising (counted p 0 (segmentOf p u 0 w))
+        rises = unfold counted in rising-keep (counts p 0 (segmentOf p u 0 w)) (below (p .S)) (rising-below (p .S))
 
-    uncounted-is : uncounted p (named noDrive) (segmentOf p u (named noDrive) w) ≡ []
+    uncounted-is : uncounted p 0 (segmentOf p u 0 w) ≡ []
     uncounted-is =
-        unfold uncounted in keep-nil (λ t. any (hasChunk (segmentOf p u (named noDrive) w) t) (present p (named noDrive))
-        && not (counts p (named noDrive) (segmentOf p u (named noDrive) w) t)) (below (p .S))
-        (λ t q. go t (any (hasChunk (segmentOf p u (named noDrive) w) t) (present p (named noDrive))) refl)
+        unfold uncounted in keep-nil (λ t. any (hasChunk (segmentOf p u 0 w) t) (present p 0)
+        && not (counts p 0 (segmentOf p u 0 w) t)) (below (p .S))
+        (λ t q. go t (any (hasChunk (segmentOf p u 0 w) t) (present p 0)) refl)
       where
-        go : (t : ℕ) (b : Bool) → any (hasChunk (segmentOf p u (named noDrive) w) t) (present p (named noDrive)) ≡ b
-            → (any (hasChunk (segmentOf p u (named noDrive) w) t) (present p (named noDrive)) && not (counts p (named noDrive) (segmentOf p u (named noDrive) w) t)) ≡ false
-        go t false e = and-false-1 (any (hasChunk (segmentOf p u (named noDrive) w) t) (present p (named noDrive))) (not (counts p (named noDrive) (segmentOf p u (named noDrive) w) t)) e
+        go : (t : ℕ) (b : Bool) → any (hasChunk (segmentOf p u 0 w) t) (present p 0) ≡ b
+            → (any (hasChunk (segmentOf p u 0 w) t) (present p 0) && not (counts p 0 (segmentOf p u 0 w) t)) ≡ false
+        go t false e = and-false-1 (any (hasChunk (segmentOf p u 0 w) t) (present p 0)) (not (counts p 0 (segmentOf p u 0 w) t)) e
         go t true e =
-            let d : (d : ℕ) × Has d (present p (named noDrive)) × (hasChunk (segmentOf p u (named noDrive) w) t d ≡ true) =
-            any-has (hasChunk (segmentOf p u (named noDrive) w) t) (present p (named noDrive)) e in
-            let l : (d .0 < p .N) × (d .0 ≢ noDrive) = present-has p r noDrive (d .0) (d .1) in
+            let d : (d : ℕ) × Has d (present p 0) × (hasChunk (segmentOf p u 0 w) t d ≡ true) =
+            any-has (hasChunk (segmentOf p u 0 w) t) (present p 0) e in
+            let l : (d .0 < p .N) × (isIn 0 (d .0) ≡ false) = present-has p 0 (d .0) (d .1) in
             let b : t < c =
-            low-end (d .0) t (pieceValue (storedPiece (segmentOf p u (named noDrive) w) t (d .0))) (l .0)
-            (stored-in p r gE u (set-end .on) noDrive ch w t (d .0) wb (l .0) (l .1) (d .2)) in
-            and-false (any (hasChunk (segmentOf p u (named noDrive) w) t) (present p (named noDrive))) (not (counts p (named noDrive) (segmentOf p u (named noDrive) w) t)) (ap not (passes t b))
+            low-end (d .0) t (pieceValue (storedPiece (segmentOf p u 0 w) t (d .0))) (l .0)
+            (stored-in p r gE u (set-end .on) 0 ch w t (d .0) wb (l .0) (l .1) (d .2)) in
+            and-false (any (hasChunk (segmentOf p u 0 w) t) (present p 0)) (not (counts p 0 (segmentOf p u 0 w) t)) (ap not (passes t b))
           where
-            passes : (t : ℕ) → t < c → counts p (named noDrive) (segmentOf p u (named noDrive) w) t ≡ true
+            passes : (t : ℕ) → t < c → counts p 0 (segmentOf p u 0 w) t ≡ true
             passes t b = both? (counts-end t b) .1
               where
-                both? : Has t (counted p (named noDrive) (segmentOf p u (named noDrive) w)) → Has t (below (p .S)) × (counts p (named noDrive) (segmentOf p u (named noDrive) w) t ≡ true)
-                both? q = unfold counted in keep-has (counts p (named noDrive) (segmentOf p u (named noDrive) w)) t (below (p .S)) q
+                both? : Has t (counted p 0 (segmentOf p u 0 w)) → Has t (below (p .S)) × (counts p 0 (segmentOf p u 0 w) t ≡ true)
+                both? q = unfold counted in keep-has (counts p 0 (segmentOf p u 0 w)) t (below (p .S)) q
 
     pub moved-order : InOrder p u
     moved-order z j e = go (ℕ-discrete z o) (ℕ-discrete z w)
       where
         G : Segment
-        G = segmentOf p u (named noDrive) z
+        G = segmentOf p u 0 z
 
-        rag : Ragged (parOf p r) noDrive (itemsIn p u) z
-        rag = ragged-of p r gE u (set-end .on) noDrive ch z j e
+        rag : Ragged (parOf p r) (isIn 0) (itemsIn p u) z
+        rag = ragged-of p r gE u (set-end .on) 0 ch z j e
 
-        go : Dec (z ≡ o) → Dec (z ≡ w) → (counted p (named noDrive) (segmentOf p u (named noDrive) z) ≡ below (length (counted p (named noDrive) (segmentOf p u (named noDrive) z))))
-            × (uncounted p (named noDrive) (segmentOf p u (named noDrive) z) ≡ []) × (length (counted p (named noDrive) (segmentOf p u (named noDrive) z)) < p .S)
+        go : Dec (z ≡ o) → Dec (z ≡ w) → (counted p 0 (segmentOf p u 0 z) ≡ below (length (counted p 0 (segmentOf p u 0 z))))
+            × (uncounted p 0 (segmentOf p u 0 z) ≡ []) × (length (counted p 0 (segmentOf p u 0 z)) < p .S)
         go (yes q) x = absurd (gone rag)
           where
-            gone : Ragged (parOf p r) noDrive (itemsIn p u) z → ⊥
+            gone : Ragged (parOf p r) (isIn 0) (itemsIn p u) z → ⊥
             gone (d, t, b, f) =
                 let y : itemsIn p u d z ≡ [] =
                 ap (itemsIn p u d) q
@@ -237,12 +232,12 @@ module _ (p : Params) (r : Ranged p) (v₀ : View) (g₀ : Ghost) (a : List Val)
         go (no q) (yes x) = rw x (counted-is ∙ ap below (sym (ap length counted-is ∙ length-below c)), uncounted-is, subst (λ (y : ℕ). y < p .S) (sym (ap length counted-is ∙ length-below c)) part)
         go (no q) (no x) = absurd (q (same rag))
           where
-            same : Ragged (parOf p r) noDrive (itemsIn p u) z → z ≡ o
+            same : Ragged (parOf p r) (isIn 0) (itemsIn p u) z → z ≡ o
             same (d, t, b, f) =
                 let y : itemsIn p u d z ≡ itemsIn p v d z =
                 ap (λ (x : m-View). x d z) items-end
                 ∙ rewrite-others (parOf p r) (withPr g₀ alone) (itemsIn p v) w o n π ready (k .rest) (k .on .facts) d z q x in
-                one (d, (t .0, omega (arith, t .0, none)), subst (λ (l : List Item). 0 < length l) y b, subst (λ (l : List Item). length l < capacity p) y f) (ready .ragged)
+                one (d, (t .0, none d (t .0)), subst (λ (l : List Item). 0 < length l) y b, subst (λ (l : List Item). length l < capacity p) y f) (ready .ragged)
               where
                 one : Ragged (parOf p r) (g₀ .un) (itemsIn p v) z → Ragged (parOf p r) (g₀ .un) (itemsIn p v) o → z ≡ o
                 one b f = ⊎-elim (λ y. y) (λ y. absurd (⊎-elim (λ (h : alone ≡ pair z o). pair-alone (sym h)) (λ (h : alone ≡ pair o z). pair-alone (sym h)) y)) (k .on .facts .«open» .ragged z o b f)
@@ -288,13 +283,13 @@ module _ (p : Params) (r : Ranged p) (v₀ : View) (g₀ : Ghost) (a : List Val)
         (stampTop p u) rd up (op .0) (op .1) (op .2) (op .3 .few) rg wh bl (serialTop p u) sr)
         rd up (op .3 .lone) (op .3 .whole) (op .3 .low) sr
 
-    cl : Claim (stateOn p v₀ g₀ a s m) (readOn p r gE u set-end)
-    cl = claim (parOf p r) (stateOn p v₀ g₀ a s m) (lk .inv) gE (itemsIn p u) (set-end .on .facts) refl refl refl refl (g₀ .un) (inr refl) (readOn p r gE u set-end) rd
+    cl : Claim (parOf p r) (stateOn p v₀ g₀ a s m) (g₀ .un) (readOn p r gE u set-end)
+    cl = claim (parOf p r) (stateOn p v₀ g₀ a s m) (lk .inv) gE (itemsIn p u) (set-end .on .facts) refl refl refl refl refl (g₀ .un) (self-none (parOf p r) (g₀ .un) none) (readOn p r gE u set-end) rd
 
     pub moved-done : RestartDone p r g₀ a s u
     moved-done = record {
       g′ = gE;
-      same = record { un = refl; sent = refl; last = refl; base = refl; top = refl };
+      same = record { un = refl; said = refl; sent = refl; last = refl; base = refl; top = refl };
       set = set-end;
       b = op .0;
       z = op .1;
@@ -304,5 +299,6 @@ module _ (p : Params) (r : Ranged p) (v₀ : View) (g₀ : Ghost) (a : List Val)
           (run (restMem (op .0) (op .1) (op .2) (stampTop p u) (serialTop p u))) (itemsIn p u) lk the-step refl (set-end .on .shape) (set-end .on .bytes);
       acked = cl .acked;
       sent = cl .sent;
-      still = cl .same;
+      floor = cl .floor;
+      still = λ q. cl .same q (none-fair (parOf p r) (g₀ .said) (g₀ .un) none);
     }

@@ -5,44 +5,44 @@ use mathlib.Core.Bool.{Bool, true, false, cond, not}
 use mathlib.Core.Logic.{inl, inr, _≢_}
 use Prim.Native.Nat.{ℕ, suc, _^_, _≤_, _<_}
 use native.Mathlib.Decide.{decLt}
-use borrow.Author.Tests.{lt-ltb, le-ltb, eq-eqb, eqb-false, not-true}
+use borrow.Author.Tests.{lt-ltb, le-ltb, eq-eqb, ne-eqb}
 use native.Mathlib.Omega.{arith}
-use lib.Dec.{ltb, eqb}
+use lib.Dec.{ltb}
 use lib.ListN.{length, getD, take}
 use lib.Bits.{xor-lt}
 use lib.Pow.{pow-pos}
 use Rattle.spec.specs.declared.Params.{Params}
 use Rattle.spec.specs.Bytes.{xorAll}
-use Rattle.spec.specs.Calls.Check.{zones}
-use Rattle.spec.specs.Drives.{Zone, stored, View, zoneAt, pointerAt, dataStored}
+use Rattle.spec.specs.Drives.{Zone, stored, View, zoneAt, pointerAt, dataStored, zoneOn}
 use Rattle.spec.specs.Layout.{parityDrive, dataDrive, dataPosition, isData, dataDrives, Rec, mkRec, recordOf}
 use Rattle.spec.specs.Lists.Opt.{none}
-use Rattle.spec.specs.Lists.{below, all, keep}
-use Rattle.spec.specs.Params.{dataCount, noDrive, named}
+use Rattle.spec.specs.Lists.{below, all, keep, isIn}
+use Rattle.spec.specs.Params.{dataCount}
 use Rattle.spec.specs.Parity.{Piece, mkPiece, parityRec, parityPiece}
 use Rattle.spec.specs.Restart.{renumbered, movedPieces, movedOn}
 use Rattle.spec.specs.Segments.{remaining, Segment, segmentOf, offsetOn, hasChunk, counts, counted, storedPiece}
-use Rattle.law_basic.specs.Geometry.{Ranged, position-drive, drive-is-data, data-drive-lt, data-not-parity, drive-position, position-lt}
+use Rattle.law_basic.specs.Geometry.{Ranged, position-drive, drive-is-data, data-drive-lt, drive-position, position-lt, zone-on-lt}
 use Rattle.law_basic.specs.Ranges.{length-below, map-below-same, map-map, getD-map-below, length-keep}
 use Rattle.law_basic.specs.Xor.{length-parity}
 use Rattle.law_drives.specs.Tests.{cond-true, cond-false}
 use Rattle.proof_crash_machine.specs.Facts.Pair.{alone}
-use Rattle.proof_crash_machine.specs.Facts.{Ghost, Choice, Stripe, Datum, Used, Ragged}
-use Rattle.proof_crash_machine.specs.Reset.{same}
+use Rattle.proof_crash_machine.specs.Facts.{Ghost, Choice, Stripe, Datum, Used, Ragged, Word}
 use Rattle.proof_crash_machine.specs.Restart.{Ready}
-use Rattle.proof_crash_machine.specs.Rewrite.{Plan as m-Plan, st}
+use Rattle.proof_crash_machine.specs.Rewrite.{Plan as m-Plan}
 use Rattle.proof_crash_machine.specs.Val.{Val, 𝟘, _⊕_, ⊕-self, xorN, xorN-put}
-use Rattle.proof_crash_items.specs.Cands.{data-drives, is-data, has-data-drive}
+use Rattle.proof_crash_machine.specs.View.{View as m-View}
+use Rattle.proof_crash_items.specs.Cands.{data-drives, has-data-drive}
 use Rattle.proof_crash_items.specs.Codec.{Wide}
 use Rattle.proof_crash_items.specs.Items.{valueOf, itemsFrom, itemsOf, itemsIn, items-in}
 use Rattle.proof_crash_items.specs.Member.{Has, keep-has, has-keep, below-has, has-below, map-has, getD-has, has-getD}
-use Rattle.proof_crash_items.specs.Ranges.{parity-on, parOf}
+use Rattle.proof_crash_items.specs.Ranges.{parity-on, parOf, code-data, data-code, word-code}
 use Rattle.proof_crash_items.specs.Refuse.{Rising, rising-keep, rising-below}
 use Rattle.proof_crash_items.specs.SegFacts.{ragged-of}
-use Rattle.proof_crash_items.specs.Segs.{zone-bytes}
+use Rattle.proof_crash_items.specs.Segs.{zone-bytes, used-zones}
 use Rattle.proof_crash_items.specs.Stripes.{stored-below, pointer-is, offset-on, stored-piece, stored-long, counted-has, pieceAt, piece-here, counted-stripe, stripe-counted}
 use Rattle.proof_crash_items.specs.Values.{pieceValue, xorL, PiecesLong, blocks-of-long, pieces-long, parity-value, onlyWhere, only-there, only-else, xor-below}
 use Rattle.proof_crash_items.specs.ZoneBytes.{blockIn}
+use Rattle.proof_crash_items.specs.Zoning.{zone-apart}
 use Rattle.proof_crash_restarts.specs.Done.{serialTop}
 use Rattle.proof_crash_restarts.specs.Ends.{none-choice, ends-serials}
 use Rattle.proof_crash_restarts.specs.Order.{rising-same}
@@ -72,14 +72,11 @@ data-rises p s i j l = go (decLt i (parityDrive p s)) (decLt j (parityDrive p s)
 -- the data drives are the drives that aren't parity's, rising
 pub keep-data : (p : Params) → Ranged p → (s : ℕ) → keep (isData p s) (below (p .N)) ≡ dataDrives p s
 keep-data p r s = rising-same (keep (isData p s) (below (p .N))) (dataDrives p s) (rising-keep (isData p s) (below (p .N)) (rising-below (p .N))) rises
-    (λ d i. let q : Has d (below (p .N)) × (isData p s d ≡ true) = keep-has (isData p s) d (below (p .N)) i in has-data-drive p r s d (below-has d (p .N) (q .0)) (no-parity d (q .1)))
-    (λ d i. let q : (d < p .N) × (d ≢ parityDrive p s) = data-drives p r s d i in has-keep (isData p s) d (below (p .N)) (has-below d (p .N) (q .0)) (is-data p s d (q .1)))
+    (λ d i. let q : Has d (below (p .N)) × (isData p s d ≡ true) = keep-has (isData p s) d (below (p .N)) i in has-data-drive p r s d (below-has d (p .N) (q .0)) (q .1))
+    (λ d i. let q : (d < p .N) × (isData p s d ≡ true) = data-drives p r s d i in has-keep (isData p s) d (below (p .N)) (has-below d (p .N) (q .0)) (q .1))
   where
     rises : Rising (dataDrives p s)
     rises = unfold dataDrives in rising-map (dataDrive p s) (data-rises p s) (below (dataCount p)) (rising-below (dataCount p))
-
-    no-parity : (d : ℕ) → isData p s d ≡ true → d ≢ parityDrive p s
-    no-parity d e = unfold isData in eqb-false d (parityDrive p s) (not-true (eqb d (parityDrive p s)) e)
 
 pub value-renumbered : (t : ℕ) (q : Piece) → pieceValue (renumbered t q) ≡ pieceValue q
 unfolding renumbered pieceValue valueOf
@@ -100,41 +97,38 @@ parity-wide p t qs l h = record {
   stripe = l;
 }
 
-module _ (p : Params) (r : Ranged p) (g : Ghost) (v : View) (k : Settled p r g v) (o : ℕ) (i : Has o (remaining p v (named noDrive))) where
+module _ (p : Params) (r : Ranged p) (g : Ghost) (v : View) (k : Settled p r g v) (o : ℕ) (i : Has o (remaining p v 0)) where
   abbrev G : Segment
-  G = segmentOf p v (named noDrive) o
+  G = segmentOf p v 0 o
 
-  abbrev ch : Choice (parOf p r) (g .un) noDrive
+  abbrev ch : Choice (parOf p r) (g .un) (isIn 0)
   ch = none-choice p r g v k
 
   ob : o < p .Z
   ob = settled-used p r g v k o i .0
 
-  away : (d : ℕ) → d < p .N → d ≢ noDrive
-  away d l = omega (arith, l, far-off p r g v k)
+  away : (d : ℕ) → d < p .N → isIn 0 d ≡ false
+  away d l = far-off p r g v k d l
 
-  here? : (s d : ℕ) → Has s (counted p (named noDrive) G) → d < p .N → hasChunk G s d ≡ true
-  here? s d h l = counted-has p r g v (k .on) noDrive ch o s h .1 d l (away d l)
+  here? : (s d : ℕ) → Has s (counted p 0 G) → d < p .N → hasChunk G s d ≡ true
+  here? s d h l = counted-has p r g v (k .on) 0 ch o s h .1 d l (away d l)
 
   -- a stored piece of a counted stripe
-  piece-block : (s d : ℕ) → Has s (counted p (named noDrive) G) → d < p .N → length (storedPiece G s d .block) ≡ p .B
-  piece-block s d h l = stored-long p r g v (k .on) noDrive ch o s d ob l (away d l) (here? s d h l)
+  piece-block : (s d : ℕ) → Has s (counted p 0 G) → d < p .N → length (storedPiece G s d .block) ≡ p .B
+  piece-block s d h l = stored-long p r g v (k .on) 0 ch o s d ob l (away d l) (here? s d h l)
 
-  piece-wide : (s d : ℕ) → Has s (counted p (named noDrive) G) → d < p .N → Wide (storedPiece G s d .rec)
+  piece-wide : (s d : ℕ) → Has s (counted p 0 G) → d < p .N → Wide (storedPiece G s d .rec)
   piece-wide s d h l =
       let a : (offsetOn G d s < dataStored p (zoneAt v d o)) × (recordOf (blockIn (zoneAt v d o) (suc (offsetOn G d s)) .spare) .stripe ≡ s) =
-      offset-on p r g v (k .on) noDrive ch o s d ob l (away d l) (here? s d h l) in
+      offset-on p r g v (k .on) 0 ch o s d ob l (away d l) (here? s d h l) in
       let b : (offsetOn G d s < p .S) × (suc (offsetOn G d s) < zoneAt v d o .pointer) = stored-below p (zoneAt v d o) (offsetOn G d s) (a .0) in
-      subst (λ (q : Piece). Wide (q .rec)) (sym (stored-piece p r g v (k .on) noDrive ch o s d ob l (away d l) (here? s d h l)))
-      (zone-bytes p r g v (k .on) d o l (omega (arith, l, k .none)) ob .wide (offsetOn G d s) (b .0) (b .1))
+      subst (λ (q : Piece). Wide (q .rec)) (sym (stored-piece p r g v (k .on) 0 ch o s d ob l (away d l) (here? s d h l)))
+      (zone-bytes p r g v (k .on) d o l (k .none d l) ob .wide (offsetOn G d s) (b .0) (b .1))
 
   -- ---- stripe s as stripe t
-  module _ (s t : ℕ) (h : Has s (counted p (named noDrive) G)) (tl : t < p .S) where
+  module _ (s t : ℕ) (h : Has s (counted p 0 G)) (tl : t < p .S) where
     abbrev qs : List Piece
     qs = movedPieces p G s t
-
-    noPiece : Piece
-    noPiece = mkPiece [] (mkRec 0 0 0)
 
     qs-is : movedPieces p G s t ≡ map (λ j. renumbered t (storedPiece G s (dataDrive p s j))) (below (dataCount p))
     unfolding movedPieces dataDrives
@@ -235,119 +229,142 @@ module _ (p : Params) (r : Ranged p) (g : Ghost) (v : View) (k : Settled p r g v
         ∙ ap xorL (sym values-same)
         ∙ ap (λ (l : List ℕ). xorL (map F l)) (sym (keep-data p r t))
         ∙ xor-below (isData p t) F (p .N) in
-        xorN-put (p .N) (parityDrive p t) F (onlyWhere (isData p t) F) pd (λ d l n. sym (only-there (isData p t) F d (is-data p t d n))) (only-else (isData p t) F (parityDrive p t) np)
+        xorN-put (p .N) (parityDrive p t) F (onlyWhere (isData p t) F) pd (λ d l n. sym (only-there (isData p t) F d (parity-else d n))) (only-else (isData p t) F (parityDrive p t) np)
         ∙ ap (λ (x : Val). x ⊕ X) e ∙ ⊕-self X
       where
+        parity-else : (d : ℕ) → d ≢ parityDrive p t → isData p t d ≡ true
+        parity-else d n = unfold isData in ap not (ne-eqb d (parityDrive p t) n)
+
         parity-not : (t : ℕ) → isData p t (parityDrive p t) ≡ false
         parity-not t = unfold isData in ap not (eq-eqb (parityDrive p t) (parityDrive p t) refl)
 
   -- ---- the plan: the counted stripes, numbered from 0
   abbrev cs : List ℕ
-  cs = counted p (named noDrive) G
+  cs = counted p 0 G
 
-  piece-is : (s d : ℕ) → d < p .N → pieceAt p r g v (k .on) noDrive ch o s d ≡ pieceValue (storedPiece G s d)
-  piece-is s d l = unfold pieceAt in ap pieceValue (piece-here p r g v (k .on) noDrive ch o s d l (away d l))
+  piece-is : (s d : ℕ) → d < p .N → pieceAt p r g v (k .on) 0 ch o s d ≡ pieceValue (storedPiece G s d)
+  piece-is s d l = unfold pieceAt in ap pieceValue (piece-here p r g v (k .on) 0 ch o s d l (away d l))
 
-  pub plan-few : length (counted p (named noDrive) G) ≤ p .S
-  plan-few = unfold counted in omega (arith, length-keep (counts p (named noDrive) G) (below (p .S)), length-below (p .S))
+  pub plan-few : length (counted p 0 G) ≤ p .S
+  plan-few = unfold counted in omega (arith, length-keep (counts p 0 G) (below (p .S)), length-below (p .S))
 
-  pub plan-src : (j : ℕ) → j < length (counted p (named noDrive) G) → Has (getD (counted p (named noDrive) G) j 0) (counted p (named noDrive) G)
-  plan-src j l = getD-has (counted p (named noDrive) G) j 0 l
+  pub plan-src : (j : ℕ) → j < length (counted p 0 G) → Has (getD (counted p 0 G) j 0) (counted p 0 G)
+  plan-src j l = getD-has (counted p 0 G) j 0 l
 
   pub plan-F : ℕ → ℕ → Val
-  plan-F j d = pieceValue (movedOn p (movedPieces p (segmentOf p v (named noDrive) o) (getD (counted p (named noDrive) (segmentOf p v (named noDrive) o)) j 0) j) j d)
+  plan-F j d = pieceValue (movedOn p (movedPieces p (segmentOf p v 0 o) (getD (counted p 0 (segmentOf p v 0 o)) j 0) j) j d)
 
   pub plan-E : ℕ → ℕ → Val
-  plan-E j d = pieceAt p r g v (k .on) noDrive (none-choice p r g v k) o (getD (counted p (named noDrive) (segmentOf p v (named noDrive) o)) j 0) d
+  plan-E j d = pieceAt p r g v (k .on) 0 (none-choice p r g v k) o (getD (counted p 0 (segmentOf p v 0 o)) j 0) d
 
-  pub plan-F-is : (j d : ℕ) → plan-F j d ≡ pieceValue (movedOn p (movedPieces p (segmentOf p v (named noDrive) o) (getD (counted p (named noDrive) (segmentOf p v (named noDrive) o)) j 0) j) j d)
+  pub plan-F-is : (j d : ℕ) → plan-F j d ≡ pieceValue (movedOn p (movedPieces p (segmentOf p v 0 o) (getD (counted p 0 (segmentOf p v 0 o)) j 0) j) j d)
   unfolding plan-F
   plan-F-is j d = refl
 
-  pub plan-xor : (j : ℕ) → j < length (counted p (named noDrive) G) → xorN (p .N) (plan-F j) ≡ 𝟘
+  pub plan-word : (j : ℕ) → j < length (counted p 0 G) → Word (parOf p r) j (plan-F j)
   unfolding plan-F
-  plan-xor j l = moved-xor (getD cs j 0) j (plan-src j l) (omega (arith, l, plan-few))
+  plan-word j l = word-code p r j (plan-F j) (moved-xor (getD cs j 0) j (plan-src j l) (omega (arith, l, plan-few)))
 
-  pub plan-to : (j : ℕ) (x : Val) → j < length (counted p (named noDrive) G) → Datum (parOf p r) (getD (counted p (named noDrive) G) j 0) (plan-E j) x → Datum (parOf p r) j (plan-F j) x
+  pub plan-to : (j : ℕ) (x : Val) → j < length (counted p 0 G) → Datum (parOf p r) (getD (counted p 0 G) j 0) (plan-E j) x → Datum (parOf p r) j (plan-F j) x
   unfolding plan-F plan-E
   plan-to j x l dt =
       let s : ℕ = getD cs j 0 in
-      let e : isData p s (dt .d) ≡ true = is-data p s (dt .d) (dt .data?) in
+      let e : isData p s (dt .d) ≡ true = code-data p r s (dt .d) (dt .data?) in
       let n : ℕ = dataPosition p s (dt .d) in
       let b : n < dataCount p = position-lt p s (dt .d) e (dt .lt) in
       record {
         d = dataDrive p j n;
         lt = data-drive-lt p j n b;
-        data? = data-not-parity p j n;
+        data? = data-code p r j (dataDrive p j n) (drive-is-data p j n);
         val = moved-data s j (plan-src j l) (omega (arith, l, plan-few)) (dataDrive p j n) (drive-is-data p j n) (data-drive-lt p j n b)
             ∙ ap (λ (y : ℕ). pieceValue (storedPiece G s (dataDrive p s y))) (position-drive p j n) ∙ ap (λ (y : ℕ). pieceValue (storedPiece G s y)) (drive-position p s (dt .d) e)
             ∙ sym (piece-is s (dt .d) (dt .lt)) ∙ dt .val;
       }
 
-  pub plan-from : (j : ℕ) (x : Val) → j < length (counted p (named noDrive) G) → Datum (parOf p r) j (plan-F j) x → Datum (parOf p r) (getD (counted p (named noDrive) G) j 0) (plan-E j) x
+  pub plan-from : (j : ℕ) (x : Val) → j < length (counted p 0 G) → Datum (parOf p r) j (plan-F j) x → Datum (parOf p r) (getD (counted p 0 G) j 0) (plan-E j) x
   unfolding plan-F plan-E
   plan-from j x l dt =
       let s : ℕ = getD cs j 0 in
-      let e : isData p j (dt .d) ≡ true = is-data p j (dt .d) (dt .data?) in
+      let e : isData p j (dt .d) ≡ true = code-data p r j (dt .d) (dt .data?) in
       let n : ℕ = dataPosition p j (dt .d) in
       let b : n < dataCount p = position-lt p j (dt .d) e (dt .lt) in
       record {
         d = dataDrive p s n;
         lt = data-drive-lt p s n b;
-        data? = data-not-parity p s n;
+        data? = data-code p r s (dataDrive p s n) (drive-is-data p s n);
         val = piece-is s (dataDrive p s n) (data-drive-lt p s n b) ∙ sym (moved-data s j (plan-src j l) (omega (arith, l, plan-few)) (dt .d) e (dt .lt)) ∙ dt .val;
       }
 
   abbrev pub planOf : m-Plan (parOf p r)
   planOf = record {
-    c = length (counted p (named noDrive) (segmentOf p v (named noDrive) o));
-    src = λ j. getD (counted p (named noDrive) (segmentOf p v (named noDrive) o)) j 0;
+    c = length (counted p 0 (segmentOf p v 0 o));
+    src = λ j. getD (counted p 0 (segmentOf p v 0 o)) j 0;
     F = plan-F;
     E = plan-E;
     few = plan-few;
-    xor = plan-xor;
+    word = plan-word;
     to = plan-to;
     from = plan-from;
   }
 
   -- ---- the plan copies just what counts
-  pub plan-stripe : (j : ℕ) → j < length (counted p (named noDrive) G) → Stripe (parOf p r) (itemsIn p v) (g .un) o (getD (counted p (named noDrive) G) j 0) (plan-E j)
+  pub plan-stripe : (j : ℕ) → j < length (counted p 0 G) → Stripe (parOf p r) (itemsIn p v) (g .un) o (getD (counted p 0 G) j 0) (plan-E j)
   unfolding plan-E
-  plan-stripe j l = Stripe-none-any (parOf p r) (g .hd) (itemsIn p v) noDrive (g .un) (far-off p r g v k) (k .none) o (getD cs j 0) (pieceAt p r g v (k .on) noDrive ch o (getD cs j 0))
-      (counted-stripe p r g v (k .on) noDrive ch o (getD cs j 0) ob (plan-src j l))
+  plan-stripe j l = Stripe-none-any (parOf p r) (g .hd) (itemsIn p v) (isIn 0) (g .un) (far-off p r g v k) (k .none) o (getD cs j 0) (pieceAt p r g v (k .on) 0 ch o (getD cs j 0))
+      (counted-stripe p r g v (k .on) 0 ch o (getD cs j 0) ob (plan-src j l))
 
   pub plan-all : (s : ℕ) (f : ℕ → Val) (x : Val) → Stripe (parOf p r) (itemsIn p v) (g .un) o s f → Datum (parOf p r) s f x
-      → (j : ℕ) × (j < length (counted p (named noDrive) G)) × Datum (parOf p r) (getD (counted p (named noDrive) G) j 0) (plan-E j) x
+      → (j : ℕ) × (j < length (counted p 0 G)) × Datum (parOf p r) (getD (counted p 0 G) j 0) (plan-E j) x
   unfolding plan-E
   plan-all s f x st dt =
-      let st′ : Stripe (parOf p r) (itemsIn p v) noDrive o s f = Stripe-none-any (parOf p r) (g .hd) (itemsIn p v) (g .un) noDrive (k .none) (far-off p r g v k) o s f st in
-      let q : Has s (counted p (named noDrive) G) × ((d : ℕ) → d < p .N → pieceAt p r g v (k .on) noDrive ch o s d ≡ f d) = stripe-counted p r g v (k .on) noDrive ch o s f st′ in
+      let st′ : Stripe (parOf p r) (itemsIn p v) (isIn 0) o s f = Stripe-none-any (parOf p r) (g .hd) (itemsIn p v) (g .un) (isIn 0) (k .none) (far-off p r g v k) o s f st in
+      let q : Has s (counted p 0 G) × ((d : ℕ) → d < p .N → pieceAt p r g v (k .on) 0 ch o s d ≡ f d) = stripe-counted p r g v (k .on) 0 ch o s f st′ in
       let j : (j : ℕ) × (j < length cs) × (getD cs j 0 ≡ s) = has-getD cs s 0 (q .0) in (
         j .0,
         j .1,
-        subst (λ (y : ℕ). Datum (parOf p r) y (pieceAt p r g v (k .on) noDrive ch o y) x) (sym (j .2))
+        subst (λ (y : ℕ). Datum (parOf p r) y (pieceAt p r g v (k .on) 0 ch o y) x) (sym (j .2))
             (record { d = dt .d; lt = dt .lt; data? = dt .data?; val = q .1 (dt .d) (dt .lt) ∙ dt .val }),
       )
 
   -- ---- the machine is ready
-  pub plan-ready : (w : ℕ) → segmentOf p v (named noDrive) o .full ≡ false → w < p .Z → ((e : ℕ) → e < p .N → pointerAt v e w ≡ 0) → (n : ℕ) → serialTop p v < n → g .pr ≡ alone
-      → Ready (parOf p r) g (itemsIn p v) w o n planOf
-  plan-ready w un wb empty n top alone? = record {
-    none = k .none;
-    no-pair = alone?;
-    ragged = rag (ragged-of p r g v (k .on) noDrive ch o i un);
-    zones = (wb, ob);
-    empty = λ e l. items-in p v e w ∙ none-stored (zoneAt v e w) (pointer-is v e w ∙ empty e l);
-    newest = λ y u. let a : g .hd .ser y ≤ serialTop p v = newest y u in omega (arith, a, top);
-    src = plan-stripe;
-    all = plan-all;
-  }
-    where
-      rag : Ragged (parOf p r) noDrive (itemsIn p v) o → Ragged (parOf p r) (g .un) (itemsIn p v) o
-      rag (d, t, a, b) = (d, (t .0, omega (arith, t .0, k .none)), a, b)
+  module _ (w : ℕ) (un : segmentOf p v 0 o .full ≡ false) (wb : w < p .Z) (empty : (e : ℕ) → e < p .N → pointerAt v e w ≡ 0) (n : ℕ) (top : serialTop p v < n) where
+    pub ready-ragged : Ragged (parOf p r) (g .un) (itemsIn p v) o
+    ready-ragged = rag (ragged-of p r g v (k .on) 0 ch o i un)
+      where
+        rag : Ragged (parOf p r) (isIn 0) (itemsIn p v) o → Ragged (parOf p r) (g .un) (itemsIn p v) o
+        rag (d, t, a, b) = (d, (t .0, k .none d (t .0)), a, b)
 
-      newest : (y : ℕ) → Used (parOf p r) (g .un) (itemsIn p v) y → g .hd .ser y ≤ serialTop p v
-      newest y u = unfold serialTop in ends-serials p r g v k y u
+    pub ready-empty : (e : ℕ) → e < p .N → itemsIn p v e w ≡ []
+    ready-empty e l = items-in p v e w ∙ none-stored (zoneAt v e w) (pointer-is v e w ∙ empty e l)
+      where
+        none-stored : (q : Zone) → q .pointer ≡ 0 → itemsOf p q ≡ []
+        none-stored q e = unfold itemsOf stored in (ap (λ (n : ℕ). itemsFrom p 0 (take n (q .blocks))) e ∙ (unfold itemsFrom in refl))
 
-      none-stored : (q : Zone) → q .pointer ≡ 0 → itemsOf p q ≡ []
-      none-stored q e = unfold itemsOf stored in (ap (λ (n : ℕ). itemsFrom p 0 (take n (q .blocks))) e ∙ (unfold itemsFrom in refl))
+    pub ready-newest : (y : ℕ) → Used (parOf p r) (g .un) (itemsIn p v) y → g .hd .ser y < n
+    ready-newest y u = let a : g .hd .ser y ≤ serialTop p v = newest in omega (arith, a, top)
+      where
+        newest : g .hd .ser y ≤ serialTop p v
+        newest = unfold serialTop in ends-serials p r g v k y u
+
+    -- w's zones are no other segment's
+    pub ready-clear : (y : ℕ) → Used (parOf p r) (g .un) (itemsIn p v) y → (d : ℕ) → d < p .N → g .hd .zn y d ≢ zoneOn w d
+    ready-clear y (e, t, b) d l q =
+        let i : y ≡ w = zone-apart y w d (sym (ap (λ (f : ℕ → ℕ). f d) (used-zones p r g v (k .on) y (e, t, b))) ∙ q) in
+        let z : length (itemsIn p v e y) ≡ 0 = ap (λ (x : ℕ). length (itemsIn p v e x)) i ∙ ap length (ready-empty e (t .0)) in
+        let j : ⊥ = omega (arith, z, b) in j
+
+    -- on drives u that hold what v does
+    abbrev pub plan-ready : (u : m-View) → itemsIn p v ≡ u → g .pr ≡ alone → Ready (parOf p r) g u w o n planOf
+    plan-ready u same alone? = record {
+      none = k .none;
+      no-pair = alone?;
+      ragged = subst (λ (x : m-View). Ragged (parOf p r) (g .un) x o) same ready-ragged;
+      zs = zoneOn w;
+      fits = λ d l. (zone-on-lt p w d wb, refl);
+      clear = subst (λ (x : m-View). (y : ℕ) → Used (parOf p r) (g .un) x y → (d : ℕ) → d < p .N → g .hd .zn y d ≢ zoneOn w d) same ready-clear;
+      empty = subst (λ (x : m-View). (e : ℕ) → e < p .N → x e w ≡ []) same ready-empty;
+      newest = subst (λ (x : m-View). (y : ℕ) → Used (parOf p r) (g .un) x y → g .hd .ser y < n) same ready-newest;
+      src = subst (λ (x : m-View). (j : ℕ) → j < length (counted p 0 G) → Stripe (parOf p r) x (g .un) o (getD (counted p 0 G) j 0) (plan-E j)) same plan-stripe;
+      all = subst (λ (x : m-View). (s : ℕ) (f : ℕ → Val) (y : Val) → Stripe (parOf p r) x (g .un) o s f → Datum (parOf p r) s f y
+          → (j : ℕ) × (j < length (counted p 0 G)) × Datum (parOf p r) (getD (counted p 0 G) j 0) (plan-E j) y) same plan-all;
+    }

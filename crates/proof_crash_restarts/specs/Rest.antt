@@ -2,29 +2,31 @@
 use mathlib.Core.Path.{_≡_, refl, sym, ap, ap₂, _∙_, subst}
 use mathlib.Core.List.{List, [], _∷_, map}
 use mathlib.Core.Logic.{inl, inr, ⊎-elim}
-use Prim.Native.Nat.{ℕ, _≤_, _<_}
+use Prim.Native.Nat.{ℕ, _<_}
 use native.Mathlib.Decide.{ℕ-discrete}
 use native.Mathlib.Omega.{arith}
 use lib.ListN.{length}
 use Rattle.spec.specs.declared.Params.{Params}
 use Rattle.spec.specs.Drives.{View, zoneAt, pointerAt, storeView, storeAll}
 use Rattle.spec.specs.Lists.Opt.{none}
-use Rattle.spec.specs.Params.{noDrive, named}
 use Rattle.spec.specs.Restart.{freeZones, dropStores}
 use Rattle.spec.specs.Segments.{remaining, Segment, segmentOf, segments}
+use Rattle.spec.specs.Lists.{isIn}
 use Rattle.law_basic.specs.Geometry.{Ranged}
+use Rattle.law_basic.specs.Mask.{isIn-empty}
 use Rattle.proof_crash_machine.specs.Drop.{dropped-end, settled}
 use Rattle.proof_crash_machine.specs.Facts.Pair.{alone}
-use Rattle.proof_crash_machine.specs.Facts.{Ghost, R, Used, Facts, used}
+use Rattle.proof_crash_machine.specs.Facts.{Ghost, R, Used, Facts, used, None}
 use Rattle.proof_crash_machine.specs.Ghosts.{withPr}
 use Rattle.proof_crash_machine.specs.Rest.{Dropped, rest-of}
-use Rattle.proof_crash_machine.specs.View.{Item, View as m-View, Store as m-Store, applyAll}
+use Rattle.proof_crash_machine.specs.View.{Item, View as m-View, applyAll}
 use Rattle.proof_crash_items.specs.Items.{itemsOf, itemsIn, items-in}
 use Rattle.proof_crash_items.specs.Member.{Has}
 use Rattle.proof_crash_items.specs.Ranges.{parOf}
 use Rattle.proof_crash_items.specs.Refuse.{remaining-rising}
 use Rattle.proof_crash_items.specs.Segs.{OnDrives, zone-len, has-remaining, remaining-has}
 use Rattle.proof_crash_items.specs.Sound.{Follows, follows-all}
+use Rattle.proof_crash_items.specs.Named.{zero-choice, none-out, zero-few}
 use Rattle.proof_crash_restarts.specs.Drops.{dropItems, all-other, all-zero, free-has, has-free, drops-follow, dropping}
 use Rattle.proof_crash_restarts.specs.Link.{shape-after, bytes-after}
 use Rattle.proof_crash_restarts.specs.Order.{rising-same}
@@ -33,82 +35,75 @@ use Rattle.proof_crash_restarts.specs.Same.{segment-same, R-none-any}
 -- drives with the facts, none missing, no pair, where all that is used remains
 pub record Settled (p : Params) (r : Ranged p) (g : Ghost) (v : View) : Type 0 where
   pub on : OnDrives p r g v
-  pub none : p .N ≤ g .un
+  pub none : None (parOf p r) (g .un)
   pub no-pair : g .pr ≡ alone
   pub rest : (z : ℕ) → Used (parOf p r) (g .un) (itemsIn p v) z → R (parOf p r) (g .hd) (itemsIn p v) (g .un) z
 
 module _ (p : Params) (r : Ranged p) (g : Ghost) (v : View) (k : Settled p r g v) where
-  pub far-off : p .N ≤ noDrive
-  unfolding noDrive
-  far-off = omega (arith, r .drives-high)
+  pub far-off : None (parOf p r) (isIn 0)
+  far-off = none-out p r
 
-  pub settled-remains : (z : ℕ) → Used (parOf p r) (g .un) (itemsIn p v) z → Has z (remaining p v (named noDrive))
-  settled-remains z u = has-remaining p r g v (k .on) noDrive (inl (k .none)) z (R-none-any (parOf p r) (g .hd) (itemsIn p v) (g .un) noDrive (k .none) far-off z (k .rest z u))
+  pub settled-remains : (z : ℕ) → Used (parOf p r) (g .un) (itemsIn p v) z → Has z (remaining p v 0)
+  settled-remains z u = has-remaining p r g v (k .on) 0 (zero-choice p r (g .un) (k .none)) z (R-none-any (parOf p r) (g .hd) (itemsIn p v) (g .un) (isIn 0) (k .none) far-off z (k .rest z u))
 
-  pub settled-used : (z : ℕ) → Has z (remaining p v (named noDrive)) → (z < p .Z) × Used (parOf p r) (g .un) (itemsIn p v) z
+  pub settled-used : (z : ℕ) → Has z (remaining p v 0) → (z < p .Z) × Used (parOf p r) (g .un) (itemsIn p v) z
   settled-used z i =
-      let a : (z < p .Z) × R (parOf p r) (g .hd) (itemsIn p v) noDrive z = remaining-has p r g v (k .on) noDrive (inl (k .none)) z i in
-      (a .0, used (parOf p r) g (itemsIn p v) noDrive z (inl (k .none)) (a .1 .left))
+      let a : (z < p .Z) × R (parOf p r) (g .hd) (itemsIn p v) (isIn 0) z = remaining-has p r g v (k .on) 0 (zero-choice p r (g .un) (k .none)) z i in
+      (a .0, used (parOf p r) g (itemsIn p v) (isIn 0) z (zero-choice p r (g .un) (k .none)) (a .1 .left))
 
-module _ (p : Params) (r : Ranged p) (g : Ghost) (v : View) (k : OnDrives p r g v) (none : p .N ≤ g .un) where
-  abbrev gs : List Segment
-  gs = segments p v (named noDrive)
-
+module _ (p : Params) (r : Ranged p) (g : Ghost) (v : View) (k : OnDrives p r g v) (none : None (parOf p r) (g .un)) where
   abbrev v₁ : View
-  v₁ = storeAll storeView (dropStores p (segments p v (named noDrive))) v
+  v₁ = storeAll storeView (dropStores p (segments p v 0)) v
 
-  ms : List m-Store
-  ms = dropItems p (segments p v (named noDrive))
+  follow : Follows p v (dropStores p (segments p v 0)) (dropItems p (segments p v 0))
+  follow = drops-follow p r v v 0
 
-  follow : Follows p v (dropStores p (segments p v (named noDrive))) (dropItems p (segments p v (named noDrive)))
-  follow = drops-follow p r v v (named noDrive)
+  pub dropped-items : itemsIn p v₁ ≡ applyAll (itemsIn p v) (dropItems p (segments p v 0))
+  dropped-items = follows-all p r v (dropStores p (segments p v 0)) (dropItems p (segments p v 0)) (k .shape) follow
 
-  pub dropped-items : itemsIn p v₁ ≡ applyAll (itemsIn p v) (dropItems p (segments p v (named noDrive)))
-  dropped-items = follows-all p r v (dropStores p (segments p v (named noDrive))) (dropItems p (segments p v (named noDrive))) (k .shape) follow
-
-  pub after-facts : Facts (parOf p r) (withPr g alone) (applyAll (itemsIn p v) (dropItems p (segments p v (named noDrive))))
-  after-facts = settled (parOf p r) g none (applyAll (itemsIn p v) (dropItems p (segments p v (named noDrive))))
-      (dropped-end (parOf p r) g none (Dropped (parOf p r) g (itemsIn p v)) (itemsIn p v) (dropItems p (segments p v (named noDrive))) (dropping p r g v k none .are) (k .facts) (λ z n. n))
-      (rest-of (parOf p r) g (itemsIn p v) (k .facts) none (dropItems p (segments p v (named noDrive))) (dropping p r g v k none .are) (dropping p r g v k none .every))
+  pub after-facts : Facts (parOf p r) (withPr g alone) (applyAll (itemsIn p v) (dropItems p (segments p v 0)))
+  after-facts = settled (parOf p r) g none (applyAll (itemsIn p v) (dropItems p (segments p v 0)))
+      (dropped-end (parOf p r) g none (Dropped (parOf p r) g (itemsIn p v)) (itemsIn p v) (dropItems p (segments p v 0)) (dropping p r g v k none .are) (k .facts) (λ z n. n))
+      (rest-of (parOf p r) g (itemsIn p v) (k .facts) none (dropItems p (segments p v 0)) (dropping p r g v k none .are) (dropping p r g v k none .every))
 
   pub after-settled : Settled p r (withPr g alone) v₁
   after-settled = record {
     on = record {
-      shape = shape-after p r v (dropStores p (segments p v (named noDrive))) (dropItems p (segments p v (named noDrive))) (k .shape) follow;
-      bytes = bytes-after p r v (dropStores p (segments p v (named noDrive))) (dropItems p (segments p v (named noDrive))) (k .shape) follow (g .un) (k .bytes);
+      shape = shape-after p r v (dropStores p (segments p v 0)) (dropItems p (segments p v 0)) (k .shape) follow;
+      bytes = bytes-after p r v (dropStores p (segments p v 0)) (dropItems p (segments p v 0)) (k .shape) follow (g .un) (k .bytes);
       facts = subst (λ (u : m-View). Facts (parOf p r) (withPr g alone) u) (sym dropped-items) after-facts;
     };
     none = none;
     no-pair = refl;
     rest = subst (λ (u : m-View). (z : ℕ) → Used (parOf p r) (g .un) u z → R (parOf p r) (g .hd) u (g .un) z) (sym dropped-items)
-        (rest-of (parOf p r) g (itemsIn p v) (k .facts) none (dropItems p (segments p v (named noDrive))) (dropping p r g v k none .are) (dropping p r g v k none .every));
+        (rest-of (parOf p r) g (itemsIn p v) (k .facts) none (dropItems p (segments p v 0)) (dropping p r g v k none .are) (dropping p r g v k none .every));
   }
 
-  low-free : (z : ℕ) → Has z (freeZones p (segments p v (named noDrive))) → z < p .Z
-  low-free z i = free-has p r v (named noDrive) z i .0
+  low-free : (z : ℕ) → Has z (freeZones p (segments p v 0)) → z < p .Z
+  low-free z i = free-has p r v 0 z i .0
 
   -- zones that remain are untouched, the others are empty
-  pub zone-after : (d z : ℕ) → Has z (remaining p v (named noDrive)) → zoneAt v₁ d z ≡ zoneAt v d z
+  pub zone-after : (d z : ℕ) → Has z (remaining p v 0) → zoneAt v₁ d z ≡ zoneAt v d z
   unfolding dropStores
-  zone-after d z i = all-other p r (freeZones p (segments p v (named noDrive))) low-free v (k .shape) d z (λ j. free-has p r v (named noDrive) z j .1 i)
+  zone-after d z i = all-other p r (freeZones p (segments p v 0)) low-free v (k .shape) d z (λ j. free-has p r v 0 z j .1 i)
 
-  pub free-after : (d z : ℕ) → d < p .N → Has z (freeZones p (segments p v (named noDrive))) → pointerAt v₁ d z ≡ 0
+  pub free-after : (d z : ℕ) → d < p .N → Has z (freeZones p (segments p v 0)) → pointerAt v₁ d z ≡ 0
   unfolding dropStores
-  free-after d z l i = all-zero p r (freeZones p (segments p v (named noDrive))) low-free v (k .shape) d z l i
+  free-after d z l i = all-zero p r (freeZones p (segments p v 0)) low-free v (k .shape) d z l i
 
   -- the same segments remain
-  same-fwd : (z : ℕ) → Has z (remaining p v (named noDrive)) → Has z (remaining p v₁ (named noDrive))
-  same-fwd z i = settled-remains p r (withPr g alone) v₁ after-settled z (0, (omega (arith, r .drives-low), omega (arith, r .drives-low, none)), begun)
+  same-fwd : (z : ℕ) → Has z (remaining p v 0) → Has z (remaining p v₁ 0)
+  same-fwd z i = settled-remains p r (withPr g alone) v₁ after-settled z (0, (omega (arith, r .drives-low), none 0 (omega (arith, r .drives-low))), begun)
     where
-      a : (z < p .Z) × R (parOf p r) (g .hd) (itemsIn p v) noDrive z
-      a = remaining-has p r g v k noDrive (inl none) z i
+      a : (z < p .Z) × R (parOf p r) (g .hd) (itemsIn p v) (isIn 0) z
+      a = remaining-has p r g v k 0 (zero-choice p r (g .un) none) z i
 
       begun : 0 < length (itemsIn p v₁ 0 z)
       begun = subst (λ (x : List Item). 0 < length x) (items-in p v 0 z ∙ ap (itemsOf p) (sym (zone-after 0 z i)) ∙ sym (items-in p v₁ 0 z))
-          (a .1 .left 0 (omega (arith, r .drives-low)) (unfold noDrive in omega arith))
+          (a .1 .left 0 (omega (arith, r .drives-low)) (isIn-empty 0))
 
-  same-bwd : (z : ℕ) → Has z (remaining p v₁ (named noDrive)) → Has z (remaining p v (named noDrive))
-  same-bwd z i = go (in? z (remaining p v (named noDrive)))
+  same-bwd : (z : ℕ) → Has z (remaining p v₁ 0) → Has z (remaining p v 0)
+  same-bwd z i = go (in? z (remaining p v 0))
     where
       in? : (z : ℕ) (l : List ℕ) → Dec (Has z l)
       in? z [] = no (λ i. i)
@@ -119,23 +114,24 @@ module _ (p : Params) (r : Ranged p) (g : Ghost) (v : View) (k : OnDrives p r g 
           two (no e) (yes q) = yes (inr q)
           two (no e) (no q) = no (λ i. ⊎-elim (λ (w : z ≡ y). e w) (λ (w : Has z l). q w) i)
 
-      a : (z < p .Z) × R (parOf p r) (g .hd) (itemsIn p v₁) noDrive z
-      a = remaining-has p r (withPr g alone) v₁ (after-settled .on) noDrive (inl none) z i
+      a : (z < p .Z) × R (parOf p r) (g .hd) (itemsIn p v₁) (isIn 0) z
+      a = remaining-has p r (withPr g alone) v₁ (after-settled .on) 0 (zero-choice p r (g .un) none) z i
 
-      go : Dec (Has z (remaining p v (named noDrive))) → Has z (remaining p v (named noDrive))
+      go : Dec (Has z (remaining p v 0)) → Has z (remaining p v 0)
       go (yes q) = q
       go (no q) =
-          let f : pointerAt v₁ 0 z ≡ 0 = free-after 0 z (omega (arith, r .drives-low)) (has-free p r v (named noDrive) z (a .0) q) in
-          let n : length (itemsIn p v₁ 0 z) ≡ pointerAt v₁ 0 z = zone-len p r (withPr g alone) v₁ (after-settled .on) 0 z (omega (arith, r .drives-low)) (omega (arith, r .drives-low, none)) (a .0) in
-          absurd (let w : ⊥ = omega (arith, f, n, a .1 .left 0 (omega (arith, r .drives-low)) (unfold noDrive in omega arith)) in w)
+          let f : pointerAt v₁ 0 z ≡ 0 = free-after 0 z (omega (arith, r .drives-low)) (has-free p r v 0 z (a .0) q) in
+          let n : length (itemsIn p v₁ 0 z) ≡ pointerAt v₁ 0 z = zone-len p r (withPr g alone) v₁ (after-settled .on) 0 z (omega (arith, r .drives-low)) (none 0 (omega (arith, r .drives-low)))
+          (a .0) in
+          absurd (let w : ⊥ = omega (arith, f, n, a .1 .left 0 (omega (arith, r .drives-low)) (isIn-empty 0)) in w)
 
-  pub remaining-same : remaining p v₁ (named noDrive) ≡ remaining p v (named noDrive)
-  remaining-same = rising-same (remaining p v₁ (named noDrive)) (remaining p v (named noDrive)) (remaining-rising p v₁ (named noDrive)) (remaining-rising p v (named noDrive)) same-bwd same-fwd
+  pub remaining-same : remaining p v₁ 0 ≡ remaining p v 0
+  remaining-same = rising-same (remaining p v₁ 0) (remaining p v 0) (remaining-rising p v₁ 0) (remaining-rising p v 0) same-bwd same-fwd
 
-  map-has-same : (l : List ℕ) → ((z : ℕ) → Has z l → Has z (remaining p v (named noDrive))) → map (segmentOf p v₁ (named noDrive)) l ≡ map (segmentOf p v (named noDrive)) l
+  map-has-same : (l : List ℕ) → ((z : ℕ) → Has z l → Has z (remaining p v 0)) → map (segmentOf p v₁ 0) l ≡ map (segmentOf p v 0) l
   map-has-same [] h = refl
-  map-has-same (z ∷ l) h = ap₂ (λ (x : Segment) (y : List Segment). x ∷ y) (segment-same p r v v₁ noDrive z (λ d b. zone-after d z (h z (inl refl)))) (map-has-same l (λ y i. h y (inr i)))
+  map-has-same (z ∷ l) h = ap₂ (λ (x : Segment) (y : List Segment). x ∷ y) (segment-same p r v v₁ 0 z (zero-few p r) (λ d b. zone-after d z (h z (inl refl)))) (map-has-same l (λ y i. h y (inr i)))
 
-  pub segments-same : segments p v₁ (named noDrive) ≡ segments p v (named noDrive)
+  pub segments-same : segments p v₁ 0 ≡ segments p v 0
   unfolding segments
-  segments-same = ap (map (segmentOf p v₁ (named noDrive))) remaining-same ∙ map-has-same (remaining p v (named noDrive)) (λ z i. i)
+  segments-same = ap (map (segmentOf p v₁ 0)) remaining-same ∙ map-has-same (remaining p v 0) (λ z i. i)

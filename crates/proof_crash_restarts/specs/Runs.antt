@@ -3,15 +3,12 @@ use mathlib.Core.Path.{_≡_, subst}
 use mathlib.Core.List.{List, [], _∷_, _++_, map}
 use Prim.Native.Nat.{ℕ, zero, suc, _+_, _≤_, _<_}
 use native.Mathlib.Omega.{arith}
-use lib.ListN.{length, take}
-use lib.Seq.{take-all}
+use lib.ListN.{take}
 use Rattle.spec.specs.declared.Params.{Params}
 use Rattle.spec.specs.Drives.{View, Store, storeView, storeAll}
 use Rattle.spec.specs.History.{step}
 use Rattle.spec.specs.Lists.{upFrom, flat}
 use Rattle.law_basic.specs.Stores.{storeAll-append}
-use Rattle.proof_crash_machine.specs.Final.{right}
-use Rattle.proof_crash_machine.specs.Rewrite.{st}
 use Rattle.proof_crash_items.specs.Sound.{Sound, AllSound, sound-append}
 
 abbrev pub Always : (View → Type 0) → View → List Store → Type 0
@@ -54,9 +51,6 @@ module _ (Q : View → Type 0) (D : ℕ → View → Type 0) (f : ℕ → List S
   runs-end j (suc n) t b e w i =
       let a : Always Q w (f j) × D (suc j) (storeAll storeView (f j) w) = step j w (omega arith) i in
       rw storeAll-append (runs-end (suc j) n t (omega arith) (omega arith) (storeAll storeView (f j) w) (a .1))
-
-pub always-end : (Q : View → Type 0) (v : View) (ss : List Store) → Always Q v ss → Q (storeAll storeView ss v)
-always-end Q v ss a = subst (λ (l : List Store). Q (storeAll storeView l v)) (take-all (length ss) ss (omega arith)) (a (length ss))
 
 -- each store is of the right kind
 module _ (p : Params) (I : ℕ → View → Type 0) (st : ℕ → Store) (hi : ℕ) (step : (j : ℕ) (w : View) → j < hi → I j w → I (suc j) (storeView (st j) w))

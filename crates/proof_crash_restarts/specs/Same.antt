@@ -12,36 +12,36 @@ use Rattle.spec.specs.Drives.{noChunk, Zone, noZone, View, zoneAt, pointerAt, c
 use Rattle.spec.specs.Layout.{headerSerial, headerCopied}
 use Rattle.spec.specs.Lists.Opt.{some}
 use Rattle.spec.specs.Lists.{below, isIn}
-use Rattle.spec.specs.Params.{capacity, named, drivesOf, present}
+use Rattle.spec.specs.Params.{capacity, drivesOf, present}
 use Rattle.spec.specs.Segments.{lowDrive, headerAt, recordsIn, segmentOf}
 use Rattle.law_basic.specs.Geometry.{Ranged}
 use Rattle.law_basic.specs.Ranges.{map-below-same, all-keep-same}
-use Rattle.proof_crash_machine.specs.Facts.{Par, Heads, L, R, Stripe, Counted}
+use Rattle.proof_crash_machine.specs.Facts.{Par, Heads, R, Stripe, Counted, None, Choice, Stripe-more, Counted-mask, R-mask, none-few}
 use Rattle.proof_crash_machine.specs.Finish.{Reads}
-use Rattle.proof_crash_machine.specs.Reset.{same}
-use Rattle.proof_crash_machine.specs.Rewrite.{st, left}
 use Rattle.proof_crash_machine.specs.Val.{Val}
 use Rattle.proof_crash_machine.specs.View.{View as m-View}
+use Rattle.proof_crash_machine.specs.Mask.{Mask, tf, count}
 use Rattle.proof_crash_items.specs.Named.{low-drive}
+use Rattle.proof_crash_items.specs.Ranges.{parities}
 
-module _ (p : Params) (r : Ranged p) (v u : View) (m z : ℕ) (same : (d : ℕ) → d < p .N → zoneAt u d z ≡ zoneAt v d z) where
+module _ (p : Params) (r : Ranged p) (v u : View) (m z : ℕ) (few : count (p .N) (isIn m) ≤ parities p) (same : (d : ℕ) → d < p .N → zoneAt u d z ≡ zoneAt v d z) where
   pub pointer-same : (d : ℕ) → d < p .N → pointerAt u d z ≡ pointerAt v d z
   unfolding pointerAt
   pointer-same d l = ap (λ (q : Zone). q .pointer) (same d l)
 
-  pub sealed-same : sealedIn p u (named m) z ≡ sealedIn p v (named m) z
+  pub sealed-same : sealedIn p u m z ≡ sealedIn p v m z
   unfolding sealedIn zoneOn present drivesOf below
-  sealed-same = all-keep-same (λ d. not (isIn (named m) d)) (λ d. eqb (pointerAt u d z) (capacity p)) (λ d. eqb (pointerAt v d z) (capacity p)) 0 (p .N)
+  sealed-same = all-keep-same (λ d. not (isIn m d)) (λ d. eqb (pointerAt u d z) (capacity p)) (λ d. eqb (pointerAt v d z) (capacity p)) 0 (p .N)
       (λ d a l. ap (λ (x : ℕ). eqb x (capacity p)) (pointer-same d (omega arith)))
 
-  pub header-same : headerAt u (lowDrive p (named m)) z ≡ headerAt v (lowDrive p (named m)) z
+  pub header-same : headerAt u (lowDrive p m) z ≡ headerAt v (lowDrive p m) z
   unfolding headerAt chunkAt zoneOn
-  header-same = ap (λ (q : Zone). getD (q .blocks) 0 noChunk .block) (same (lowDrive p (named m)) (low-drive p r m .0))
+  header-same = ap (λ (q : Zone). getD (q .blocks) 0 noChunk .block) (same (lowDrive p m) (low-drive p m r few .0))
 
   zones-same : map (λ d. zoneAt u d z) (below (p .N)) ≡ map (λ d. zoneAt v d z) (below (p .N))
   zones-same = map-below-same (λ d. zoneAt u d z) (λ d. zoneAt v d z) (p .N) same
 
-  pub segment-same : segmentOf p u (named m) z ≡ segmentOf p v (named m) z
+  pub segment-same : segmentOf p u m z ≡ segmentOf p v m z
   unfolding segmentOf drivesOf zoneOn
   segment-same = λ j. record {
     seg = z;
@@ -49,32 +49,25 @@ module _ (p : Params) (r : Ranged p) (v u : View) (m z : ℕ) (same : (d : ℕ) 
     copied = headerCopied (header-same j);
     full = sealed-same j;
     zonesBy = zones-same j;
-    recs = map (λ d. cond (isIn (named m) d) [] (recordsIn p (sealed-same j) (getD (zones-same j) d noZone))) (below (p .N));
+    recs = map (λ d. cond (isIn m d) [] (recordsIn p (sealed-same j) (getD (zones-same j) d noZone))) (below (p .N));
   }
 
--- ---- none missing, by any number
+-- ---- none missing, whatever the mask
 
-module _ (P : Par) (h : Heads) (v : m-View) (a b : ℕ) (na : P .N ≤ a) (nb : P .N ≤ b) where
-  pub L-none-any : (z : ℕ) → L P v a z → L P v b z
-  L-none-any z l d k n = l d k (omega arith)
+module _ (P : Par) (h : Heads) (v : m-View) (a b : Mask) (na : None P a) (nb : None P b) where
+  choice-any : Choice P a b
+  choice-any = (none-few P b nb, λ d l e. tf e (na d l))
 
   pub Stripe-none-any : (z s : ℕ) (f : ℕ → Val) → Stripe P v a z s f → Stripe P v b z s f
-  Stripe-none-any z s f st = record { on = λ d k n. st .on d k (omega arith); xor = st .xor }
+  Stripe-none-any z s f st = Stripe-more P v a b z s f choice-any st
 
-pub R-none-any : (P : Par) (h : Heads) (v : m-View) (a b : ℕ) → P .N ≤ a → P .N ≤ b → (z : ℕ) → R P h v a z → R P h v b z
-R-none-any P h v a b na nb z r = record { left = L-none-any P h v a b na nb z (r .left); own = λ o l q. r .own o (L-none-any P h v b a nb na o l) q }
+pub R-none-any : (P : Par) (h : Heads) (v : m-View) (a b : Mask) → None P a → None P b → (z : ℕ) → R P h v a z → R P h v b z
+R-none-any P h v a b na nb z r = R-mask P h v a b z (choice-any P h v a b na nb) (choice-any P h v b a nb na) r
 
-pub Counted-none-any : (P : Par) (h : Heads) (v : m-View) (a b : ℕ) → P .N ≤ a → P .N ≤ b → (x : Val) → Counted P h v a x → Counted P h v b x
-Counted-none-any P h v a b na nb x c = record {
-  z = c .z;
-  s = c .s;
-  f = c .f;
-  rem = R-none-any P h v a b na nb (c .z) (c .rem);
-  st = Stripe-none-any P h v a b na nb (c .z) (c .s) (c .f) (c .st);
-  dt = c .dt;
-}
+pub Counted-none-any : (P : Par) (h : Heads) (v : m-View) (a b : Mask) → None P a → None P b → (x : Val) → Counted P h v a x → Counted P h v b x
+Counted-none-any P h v a b na nb x c = Counted-mask P h v a b x (choice-any P h v a b na nb) (choice-any P h v b a nb na) c
 
-pub Reads-none-any : (P : Par) (h : Heads) (v : m-View) (a b : ℕ) → P .N ≤ a → P .N ≤ b → (K : ℕ → ℕ) → Reads P h v a K → Reads P h v b K
+pub Reads-none-any : (P : Par) (h : Heads) (v : m-View) (a b : Mask) → None P a → None P b → (K : ℕ → ℕ) → Reads P h v a K → Reads P h v b K
 Reads-none-any P h v a b na nb K r = record {
   most = λ x c. r .most x (Counted-none-any P h v b a nb na x c);
   some = λ i. ⊎-elim (λ e. inl e) (λ (q : (x : Val) × Counted P h v a x × (x .addr ≡ i) × (x .stamp ≡ K i)). inr (q .0, Counted-none-any P h v a b na nb (q .0) (q .1), q .2, q .3)) (r .some i);
