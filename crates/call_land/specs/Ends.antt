@@ -24,13 +24,13 @@ use Rattle.spec.specs.Layout.{Rec, parityDrive, dataPosition, compactEntry, rec
 use Rattle.spec.specs.Lists.Opt.{none, some}
 use Rattle.spec.specs.Memory.{Memory, mkMemory, stripeIn, filledIn, entryIn, openSegment, setClosed, freeStripe, placeAt, compactAt, slotByte, slotBlock}
 use Rattle.spec.specs.Params.{spareLen, dataCount, footers, capacity}
-use Rattle.law_basic.specs.Geometry.{ranged, data-count-high, data-drive-lt, spare-len, capacity-high, data-below, zone-on-lt, slot-within}
+use Rattle.law_basic.specs.Fields.{length-record}
+use Rattle.law_basic.specs.Geometry.{ranged, data-count-high, data-drive-lt, capacity-high, data-below, zone-on-lt, slot-within}
 use Rattle.law_basic.specs.Splice.{length-part}
 use Rattle.law_basic.specs.Stores.{stores-cons, stores-zero, stores-nil}
 use Rattle.law_calls.specs.Refusals.{call-refused, call-done, call-cut, refusal-kind}
 use Rattle.law_views.specs.Pointers.{pointer-set, pointer-other-drive}
 use Rattle.law_views.specs.Views.{Whole, pointer-view, view-put, whole-put, seen}
-use Rattle.disk_records.specs.Record.{record-long}
 use Rattle.disk_zones.specs.Made.{put-pointers}
 use Rattle.mem_rows.specs.declared.Row.{Row}
 use Rattle.mem_rows.specs.declared.Front.{Front}
@@ -98,7 +98,7 @@ module _ (p : Params) (k : Disk) (m : Memory) (d s : ℕ) (r : Ready p k m d s) 
   block-long = length-part (slotByte p i d) (p .B) (m .inflight) (omega (arith, slot-within p i d (r .slot-low) (r .drive-low), r .inflight-long))
 
   spare-long : length t ≡ spareLen
-  spare-long = record-long (flightRec p (m .state) i d) ∙ sym spare-len
+  spare-long = length-record (flightRec p (m .state) i d)
 
   -- the pointer by the bytes, and that it has room
   pub at-pointer : pointerOf p (k .pointers) d (zoneOn (openSegment (m .state)) d) ≡ pointerAt (seen p k) d (zoneOn (openSegment (m .state)) d)

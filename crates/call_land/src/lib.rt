@@ -144,7 +144,7 @@ fn put_chunk(
         ≡ storeDisk p (put drive zone (slotBlock p (now (inflight .entry)) i drive) (recordBytes (flightRec p (alone row) 0 drive)))
         (mkDisk (now (image .entry)) (now (pointers .entry))) ⌝ }
 {
-    let mut spare = [0u8; 20];
+    let mut spare = [0u8; disk_shape::SPARE];
     disk_records::write_record(&mut spare, call_land_chunk::flight_record(p, row, drive));
     let a = disk_shape::slot_byte(p, i, drive);
     let e = a + p.B;

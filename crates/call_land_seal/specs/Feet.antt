@@ -14,13 +14,13 @@ use Rattle.spec.specs.Landing.{sealStores}
 use Rattle.spec.specs.Layout.{footerBlock}
 use Rattle.spec.specs.Lists.{upFrom, below, flat}
 use Rattle.spec.specs.Params.{spareLen, footers, capacity, unitLen, placeOf, placeByte, drivesOf}
-use Rattle.law_basic.specs.Geometry.{Ranged, spare-len, capacity-high, zone-on-lt, block-within}
+use Rattle.law_basic.specs.Fields.{length-zeroSpare}
+use Rattle.law_basic.specs.Geometry.{Ranged, capacity-high, zone-on-lt, block-within}
 use Rattle.law_basic.specs.Ranges.{length-upFrom, upFrom-add, below-none, flat-append, flat-none, flat-below-snoc}
 use Rattle.law_basic.specs.Splice.{length-part}
 use Rattle.law_basic.specs.Xor.{AllLong, long-upFrom}
 use Rattle.law_views.specs.Pointers.{pointer-set}
 use Rattle.law_views.specs.Views.{Whole, pointer-view, blocks-long, spare-view, view-put, whole-put, seen}
-use Rattle.disk_records.specs.Header.{zero-spare-long}
 use Rattle.disk_zones.specs.declared.Made.{Made}
 use Rattle.disk_zones.specs.Made.{Storing, storing-all, storing-stop, storing-join, storing-none, put-pointers}
 use Rattle.law_drives.specs.Laid.{Long, in-take, in-drop, length-footer}
@@ -46,7 +46,7 @@ module _ (p : Params) (c : capacity p < 256 ^ 4) (d z : ℕ) (hd : d < p .N) (hz
       let s = put d z b zeroSpare in
       let k₁ : Disk = storeDisk p s k in
       let n = pointerOf p (k .pointers) d z in
-      let lz : length zeroSpare ≡ spareLen = zero-spare-long ∙ sym spare-len in
+      let lz : length zeroSpare ≡ spareLen = length-zeroSpare in
       let hn : pointerAt (seen p k) d z < capacity p = omega (arith, pointer-view p k d z hd hz w) in
       let w₁ : Whole p k₁ = whole-put p k d z hd hz w b zeroSpare hn lb lz in
       let v₁ : seen p k₁ ≡ setZone (seen p k) d z (putZone b zeroSpare (zoneAt (seen p k) d z)) = view-put p k d z hd hz w b zeroSpare hn c lb lz in

@@ -8,7 +8,7 @@ ghost use lib.ListN.{length};
 ghost use mir.Val.{boolByte};
 ghost use Rattle.call_reclaim_live.specs.Live.{liveBelow};
 ghost use Rattle.spec.specs.Drives.{viewOf, mkDisk};
-ghost use Rattle.spec.specs.Params.{inRange, capacity, imageLen, addressesLen, placeOf};
+ghost use Rattle.spec.specs.Params.{inRange, spareLen, capacity, imageLen, addressesLen, placeOf};
 ghost use Rattle.law_views.specs.Views.{Whole};
 ghost use Rattle.call_reclaim_records.specs.Vouch.{pointedFrom, Enough};
 use spec::Params;
@@ -33,13 +33,16 @@ fn same(a: u32, b: usize) -> usize
 
 // Of the n places from q on, how many the table of l addresses has at the addresses of the records from byte at on.
 fn vouched_run(image: &[u8], addresses: &[u8], l: usize, at: usize, n: usize, q: usize) -> usize
-    requires { ⌜ (0 < l) × (4 * l ≤ length (now addresses)) × (at + 20 * n ≤ length (now image)) × (q + n ≤ 715825152) ⌝ }
+    requires { ⌜ (0 < l) × (4 * l ≤ length (now addresses)) × (at + spareLen * n ≤ length (now image)) × (q + n ≤ 715825152) ⌝ }
     ensures { λ r. ⌜ r ≤ length (pointedFrom (now (addresses .entry)) l q n) ⌝ }
 {
     let mut c = 0;
     let mut i = 0;
     while i < n {
-        let a = clipped(bits_be::read_be64(image, at + 20 * i), l);
+        let a = clipped(
+            bits_be::read_be64(image, at + disk_shape::SPARE * i + disk_shape::ADDRESS_AT),
+            l,
+        );
         c += same(mem_tables::place_at(addresses, a).0, q + i);
         i += 1;
     }

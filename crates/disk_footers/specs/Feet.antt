@@ -13,7 +13,7 @@ use Rattle.spec.specs.Drives.{Chunk, noChunk, zoneAt, chunkAt, viewOf, mkDisk, 
 use Rattle.spec.specs.Layout.{recordOf, footerBlock, footerRecord}
 use Rattle.spec.specs.Lists.{below, flat, padTo}
 use Rattle.spec.specs.Params.{spareLen, perFooter, footers, capacity, unitLen, imageLen, pointersLen, placeOf, placeByte}
-use Rattle.law_basic.specs.Geometry.{item, Ranged, spare-len, block-within, per-footer-low, per-footer-fits, data-below, footer-of}
+use Rattle.law_basic.specs.Geometry.{item, Ranged, block-within, per-footer-low, per-footer-fits, data-below, footer-of}
 use Rattle.law_basic.specs.Ranges.{length-below, map-below-same, getD-map, getD-map-below, flat-snoc}
 use Rattle.law_basic.specs.Splice.{length-part, part-all, part-append-left, part-append-right, splice-zero, splice-next, length-splice, part-splice-in, part-splice-below, part-splice-above}
 use Rattle.law_views.specs.Views.{Whole, blocks-long, spare-view}
@@ -197,15 +197,15 @@ module _ (p : Params) (r : Ranged p) where
         let lz : length z ≡ p .B = length-replicate (p .B) 0 in
         ap length (sym (footer-is i (held i) refl)) ∙ length-splice z 0 (recordsOf p ss i (held i)) (omega (arith, held-long i h, lz)) ∙ lz
 
-    -- one record more in the block under way
-    pub footer-turn : (l l′ s : List ℕ) (i j : ℕ) → l ≡ splice (replicate (p .B) 0) 0 (recordsOf p ss i j) → i * perFooter p + j < p .S → j < perFooter p
-        → s ≡ getD ss (i * perFooter p + j) [] → l′ ≡ splice l (20 * j) s → l′ ≡ splice (replicate (p .B) 0) 0 (recordsOf p ss i (j + 1))
-    footer-turn l l′ s i j e h k q f =
+    -- one record more in the block under way; n: the bytes of a spare
+    pub footer-turn : (l l′ s : List ℕ) (n i j : ℕ) → n ≡ spareLen → l ≡ splice (replicate (p .B) 0) 0 (recordsOf p ss i j) → i * perFooter p + j < p .S → j < perFooter p
+        → s ≡ getD ss (i * perFooter p + j) [] → l′ ≡ splice l (n * j) s → l′ ≡ splice (replicate (p .B) 0) 0 (recordsOf p ss i (j + 1))
+    footer-turn l l′ s b i j eb e h k q f =
         let z : List ℕ = replicate (p .B) 0 in
         let lz : length z ≡ p .B = length-replicate (p .B) 0 in
         let t : List ℕ = recordsOf p ss i j in
         let n : length t ≡ j * spareLen = records-long i j (omega arith) in
-        let a : 20 * j ≡ 0 + length t = sym (zero-add (length t) ∙ n ∙ mul-comm j spareLen ∙ ap (λ (x : ℕ). x * j) spare-len) in
+        let a : b * j ≡ 0 + length t = ap (λ (x : ℕ). x * j) eb ∙ sym (zero-add (length t) ∙ n ∙ mul-comm j spareLen) in
         let ls : length s ≡ spareLen = ap length q ∙ long (i * perFooter p + j) h in
         let w : suc j * spareLen ≤ p .B = room (suc j) (omega arith) in
         f ∙ ap₂ (λ (x : List ℕ) (y : ℕ). splice x y s) e a

@@ -12,12 +12,12 @@ use Rattle.spec.specs.Drives.Store.{put}
 use Rattle.spec.specs.Layout.{footerBlock}
 use Rattle.spec.specs.Lists.{upFrom}
 use Rattle.spec.specs.Params.{spareLen, footers, capacity, unitLen, imageLen, placeOf, placeByte}
-use Rattle.law_basic.specs.Geometry.{Ranged, spare-len, block-within, pointer-within, capacity-high}
+use Rattle.law_basic.specs.Fields.{length-zeroSpare}
+use Rattle.law_basic.specs.Geometry.{Ranged, block-within, pointer-within, capacity-high}
 use Rattle.law_basic.specs.Ranges.{length-upFrom, map-take}
 use Rattle.law_basic.specs.Splice.{splice-next, splice-again, splice-comm, length-splice}
 use Rattle.law_basic.specs.Xor.{AllLong, long-upFrom}
 use Rattle.law_views.specs.Views.{Whole, pointer-view, whole-put}
-use Rattle.disk_records.specs.Header.{zero-spare-long}
 use Rattle.disk_footers.specs.Feet.{sparesBy, byte-next, footer-long, spares-count, spare-long, spares-view, spares-stay}
 use Rattle.law_views.specs.Pointers.{pointer-set}
 use Rattle.law_basic.specs.Be.{length-toBe}
@@ -68,24 +68,24 @@ module _ (p : Params) (d z : ℕ) (hd : d < p .N) (hz : z < p .Z) where
   laid-both b [] im l c hi = refl
   laid-both b (x ∷ bs) im l c hi =
       let y = placeByte p (placeOf p d z b) in
-      let zs : length zeroSpare ≡ 20 = zero-spare-long in
-      let u : unitLen p ≡ p .B + 20 = unit-is in
+      let zs : length zeroSpare ≡ spareLen = length-zeroSpare in
+      let u : unitLen p ≡ p .B + spareLen = unit-is in
       let f : y + 0 + length x ≤ length im = inside 0 b im x (p .B) (omega (arith, u)) (l .0) (omega arith) hi in
-      let g : y + p .B + length zeroSpare ≤ length im = inside (p .B) b im zeroSpare 20 (omega (arith, u)) zs (omega arith) hi in
+      let g : y + p .B + length zeroSpare ≤ length im = inside (p .B) b im zeroSpare spareLen (omega (arith, u)) zs (omega arith) hi in
       let lx : length x ≡ p .B = l .0 in
       let e : y + p .B ≡ y + 0 + length x = omega arith in
       let i₁ = splice im (y + 0) x in
       let i₂ = splice im (y + 0) (x ++ zeroSpare) in
       let l₁ : length i₁ ≡ imageLen p = length-splice im (y + 0) x f ∙ hi in
-      let q : length (x ++ zeroSpare) ≡ p .B + 20 = length-append x zeroSpare ∙ ap₂ _+_ lx zs in
+      let q : length (x ++ zeroSpare) ≡ p .B + spareLen = length-append x zeroSpare ∙ ap₂ _+_ lx zs in
       let l₂ : length i₂ ≡ imageLen p = length-splice im (y + 0) (x ++ zeroSpare) (omega (arith, q, g, zs)) ∙ hi in
       ap (laid p d z (p .B) (suc b) (map (λ (v : List ℕ). zeroSpare) bs))
       (laid-comm 0 (suc b) (p .B) bs i₁ (y + p .B) zeroSpare (omega (arith, u)) (l .1) (omega arith) l₁ (omega (arith, byte-next p d z b, zs, u))
       ∙ ap (laid p d z 0 (suc b) bs) (ap (λ (v : ℕ). splice i₁ v zeroSpare) e ∙ splice-next im (y + 0) x zeroSpare (omega (arith, g, e))))
       ∙ laid-both (suc b) bs i₂ (l .1) (omega arith) l₂
     where
-      unit-is : unitLen p ≡ p .B + 20
-      unit-is = unfold unitLen in ap (λ (v : ℕ). p .B + v) spare-len
+      unit-is : unitLen p ≡ p .B + spareLen
+      unit-is = unfold unitLen in refl
 
   -- the stores of blocks with zero spares, one after the other
   pub stores-laid : (b : List ℕ) (bs : List (List ℕ)) (im ps : List ℕ) → capacity p < 256 ^ 4 → Whole p (mkDisk im ps) → AllLong (p .B) (b ∷ bs)
@@ -102,7 +102,7 @@ module _ (p : Params) (d z : ℕ) (hd : d < p .N) (hz : z < p .Z) where
       let y = placeByte p (placeOf p d z n) in
       let im′ = splice im y (b ++ zeroSpare) in
       let ps′ = setPointer p ps d z (suc n) in
-      let zs : length zeroSpare ≡ spareLen = zero-spare-long ∙ sym spare-len in
+      let zs : length zeroSpare ≡ spareLen = length-zeroSpare in
       let v : pointerAt (viewOf p im ps) d z < capacity p = subst (λ (k : ℕ). k < capacity p) (sym (pointer-view p (mkDisk im ps) d z hd hz w)) (omega arith) in
       let w′ : Whole p (mkDisk im′ ps′) = whole-put p (mkDisk im ps) d z hd hz w b zeroSpare v (l .0) zs in
       let q : pointerOf p ps′ d z ≡ suc n = pointer-set p ps d z (suc n) hd hz (w .pointers-long) (omega arith) in
@@ -188,7 +188,7 @@ module _ (p : Params) (d z b n : ℕ) (im₀ : List ℕ) where
   unfolding laid zeroSpares
   clearing-turn i im im′ hd hz c h e w =
       let y = placeByte p (placeOf p d z (b + i)) + p .B in
-      let fits : y + length zeroSpare ≤ length im = omega (arith, block-within p d z (b + i) hd hz (omega arith), w .long, unit-is, zero-spare-long) in
+      let fits : y + length zeroSpare ≤ length im = omega (arith, block-within p d z (b + i) hd hz (omega arith), w .long, unit-is, length-zeroSpare) in
       let k : n - i ≡ suc (n - (i + 1)) = omega arith in
       let f : zeroSpares (n - i) ≡ zeroSpare ∷ zeroSpares (n - (i + 1)) = ap zeroSpares k in
       let b₁ : b + (i + 1) ≡ suc (b + i) = omega arith in
@@ -199,8 +199,8 @@ module _ (p : Params) (d z b n : ℕ) (im₀ : List ℕ) where
             ∙ sym (ap (λ (x : List (List ℕ)). laid p d z (p .B) (b + i) x im) f) ∙ w .rest;
       }
     where
-      unit-is : unitLen p ≡ p .B + 20
-      unit-is = unfold unitLen in ap (λ (v : ℕ). p .B + v) spare-len
+      unit-is : unitLen p ≡ p .B + spareLen
+      unit-is = unfold unitLen in refl
 
   pub clearing-done : (i : ℕ) (im : List ℕ) → n ≤ i → Clearing p d z b n im₀ i im → im ≡ laid p d z (p .B) b (zeroSpares n) im₀
   unfolding laid zeroSpares

@@ -44,9 +44,9 @@ pub fn make_footer(p: Params, image: &[u8], drive: usize, zone: usize, i: usize,
     let mut at = disk_stored::spare_byte(p, drive, zone, 1 + i * per);
     let mut j = 0;
     while j < n {
-        let end = at + 20;
-        disk_blocks::copy_part(block, 20 * j, &image[at..end]);
-        at += p.B + 20;
+        let end = at + disk_shape::SPARE;
+        disk_blocks::copy_part(block, disk_shape::SPARE * j, &image[at..end]);
+        at += p.B + disk_shape::SPARE;
         j += 1;
     }
 }
@@ -104,7 +104,7 @@ fn clear_spares(p: Params, image: &mut [u8], drive: usize, zone: usize, at: usiz
     let mut i = 0;
     while i < n {
         let byte = disk_stored::spare_byte(p, drive, zone, at + i);
-        disk_blocks::clear_part(image, byte, 20);
+        disk_blocks::clear_part(image, byte, disk_shape::SPARE);
         i += 1;
     }
 }

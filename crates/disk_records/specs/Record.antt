@@ -4,11 +4,11 @@ use mathlib.Core.List.{List, [], _∷_}
 use Prim.Native.Nat.{ℕ}
 use native.Mathlib.Omega.{arith}
 use lib.ListN.{length}
-use Rattle.spec.specs.Bytes.{toBe, splice, Field, field, bytesOf}
+use Rattle.spec.specs.Bytes.{toBe, splice, Field, field, widthsOf}
 use Rattle.spec.specs.Layout.{Rec, mkRec, recordFields, recordBytes}
-use Rattle.spec.specs.Lists.{zipped}
-use Rattle.spec.specs.Params.{recordWidths}
-use Rattle.law_basic.specs.Fields.{widths, length-bytesOf, written-is, one-more, nothing-more}
+use Rattle.spec.specs.Lists.{total}
+use Rattle.spec.specs.Params.{recordTable, recordWidths, spareLen}
+use Rattle.law_basic.specs.Fields.{length-record, written-is, one-more, nothing-more}
 use Rattle.law_basic.specs.Splice.{splice-all}
 use Rattle.disk_records.specs.declared.Record.{Record}
 
@@ -16,22 +16,16 @@ use Rattle.disk_records.specs.declared.Record.{Record}
 abbrev pub recOf : Record → Rec
 recOf r = mkRec (r .address .0) (r .stamp .0) (r .stripe)
 
-pub record-long : (q : Rec) → length (recordBytes q) ≡ 20
-unfolding recordBytes recordFields recordWidths zipped widths
-record-long q = length-bytesOf (recordFields q)
-
 -- the three fields written one after the other
-pub record-written : (l l₁ l₂ l₃ : List ℕ) (q : Rec) → length l ≡ 20 → l₁ ≡ splice l 0 (toBe 8 (q .address)) → l₂ ≡ splice l₁ 8 (toBe 8 (q .stamp))
+pub record-written : (l l₁ l₂ l₃ : List ℕ) (q : Rec) → length l ≡ spareLen → l₁ ≡ splice l 0 (toBe 8 (q .address)) → l₂ ≡ splice l₁ 8 (toBe 8 (q .stamp))
     → l₃ ≡ splice l₂ 16 (toBe 4 (q .stripe)) → l₃ ≡ recordBytes q
-unfolding recordBytes recordFields recordWidths zipped widths
+unfolding recordBytes recordFields recordTable recordWidths spareLen widthsOf total
 record-written l l₁ l₂ l₃ q n e₁ e₂ e₃ =
-    let f₁ : Field = field 8 (q .address) in
     let f₂ : Field = field 8 (q .stamp) in
     let f₃ : Field = field 4 (q .stripe) in
-    let m : length (bytesOf (f₁ ∷ f₂ ∷ f₃ ∷ [])) ≡ 20 = length-bytesOf (f₁ ∷ f₂ ∷ f₃ ∷ []) in
-    sym (nothing-more l₃ 0 20)
+    sym (nothing-more l₃ 0 spareLen)
     ∙ one-more l₂ l₃ 0 16 4 (q .stripe) [] e₃
     ∙ one-more l₁ l₂ 0 8 8 (q .stamp) (f₃ ∷ []) e₂
     ∙ one-more l l₁ 0 0 8 (q .address) (f₂ ∷ f₃ ∷ []) e₁
-    ∙ written-is l 0 0 (f₁ ∷ f₂ ∷ f₃ ∷ []) (omega arith)
-    ∙ splice-all l (bytesOf (f₁ ∷ f₂ ∷ f₃ ∷ [])) (m ∙ sym n)
+    ∙ written-is l 0 0 (recordFields q) (omega arith)
+    ∙ splice-all l (recordBytes q) (length-record q ∙ sym n)

@@ -2,14 +2,14 @@
 ghost use mathlib.Core.Path.{_≡_};
 ghost use mathlib.Core.Bool.{true};
 ghost use mathlib.Core.List.{_++_};
-ghost use Prim.Native.Nat.{_+_, _≤_, _<_};
+ghost use Prim.Native.Nat.{_≤_};
 ghost use lib.ListN.{length};
-ghost use Rattle.spec.specs.Bytes.{bytesOf, splice};
+ghost use Rattle.spec.specs.Bytes.{field, bytesOf, splice};
 ghost use Rattle.spec.specs.Drives.{chunkOf, zeroSpare};
 ghost use Rattle.spec.specs.Faults.{sameChunk};
-ghost use Rattle.spec.specs.Layout.{headerBlock, headerSerial, headerCopied, recordBytes, recordOf};
-ghost use Rattle.spec.specs.Params.{inRange, unitLen};
-ghost use Rattle.disk_records.specs.Header.{front, middle, back};
+ghost use Rattle.spec.specs.Layout.{headerLen, headerBlock, headerSerial, headerCopied, recordBytes, recordOf};
+ghost use Rattle.spec.specs.Lists.{total, zipped};
+ghost use Rattle.spec.specs.Params.{inRange, spareLen, unitLen};
 ghost use Rattle.disk_records.specs.Record.{recOf};
 use spec::Address;
 use spec::Params;
@@ -23,36 +23,32 @@ pub struct Record {
     pub stripe: u32,
 }
 
-// A header's fields up to the group size.
-fn write_front(dst: &mut [u8], p: Params, drive: usize)
-    requires { ⌜ 41 ≤ length (now dst) ⌝ }
-    ensures { λ _. ⌜ now (dst .exit) ≡ splice (now (dst .entry)) 0 (bytesOf (front p drive)) ⌝ }
-{
-    bits_be::write_be(dst, 0, 2, 41);
-    bits_be::write_be(dst, 2, 1, 1);
-    bits_be::write_be(dst, 3, 1, p.N as u64);
-    bits_be::write_be(dst, 4, 1, drive as u64);
-    bits_be::write_be(dst, 5, 2, p.B as u64);
-    bits_be::write_be(dst, 7, 2, p.G as u64);
-}
+// 01, What a zone holds: the widths of a header's fields; where those begin that are read back, and its length.
+const WIDTHS: [usize; 11] = [2, 1, 1, 1, 2, 2, 4, 4, 8, 8, 8];
 
-// Those from the stripes to the addresses.
-fn write_middle(dst: &mut [u8], p: Params, zone: usize)
-    requires { ⌜ 41 ≤ length (now dst) ⌝ }
-    ensures { λ _. ⌜ now (dst .exit) ≡ splice (now (dst .entry)) 9 (bytesOf (middle p zone)) ⌝ }
-{
-    bits_be::write_be(dst, 9, 4, p.S as u64);
-    bits_be::write_be(dst, 13, 4, zone as u64);
-    bits_be::write_be(dst, 17, 8, p.L as u64);
-}
+const SERIAL_AT: usize = 2 + 1 + 1 + 1 + 2 + 2 + 4 + 4 + 8;
 
-// The serials.
-fn write_back(dst: &mut [u8], p: Params, serial: Serial, copied: Serial)
-    requires { ⌜ 41 ≤ length (now dst) ⌝ }
-    ensures { λ _. ⌜ now (dst .exit) ≡ splice (now (dst .entry)) 25 (bytesOf (back p (serial .0) (copied .0))) ⌝ }
+const COPIED_AT: usize = SERIAL_AT + 8;
+
+const HEADER: usize = COPIED_AT + 8;
+
+const VERSION: u64 = 1;
+
+// A small block with its spare.
+const SMALL: usize = 256 + disk_shape::SPARE;
+
+// The numbers in fields of these widths, one after the other from index 0.
+fn write_fields(dst: &mut [u8], widths: &[usize], values: &[u64])
+    requires { ⌜ (length (now values) ≡ length (now widths)) × (total (now widths) ≤ length (now dst)) ⌝ }
+    ensures { λ _. ⌜ now (dst .exit) ≡ splice (now (dst .entry)) 0 (bytesOf (zipped field (now (widths .entry)) (now (values .entry)))) ⌝ }
 {
-    bits_be::write_be(dst, 25, 8, serial.0);
-    bits_be::write_be(dst, 33, 8, copied.0);
+    let mut at = 0;
+    let mut i = 0;
+    while i < widths.len() {
+        bits_be::write_be(dst, at, widths[i], values[i]);
+        at += widths[i];
+        i += 1;
+    }
 }
 
 // The header block with its spare, in the part of the image that holds both.
@@ -67,10 +63,21 @@ pub fn write_header(
     requires { ⌜ (inRange p ≡ true) × (length (now dst) ≡ unitLen p) ⌝ }
     ensures { λ _. ⌜ now (dst .exit) ≡ headerBlock p drive zone (serial .0) (copied .0) ++ zeroSpare ⌝ }
 {
+    let values = [
+        HEADER as u64,
+        VERSION,
+        p.N as u64,
+        drive as u64,
+        p.B as u64,
+        p.G as u64,
+        p.S as u64,
+        zone as u64,
+        p.L as u64,
+        serial.0,
+        copied.0,
+    ];
     disk_blocks::clear(dst);
-    write_front(dst, p, drive);
-    write_middle(dst, p, zone);
-    write_back(dst, p, serial, copied);
+    write_fields(dst, &WIDTHS, &values);
 }
 
 // Whether a block with its spare is that header; scratch is room for the header.
@@ -91,6 +98,38 @@ fn matches_header(
     disk_blocks::same(src, &scratch[..n])
 }
 
+// The same for small blocks: the room that is cleared is small too.
+fn is_small_header(
+    src: &[u8],
+    p: Params,
+    drive: usize,
+    zone: usize,
+    serial: Serial,
+    copied: Serial,
+) -> bool
+    requires { ⌜ (inRange p ≡ true) × (length (now src) ≡ unitLen p) × (p .B ≤ 256) ⌝ }
+    ensures { λ r. ⌜ r ≡ sameChunk (chunkOf p (now (src .entry))) (headerBlock p drive zone (serial .0) (copied .0)) zeroSpare ⌝ }
+{
+    let mut scratch = [0u8; SMALL];
+    matches_header(src, &mut scratch, p, drive, zone, serial, copied)
+}
+
+// The same for blocks of any length.
+fn is_long_header(
+    src: &[u8],
+    p: Params,
+    drive: usize,
+    zone: usize,
+    serial: Serial,
+    copied: Serial,
+) -> bool
+    requires { ⌜ (inRange p ≡ true) × (length (now src) ≡ unitLen p) ⌝ }
+    ensures { λ r. ⌜ r ≡ sameChunk (chunkOf p (now (src .entry))) (headerBlock p drive zone (serial .0) (copied .0)) zeroSpare ⌝ }
+{
+    let mut scratch = [0u8; disk_shape::UNIT];
+    matches_header(src, &mut scratch, p, drive, zone, serial, copied)
+}
+
 // Whether a block with its spare is that header.
 pub fn is_header(
     src: &[u8],
@@ -103,33 +142,35 @@ pub fn is_header(
     requires { ⌜ (inRange p ≡ true) × (length (now src) ≡ unitLen p) ⌝ }
     ensures { λ r. ⌜ r ≡ sameChunk (chunkOf p (now (src .entry))) (headerBlock p drive zone (serial .0) (copied .0)) zeroSpare ⌝ }
 {
-    let mut scratch = [0u8; 4116];
-    matches_header(src, &mut scratch, p, drive, zone, serial, copied)
+    if p.B <= 256 {
+        return is_small_header(src, p, drive, zone, serial, copied);
+    }
+    is_long_header(src, p, drive, zone, serial, copied)
 }
 
 // The serials of a header block.
 pub fn header_serial(src: &[u8]) -> Serial
-    requires { ⌜ 41 ≤ length (now src) ⌝ }
+    requires { ⌜ headerLen ≤ length (now src) ⌝ }
     ensures { λ r. ⌜ r .0 ≡ headerSerial (now (src .entry)) ⌝ }
 {
-    Serial(bits_be::read_be64(src, 25))
+    Serial(bits_be::read_be64(src, SERIAL_AT))
 }
 
 pub fn header_copied(src: &[u8]) -> Serial
-    requires { ⌜ 41 ≤ length (now src) ⌝ }
+    requires { ⌜ headerLen ≤ length (now src) ⌝ }
     ensures { λ r. ⌜ r .0 ≡ headerCopied (now (src .entry)) ⌝ }
 {
-    Serial(bits_be::read_be64(src, 33))
+    Serial(bits_be::read_be64(src, COPIED_AT))
 }
 
 // The record in a spare.
 pub fn read_record(src: &[u8]) -> Record
-    requires { ⌜ 20 ≤ length (now src) ⌝ }
+    requires { ⌜ spareLen ≤ length (now src) ⌝ }
     ensures { λ r. ⌜ recOf r ≡ recordOf (now (src .entry)) ⌝ }
 {
-    let address = Address(bits_be::read_be64(src, 0));
-    let stamp = Stamp(bits_be::read_be64(src, 8));
-    let stripe = bits_be::read_be32(src, 16);
+    let address = Address(bits_be::read_be64(src, disk_shape::ADDRESS_AT));
+    let stamp = Stamp(bits_be::read_be64(src, disk_shape::STAMP_AT));
+    let stripe = bits_be::read_be32(src, disk_shape::STRIPE_AT);
     Record {
         address,
         stamp,
@@ -139,10 +180,10 @@ pub fn read_record(src: &[u8]) -> Record
 
 // A spare with the record.
 pub fn write_record(dst: &mut [u8], r: Record)
-    requires { ⌜ length (now dst) ≡ 20 ⌝ }
+    requires { ⌜ length (now dst) ≡ spareLen ⌝ }
     ensures { λ _. ⌜ now (dst .exit) ≡ recordBytes (recOf r) ⌝ }
 {
-    bits_be::write_be64(dst, 0, r.address.0);
-    bits_be::write_be64(dst, 8, r.stamp.0);
-    bits_be::write_be32(dst, 16, r.stripe);
+    bits_be::write_be64(dst, disk_shape::ADDRESS_AT, r.address.0);
+    bits_be::write_be64(dst, disk_shape::STAMP_AT, r.stamp.0);
+    bits_be::write_be32(dst, disk_shape::STRIPE_AT, r.stripe);
 }

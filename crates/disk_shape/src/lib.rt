@@ -3,13 +3,25 @@ ghost use mathlib.Core.Path.{_≡_};
 ghost use mathlib.Core.Bool.{true};
 ghost use Prim.Native.Nat.{_+_, _≤_, _<_};
 ghost use Rattle.spec.specs.Lists.{isMember};
-ghost use Rattle.spec.specs.Params.{between, blockSizes, inRange, dataCount, perFooter, footers, capacity, unitLen, imageLen, pointersLen, addressesLen};
-ghost use Rattle.spec.specs.Params.{compactLen, inflightLen, placeOf, placeBlock, placeZone, placeDrive, placeByte};
+ghost use Rattle.spec.specs.Params.{between, blockSizes, inRange, dataCount, spareLen, perFooter, footers, capacity, unitLen, imageLen, pointersLen};
+ghost use Rattle.spec.specs.Params.{addressesLen, compactLen, inflightLen, placeOf, placeBlock, placeZone, placeDrive, placeByte};
 ghost use Rattle.spec.specs.Layout.{parityDrive, dataDrive, dataPosition, isData, group, compactEntry};
 ghost use Rattle.spec.specs.Drives.{pointerByte, zoneOn};
 ghost use Rattle.spec.specs.Memory.{compactAt, slotByte};
 use spec::Params;
 use spec::Place;
+
+// 01, What a zone holds: where the fields of a record begin, and its length and so a spare's. Headers are laid out in disk_records.
+pub const ADDRESS_AT: usize = 0;
+
+pub const STAMP_AT: usize = ADDRESS_AT + 8;
+
+pub const STRIPE_AT: usize = STAMP_AT + 8;
+
+pub const SPARE: usize = STRIPE_AT + 4;
+
+// The longest block with its spare.
+pub const UNIT: usize = 4096 + SPARE;
 
 // From lo to hi.
 fn is_between(lo: usize, hi: usize, n: usize) -> bool
@@ -87,7 +99,7 @@ pub fn per_footer(p: Params) -> usize
     requires { ⌜ inRange p ≡ true ⌝ }
     ensures { λ r. ⌜ (r ≡ perFooter p) × (3 ≤ r) × (r ≤ 204) ⌝ }
 {
-    p.B / 20
+    p.B / SPARE
 }
 
 // Footer blocks of a zone.
@@ -110,9 +122,9 @@ pub fn capacity(p: Params) -> usize
 // Bytes of a block with its spare.
 pub fn unit_len(p: Params) -> usize
     requires { ⌜ inRange p ≡ true ⌝ }
-    ensures { λ r. ⌜ (r ≡ unitLen p) × (84 ≤ r) × (r ≤ 4116) ⌝ }
+    ensures { λ r. ⌜ (r ≡ unitLen p) × (64 + spareLen ≤ r) × (r ≤ 4096 + spareLen) ⌝ }
 {
-    p.B + 20
+    p.B + SPARE
 }
 
 // 01, The array: the lengths of the lent buffers (refusal 2).

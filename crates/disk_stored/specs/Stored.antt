@@ -1,10 +1,10 @@
 -- What a zone holds, by bytes (01, What a zone holds; Restart, 3). Assumes nothing.
-use mathlib.Core.Path.{_≡_, sym, ap, ap₂, _∙_, subst}
+use mathlib.Core.Path.{_≡_, sym, ap, ap₂, _∙_}
 use mathlib.Core.List.{List, []}
 use mathlib.Core.Bool.{Bool, true, false}
 use Prim.Native.Nat.{ℕ, _+_, _-_, _*_, _/_, _%_, min, _≤_, _<_}
 use native.Mathlib.Omega.{arith}
-use native.Mathlib.Nat.{add-assoc, add-mul, div-one, div-le-self, mod-one, mod-le, mod-lt, mul-comm}
+use native.Mathlib.Nat.{add-assoc, add-mul, div-one, div-le-self, mod-one, mod-le, mod-lt, mul-comm, mul-zero}
 use lib.ListN.{length, getD, drop, length-drop}
 use lib.Seq.{getD-drop}
 use Rattle.spec.specs.Bytes.{part}
@@ -13,7 +13,7 @@ use Rattle.spec.specs.Faults.{footersStored}
 use Rattle.spec.specs.Layout.{recordOf, footerRecord}
 use Rattle.spec.specs.Params.{spareLen, perFooter, footers, capacity, unitLen, imageLen, pointersLen, placeOf, placeByte}
 use Rattle.spec.specs.declared.Params.{Params}
-use Rattle.law_basic.specs.Geometry.{Ranged, prod-le, spare-len, per-footer-low, per-footer-high, per-footer-fits, footers-low, footers-high, capacity-high}
+use Rattle.law_basic.specs.Geometry.{Ranged, prod-le, per-footer-low, per-footer-high, per-footer-fits, footers-low, footers-high, capacity-high}
 use Rattle.law_basic.specs.Geometry.{image-high, zones-all, data-below, item, block-within, zone-index-lt, footer-of}
 use Rattle.law_basic.specs.Ranges.{getD-map}
 use Rattle.law_basic.specs.Splice.{part-part}
@@ -34,33 +34,33 @@ unfoldable pub together : Params → Bool → ℕ
 together p true = perFooter p
 together p false = 1
 
--- ---- the byte at which block b begins, from the records k of a footer block: the numbers on the way, and their bounds
+-- ---- the byte at which block b begins, from the records k of a footer block and the bytes n of a spare: the numbers on the way, and their bounds
 
-pub record Begun (p : Params) (k d z b : ℕ) : Type 0 where
+pub record Begun (p : Params) (k n d z b : ℕ) : Type 0 where
   pub few : k ≤ 204
   pub some : 3 ≤ k
   pub zone-high : d * p .Z + z ≤ 8191
   pub feet : (p .S + k - 1) / k ≤ 21845
   pub rows : (d * p .Z + z) * (1 + p .S + (p .S + k - 1) / k) ≤ 715737771
   pub place : (d * p .Z + z) * (1 + p .S + (p .S + k - 1) / k) + b ≡ placeOf p d z b
-  pub byte : ((d * p .Z + z) * (1 + p .S + (p .S + k - 1) / k) + b) * (p .B + 20) ≡ placeByte p (placeOf p d z b)
+  pub byte : ((d * p .Z + z) * (1 + p .S + (p .S + k - 1) / k) + b) * (p .B + n) ≡ placeByte p (placeOf p d z b)
   pub within : placeByte p (placeOf p d z b) + unitLen p ≤ imageLen p
   pub high : imageLen p ≤ 2946336325632
 
-pub begun : (p : Params) → Ranged p → (k d z b : ℕ) → k ≡ perFooter p → d < p .N → z < p .Z → b < capacity p → Begun p k d z b
+pub begun : (p : Params) → Ranged p → (k n d z b : ℕ) → k ≡ perFooter p → n ≡ spareLen → d < p .N → z < p .Z → b < capacity p → Begun p k n d z b
 unfolding footers capacity placeOf placeByte unitLen
-begun p r k d z b e hd hz hb =
-    let n : d * p .Z + z ≤ 8191 = omega (arith, zone-index-lt p d z hd hz, zones-all p r) in
+begun p r k n d z b e s hd hz hb =
+    let y : d * p .Z + z ≤ 8191 = omega (arith, zone-index-lt p d z hd hz, zones-all p r) in
     let f : (p .S + k - 1) / k ≡ footers p = ap (λ (x : ℕ). (p .S + x - 1) / x) e in
     let c : 1 + p .S + (p .S + k - 1) / k ≤ 87381 = omega (arith, capacity-high p r) in
     let q : (d * p .Z + z) * (1 + p .S + (p .S + k - 1) / k) + b ≡ placeOf p d z b = ap (λ (x : ℕ). (d * p .Z + z) * (1 + p .S + x) + b) f in
-    let u : p .B + 20 ≡ unitLen p = ap (λ (x : ℕ). p .B + x) (sym spare-len) in
+    let u : p .B + n ≡ unitLen p = ap (λ (x : ℕ). p .B + x) s in
     record {
       few = omega (arith, e, per-footer-high p r);
       some = omega (arith, e, per-footer-low p r);
-      zone-high = n;
+      zone-high = y;
       feet = omega (arith, f, footers-high p r);
-      rows = prod-le (d * p .Z + z) (1 + p .S + (p .S + k - 1) / k) 8191 87381 715737771 n c (omega arith);
+      rows = prod-le (d * p .Z + z) (1 + p .S + (p .S + k - 1) / k) 8191 87381 715737771 y c (omega arith);
       place = q;
       byte = ap₂ (λ (x y : ℕ). x * y) q u;
       within = block-within p d z b hd hz hb;
@@ -82,57 +82,56 @@ module _ (p : Params) (r : Ranged p) where
       let e : spareLen * (o % perFooter p) ≡ o % perFooter p * spareLen = mul-comm spareLen (o % perFooter p) in
       omega (arith, e, item (o % perFooter p) (perFooter p) spareLen q, per-footer-fits p r)
 
-  pub record-low : (o : ℕ) → 20 * (o % perFooter p) + 20 ≤ p .B
-  record-low o = subst (λ (n : ℕ). n * (o % perFooter p) + n ≤ p .B) spare-len (record-fits o)
-
   -- a record's bytes lie within the image
-  pub record-within : (f : Bool) (d z o : ℕ) → d < p .N → z < p .Z → o < p .S → recordByte p f d z o + 20 ≤ imageLen p
+  pub record-within : (f : Bool) (d z o : ℕ) → d < p .N → z < p .Z → o < p .S → recordByte p f d z o + spareLen ≤ imageLen p
   unfolding recordByte unitLen
   record-within true d z o hd hz ho =
-      omega (arith, block-within p d z (1 + p .S + o / perFooter p) hd hz (footer-block-below o ho), record-fits o, spare-len)
+      omega (arith, block-within p d z (1 + p .S + o / perFooter p) hd hz (footer-block-below o ho), record-fits o)
   record-within false d z o hd hz ho =
       let b : 1 + o < capacity p = data-below p r (1 + o) (omega arith) in
-      omega (arith, block-within p d z (1 + o) hd hz b, spare-len)
+      omega (arith, block-within p d z (1 + o) hd hz b)
 
   -- the same from the first record's, by quotient and remainder
-  farther : (d z b k : ℕ) → placeByte p (placeOf p d z (b + k)) ≡ placeByte p (placeOf p d z b) + k * (p .B + 20)
+  farther : (d z b k : ℕ) → placeByte p (placeOf p d z (b + k)) ≡ placeByte p (placeOf p d z b) + k * (p .B + spareLen)
   unfolding placeByte placeOf unitLen
   farther d z b k =
       ap (λ (x : ℕ). x * (p .B + spareLen)) (sym (add-assoc ((d * p .Z + z) * capacity p) b k))
       ∙ add-mul ((d * p .Z + z) * capacity p + b) k (p .B + spareLen)
-      ∙ ap (λ (x : ℕ). ((d * p .Z + z) * capacity p + b) * (p .B + spareLen) + k * (p .B + x)) spare-len
 
   pub together-some : (f : Bool) → 1 ≤ together p f
   unfolding together
   together-some true = omega (arith, per-footer-low p r)
   together-some false = omega arith
 
-  pub record-from : (f : Bool) (d z o : ℕ) → firstByte p f d z + o / together p f * (p .B + 20) + 20 * (o % together p f) ≡ recordByte p f d z o
+  pub record-from : (f : Bool) (d z o : ℕ) → firstByte p f d z + o / together p f * (p .B + spareLen) + spareLen * (o % together p f) ≡ recordByte p f d z o
   unfolding recordByte firstByte together
-  record-from true d z o = ap₂ (λ (x y : ℕ). x + y * (o % perFooter p)) (sym (farther d z (1 + p .S) (o / perFooter p))) (sym spare-len)
+  record-from true d z o = ap (λ (x : ℕ). x + spareLen * (o % perFooter p)) (sym (farther d z (1 + p .S) (o / perFooter p)))
   record-from false d z o =
       let a : o / 1 ≡ o = div-one o in
-      let b : o % 1 ≡ 0 = mod-one o in
-      let c : o / 1 * (p .B + 20) ≡ o * (p .B + 20) = ap (λ (x : ℕ). x * (p .B + 20)) a in
+      let b : spareLen * (o % 1) ≡ 0 = ap (λ (x : ℕ). spareLen * x) (mod-one o) ∙ mul-zero spareLen in
+      let c : o / 1 * (p .B + spareLen) ≡ o * (p .B + spareLen) = ap (λ (x : ℕ). x * (p .B + spareLen)) a in
       omega (arith, b, c, farther d z 1 o)
 
-  -- its numbers on the way, and their bounds
-  pub record Stepping (first per d z o : ℕ) (f : Bool) : Type 0 where
+  -- its numbers on the way, and their bounds; n: the bytes of a spare
+  pub record Stepping (first per n d z o : ℕ) (f : Bool) : Type 0 where
     pub some : 1 ≤ per
     pub low : o ≤ 65535
     pub quotient : o / per ≤ 65535
     pub rest : o % per ≤ 65535
-    pub byte : first + o / per * (p .B + 20) + 20 * (o % per) ≡ recordByte p f d z o
-    pub within : recordByte p f d z o + 20 ≤ imageLen p
+    pub byte : first + o / per * (p .B + n) + n * (o % per) ≡ recordByte p f d z o
+    pub within : recordByte p f d z o + spareLen ≤ imageLen p
     pub high : imageLen p ≤ 2946336325632
 
-  pub stepping : (f : Bool) (first per d z o : ℕ) → first ≡ firstByte p f d z → per ≡ together p f → d < p .N → z < p .Z → o < p .S → Stepping first per d z o f
-  stepping f first per d z o e k hd hz ho = record {
+  pub stepping : (f : Bool) (first per n d z o : ℕ) → first ≡ firstByte p f d z → per ≡ together p f → n ≡ spareLen → d < p .N → z < p .Z → o < p .S
+      → Stepping first per n d z o f
+  stepping f first per n d z o e k s hd hz ho = record {
     some = omega (arith, k, together-some f);
     low = omega (arith, ho, r .stripes-high);
     quotient = omega (arith, div-le-self o per, ho, r .stripes-high);
     rest = omega (arith, mod-le o per, ho, r .stripes-high);
-    byte = ap₂ (λ (x y : ℕ). x + o / y * (p .B + 20) + 20 * (o % y)) e k ∙ record-from f d z o;
+    byte =
+        ap₂ (λ (x y : ℕ). x + o / y * (p .B + n) + n * (o % y)) e k
+        ∙ ap (λ (m : ℕ). firstByte p f d z + o / together p f * (p .B + m) + m * (o % together p f)) s ∙ record-from f d z o;
     within = record-within f d z o hd hz ho;
     high = image-high p r;
   }
@@ -162,18 +161,17 @@ module _ (p : Params) (r : Ranged p) where
         ∙ block-view p (mkDisk im ps) d z hd hz whole (1 + p .S + k) h
 
     -- 01, Restart, 3: a record, by its bytes
-    pub record-by : (f : Bool) (o : ℕ) → o < p .S → recordOf (part (recordByte p f d z o) 20 im) ≡ recordIn p f (zoneAt (viewOf p im ps) d z) o
+    pub record-by : (f : Bool) (o : ℕ) → o < p .S → recordOf (part (recordByte p f d z o) spareLen im) ≡ recordIn p f (zoneAt (viewOf p im ps) d z) o
     unfolding recordByte recordIn footerRecord unitLen
     record-by true o ho =
         let b = placeByte p (placeOf p d z (1 + p .S + o / perFooter p)) in
         let h = footer-block-below o ho in
         let w : b + p .B ≤ length im = omega (arith, block-within p d z (1 + p .S + o / perFooter p) hd hz h, hi) in
         sym (ap (λ (x : List ℕ). recordOf (part (spareLen * (o % perFooter p)) spareLen x)) (foot-view (o / perFooter p) h)
-        ∙ ap recordOf (part-part im b (p .B) (spareLen * (o % perFooter p)) spareLen (record-fits o) w
-        ∙ ap (λ (x : ℕ). part (b + spareLen * (o % perFooter p)) x im) spare-len))
+        ∙ ap recordOf (part-part im b (p .B) (spareLen * (o % perFooter p)) spareLen (record-fits o) w))
     record-by false o ho =
         let h : 1 + o < capacity p = data-below p r (1 + o) (omega arith) in
-        sym (ap recordOf (spare-of h ∙ ap (λ (x : ℕ). part (placeByte p (placeOf p d z (1 + o)) + p .B) x im) spare-len))
+        sym (ap recordOf (spare-of h))
       where
         spare-of : 1 + o < capacity p → getD (zoneAt (viewOf p im ps) d z .blocks) (1 + o) noChunk .spare ≡ part (placeByte p (placeOf p d z (1 + o)) + p .B) spareLen im
         spare-of h = unfold chunkAt in spare-view p (mkDisk im ps) d z hd hz whole (1 + o) h

@@ -6,7 +6,7 @@ ghost use Prim.Native.Nat.{ℕ, _+_, _≤_, _<_};
 ghost use lib.ListN.{length};
 ghost use Rattle.spec.specs.Drives.{viewOf, mkDisk, zoneAt, dataStored, recordIn, recordAt};
 ghost use Rattle.spec.specs.Faults.{footersStored};
-ghost use Rattle.spec.specs.Params.{inRange, perFooter, footers, capacity, unitLen, imageLen, pointersLen, placeOf, placeByte};
+ghost use Rattle.spec.specs.Params.{inRange, spareLen, perFooter, footers, capacity, unitLen, imageLen, pointersLen, placeOf, placeByte};
 ghost use Rattle.disk_records.specs.Record.{recOf};
 ghost use Rattle.law_views.specs.Views.{Whole};
 ghost use Rattle.disk_stored.specs.Stored.{recordByte, firstByte, together};
@@ -21,14 +21,14 @@ fn begins(p: Params, per: u32, drive: usize, zone: usize, block: usize) -> usize
 {
     let feet = ((p.S as u32 + per - 1) / per) as usize;
     let place = (drive * p.Z + zone) * (1 + p.S + feet) + block;
-    place * (p.B + 20)
+    place * (p.B + disk_shape::SPARE)
 }
 
 // The byte at which a block's spare begins.
 pub fn spare_byte(p: Params, drive: usize, zone: usize, block: usize) -> usize
     requires { ⌜ inRange p ≡ true ⌝ }
     requires { ⌜ (drive < p .N) × (zone < p .Z) × (block < capacity p) ⌝ }
-    ensures { λ r. ⌜ (r ≡ placeByte p (placeOf p drive zone block) + p .B) × (r + 20 ≤ imageLen p) × (r ≤ 2946336325632) ⌝ }
+    ensures { λ r. ⌜ (r ≡ placeByte p (placeOf p drive zone block) + p .B) × (r + spareLen ≤ imageLen p) × (r ≤ 2946336325632) ⌝ }
 {
     let per = disk_shape::per_footer(p) as u32;
     begins(p, per, drive, zone, block) + p.B
@@ -98,13 +98,13 @@ fn together(p: Params, full: bool) -> u32
 pub fn record_byte(p: Params, full: bool, drive: usize, zone: usize, offset: usize) -> usize
     requires { ⌜ inRange p ≡ true ⌝ }
     requires { ⌜ (drive < p .N) × (zone < p .Z) × (offset < p .S) ⌝ }
-    ensures { λ r. ⌜ (r ≡ recordByte p full drive zone offset) × (r + 20 ≤ imageLen p) × (r ≤ 2946336325632) ⌝ }
+    ensures { λ r. ⌜ (r ≡ recordByte p full drive zone offset) × (r + spareLen ≤ imageLen p) × (r ≤ 2946336325632) ⌝ }
 {
     let first = first_byte(p, full, drive, zone);
     let per = together(p, full);
     let block = (offset as u32 / per) as usize;
     let number = (offset as u32 % per) as usize;
-    first + block * (p.B + 20) + 20 * number
+    first + block * (p.B + disk_shape::SPARE) + disk_shape::SPARE * number
 }
 
 // 01, Restart, 3: the record at a data offset of a zone; full: its segment is sealed.
@@ -121,7 +121,7 @@ pub fn record_in(
     ensures { λ r. ⌜ ((ps : List ℕ) → length ps ≡ pointersLen p → recOf r ≡ recordIn p full (zoneAt (viewOf p (now (image .entry)) ps) drive zone) offset) ⌝ }
 {
     let at = record_byte(p, full, drive, zone, offset);
-    let end = at + 20;
+    let end = at + disk_shape::SPARE;
     disk_records::read_record(&image[at..end])
 }
 

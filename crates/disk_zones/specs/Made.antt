@@ -16,11 +16,10 @@ use Rattle.spec.specs.Layout.{headerBlock}
 use Rattle.spec.specs.Lists.{upFrom, below}
 use Rattle.spec.specs.Params.{unitLen, placeOf, placeByte, drivesOf}
 use Rattle.spec.specs.declared.Params.{Params}
-use Rattle.law_basic.specs.Fields.{header-block-long}
-use Rattle.law_basic.specs.Geometry.{spare-len}
+use Rattle.law_basic.specs.Fields.{length-zeroSpare, header-block-long}
+use Rattle.law_basic.specs.Geometry.{Ranged}
 use Rattle.law_basic.specs.Ranges.{upFrom-step, upFrom-end, below-start, length-below}
 use Rattle.law_basic.specs.Stores.{stores-append, stores-cons, stores-zero, stores-nil, stores-all}
-use Rattle.disk_records.specs.Header.{zero-spare-long}
 use Rattle.disk_zones.specs.declared.Made.{Made}
 
 -- of k stores due under the number n: what is left of it, and whether it was too small
@@ -200,7 +199,7 @@ unfolding resetStores drivesOf resetStore
 reset-stores-are p g = refl
 
 -- a header with its spare fills a block's place
-pub header-unit : (p : Params) (d z r c : ℕ) → 41 ≤ p .B → length (headerBlock p d z r c ++ zeroSpare) ≡ unitLen p
+pub header-unit : (p : Params) → Ranged p → (d z r c : ℕ) → length (headerBlock p d z r c ++ zeroSpare) ≡ unitLen p
 unfolding unitLen
-header-unit p d z r c h =
-    length-append (headerBlock p d z r c) zeroSpare ∙ ap₂ _+_ (header-block-long p d z r c h) (zero-spare-long ∙ sym spare-len)
+header-unit p h d z r c =
+    length-append (headerBlock p d z r c) zeroSpare ∙ ap₂ _+_ (header-block-long p h d z r c) length-zeroSpare

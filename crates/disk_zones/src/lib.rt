@@ -9,7 +9,7 @@ ghost use Rattle.spec.specs.Drives.{viewOf, mkDisk, pointerOf, setPointer, stor
 ghost use Rattle.spec.specs.Drives.Store.{put};
 ghost use Rattle.spec.specs.Layout.{headerBlock};
 ghost use Rattle.spec.specs.Lists.{firstOr, isIn};
-ghost use Rattle.spec.specs.Params.{inRange, capacity, imageLen, pointersLen};
+ghost use Rattle.spec.specs.Params.{inRange, spareLen, capacity, imageLen, pointersLen};
 ghost use Rattle.law_views.specs.Views.{Whole};
 ghost use Rattle.disk_zones.specs.Empty.{emptyBy};
 ghost use Rattle.disk_zones.specs.Made.{Storing};
@@ -53,7 +53,7 @@ pub fn put(
     requires { ⌜ inRange p ≡ true ⌝ }
     requires { ⌜ Whole p (mkDisk (now image) (now pointers)) ⌝ }
     requires { ⌜ (drive < p .N) × (zone < p .Z) × (pointerOf p (now pointers) drive zone < capacity p) ⌝ }
-    requires { ⌜ (length (now block) ≡ p .B) × (length (now spare) ≡ 20) ⌝ }
+    requires { ⌜ (length (now block) ≡ p .B) × (length (now spare) ≡ spareLen) ⌝ }
     ensures { λ _. ⌜
         mkDisk (now (image .exit)) (now (pointers .exit))
         ≡ storeDisk p (put drive zone (now (block .entry)) (now (spare .entry))) (mkDisk (now (image .entry)) (now (pointers .entry))) ⌝ }
@@ -114,7 +114,7 @@ pub fn put_limited(
     requires { ⌜ inRange p ≡ true ⌝ }
     requires { ⌜ Whole p (mkDisk (now image) (now pointers)) ⌝ }
     requires { ⌜ (drive < p .N) × (zone < p .Z) × (pointerOf p (now pointers) drive zone < capacity p) ⌝ }
-    requires { ⌜ (length (now block) ≡ p .B) × (length (now spare) ≡ 20) ⌝ }
+    requires { ⌜ (length (now block) ≡ p .B) × (length (now spare) ≡ spareLen) ⌝ }
     ensures { λ r. ⌜
         Storing p count (put drive zone (now (block .entry)) (now (spare .entry)) ∷ []) (mkDisk (now (image .entry)) (now (pointers .entry))) r
         (mkDisk (now (image .exit)) (now (pointers .exit))) ⌝ }

@@ -1,16 +1,23 @@
--- Laws of fields one after the other (01, What a zone holds: header and record). Assumes nothing.
+-- Laws of tables of fields: how long, where a field begins, what is read back; of the header and the record (01, What a zone holds). Assumes nothing.
 use mathlib.Core.Path.{_≡_, refl, sym, ap, ap₂, _∙_}
 use mathlib.Core.List.{List, [], _∷_, _++_, append-assoc}
 use Prim.Native.Nat.{ℕ, zero, suc, _+_, _^_, _≤_, _<_}
 use native.Mathlib.Omega.{arith}
-use lib.ListN.{length, getD, take, length-append}
+use lib.ListN.{length, getD, length-append, length-replicate}
 use Rattle.spec.specs.declared.Params.{Params}
-use Rattle.spec.specs.Bytes.{beOf, toBe, part, splice, Field, field, bytesOf, readField}
-use Rattle.spec.specs.Layout.{headerFields, headerBlock, headerWidths, headerValues}
-use Rattle.spec.specs.Lists.{total, zipped}
+use Rattle.spec.specs.Bytes.{beOf, toBe, part, splice, Field, field, bytesOf, widthsOf, fieldAt, readField}
+use Rattle.spec.specs.Drives.{zeroSpare}
+use Rattle.spec.specs.Layout.{headerTable, headerWidths, headerLen, headerFields, headerBlock, Rec, recordFields, recordBytes}
+use Rattle.spec.specs.Lists.{total}
+use Rattle.spec.specs.Params.{recordTable, recordWidths, spareLen}
 use Rattle.law_basic.specs.Be.{length-toBe, beOf-toBe}
+use Rattle.law_basic.specs.Geometry.{Ranged}
 use Rattle.law_basic.specs.Ranges.{length-padTo}
 use Rattle.law_basic.specs.Splice.{length-splice, part-all, part-append-left, part-append-right, splice-nil, splice-next}
+
+-- the field where there is none
+abbrev pub noField : Field
+noField = field 0 0
 
 -- the fields written one at a time, from index at + k
 unfoldable pub written : List ℕ → ℕ → ℕ → List Field → List ℕ
@@ -18,12 +25,8 @@ written l at k [] = l
 written l at k (f ∷ fs) = written (splice l (at + k) (toBe (f .width) (f .value))) at (k + f .width) fs
 
 -- how many bytes they take
-unfoldable pub widths : List Field → ℕ
-widths [] = 0
-widths (f ∷ fs) = f .width + widths fs
-
-pub length-bytesOf : (fs : List Field) → length (bytesOf fs) ≡ widths fs
-unfolding bytesOf widths
+pub length-bytesOf : (fs : List Field) → length (bytesOf fs) ≡ total (widthsOf fs)
+unfolding bytesOf widthsOf total
 length-bytesOf [] = refl
 length-bytesOf (f ∷ fs) = length-append (toBe (f .width) (f .value)) (bytesOf fs) ∙ ap₂ _+_ (length-toBe (f .width) (f .value)) (length-bytesOf fs)
 
@@ -35,13 +38,13 @@ bytesOf-append (f ∷ fs) gs =
     ap (λ (x : List ℕ). b ++ x) (bytesOf-append fs gs) ∙ sym (append-assoc b (bytesOf fs) (bytesOf gs))
 
 -- all of them at once
-pub written-is : (l : List ℕ) (at k : ℕ) (fs : List Field) → at + k + widths fs ≤ length l → written l at k fs ≡ splice l (at + k) (bytesOf fs)
-unfolding written widths bytesOf
+pub written-is : (l : List ℕ) (at k : ℕ) (fs : List Field) → at + k + total (widthsOf fs) ≤ length l → written l at k fs ≡ splice l (at + k) (bytesOf fs)
+unfolding written widthsOf total bytesOf
 written-is l at k [] h = sym (splice-nil l (at + k))
 written-is l at k (f ∷ fs) h =
     let b : List ℕ = toBe (f .width) (f .value) in
     let n : length b ≡ f .width = length-toBe (f .width) (f .value) in
-    let m : length (bytesOf fs) ≡ widths fs = length-bytesOf fs in
+    let m : length (bytesOf fs) ≡ total (widthsOf fs) = length-bytesOf fs in
     let e : length (splice l (at + k) b) ≡ length l = length-splice l (at + k) b (omega arith) in
     let i : at + (k + f .width) ≡ at + k + length b = omega arith in
     written-is (splice l (at + k) b) at (k + f .width) fs (omega arith)
@@ -58,32 +61,48 @@ unfolding written
 nothing-more l at k = refl
 
 -- field i of the fields, and what follows them
-pub field-part : (ws vs : List ℕ) (i : ℕ) (rest : List ℕ) → i < length ws → i < length vs
-    → part (total (take i ws)) (getD ws i 0) (bytesOf (zipped field ws vs) ++ rest) ≡ toBe (getD ws i 0) (getD vs i 0)
-unfolding zipped bytesOf total
-field-part [] vs i rest h k = absurd (let q : ⊥ = omega arith in q)
-field-part (w ∷ ws) [] i rest h k = absurd (let q : ⊥ = omega arith in q)
-field-part (w ∷ ws) (v ∷ vs) zero rest h k =
-    let b = toBe w v in
-    let n : length b ≡ w = length-toBe w v in
-    ap (part 0 w) (append-assoc b (bytesOf (zipped field ws vs)) rest)
-    ∙ part-append-left 0 w b (bytesOf (zipped field ws vs) ++ rest) (omega arith) ∙ part-all w b (omega arith)
-field-part (w ∷ ws) (v ∷ vs) (suc i) rest h k =
-    let b = toBe w v in
-    let t = total (take i ws) in
-    ap (part (w + t) (getD ws i 0)) (append-assoc b (bytesOf (zipped field ws vs)) rest)
-    ∙ ap (λ (x : ℕ). part (x + t) (getD ws i 0) (b ++ (bytesOf (zipped field ws vs) ++ rest))) (sym (length-toBe w v))
-    ∙ part-append-right t (getD ws i 0) b (bytesOf (zipped field ws vs) ++ rest) ∙ field-part ws vs i rest (omega arith) (omega arith)
+pub field-part : (fs : List Field) (i : ℕ) (rest : List ℕ) → i < length fs
+    → part (fieldAt (widthsOf fs) i) (getD (widthsOf fs) i 0) (bytesOf fs ++ rest) ≡ toBe (getD fs i noField .width) (getD fs i noField .value)
+unfolding widthsOf fieldAt bytesOf total
+field-part [] i rest h = absurd (let q : ⊥ = omega arith in q)
+field-part (f ∷ fs) zero rest h =
+    let b = toBe (f .width) (f .value) in
+    let n : length b ≡ f .width = length-toBe (f .width) (f .value) in
+    ap (part 0 (f .width)) (append-assoc b (bytesOf fs) rest)
+    ∙ part-append-left 0 (f .width) b (bytesOf fs ++ rest) (omega arith) ∙ part-all (f .width) b (omega arith)
+field-part (f ∷ fs) (suc i) rest h =
+    let b = toBe (f .width) (f .value) in
+    let t = fieldAt (widthsOf fs) i in
+    let w = getD (widthsOf fs) i 0 in
+    ap (part (f .width + t) w) (append-assoc b (bytesOf fs) rest)
+    ∙ ap (λ (x : ℕ). part (x + t) w (b ++ (bytesOf fs ++ rest))) (sym (length-toBe (f .width) (f .value)))
+    ∙ part-append-right t w b (bytesOf fs ++ rest) ∙ field-part fs i rest (omega arith)
 
-pub readField-bytesOf : (ws vs : List ℕ) (i : ℕ) (rest : List ℕ) → i < length ws → i < length vs → getD vs i 0 < 256 ^ getD ws i 0
-    → readField ws i (bytesOf (zipped field ws vs) ++ rest) ≡ getD vs i 0
+-- it is read back where it fits
+pub readField-bytesOf : (fs : List Field) (i : ℕ) (rest : List ℕ) → i < length fs → getD fs i noField .value < 256 ^ getD fs i noField .width
+    → readField (widthsOf fs) i (bytesOf fs ++ rest) ≡ getD fs i noField .value
 unfolding readField
-readField-bytesOf ws vs i rest h k g = ap beOf (field-part ws vs i rest h k) ∙ beOf-toBe (getD ws i 0) (getD vs i 0) g
+readField-bytesOf fs i rest h g = ap beOf (field-part fs i rest h) ∙ beOf-toBe (getD fs i noField .width) (getD fs i noField .value) g
 
-pub header-long : (p : Params) (d z r c : ℕ) → length (bytesOf (headerFields p d z r c)) ≡ 41
-unfolding headerFields headerWidths headerValues zipped widths
+-- ---- the record, the zero spare, the header
+
+pub length-record : (r : Rec) → length (recordBytes r) ≡ spareLen
+unfolding recordBytes recordFields recordTable spareLen recordWidths widthsOf
+length-record r = length-bytesOf (recordFields r)
+
+pub length-zeroSpare : length zeroSpare ≡ spareLen
+unfolding zeroSpare
+length-zeroSpare = length-replicate spareLen 0
+
+pub header-long : (p : Params) (d z r c : ℕ) → length (bytesOf (headerFields p d z r c)) ≡ headerLen
+unfolding headerFields headerTable headerLen headerWidths widthsOf
 header-long p d z r c = length-bytesOf (headerFields p d z r c)
 
-pub header-block-long : (p : Params) (d z r c : ℕ) → 41 ≤ p .B → length (headerBlock p d z r c) ≡ p .B
+-- a block has room for it
+pub header-fits : (p : Params) → Ranged p → headerLen ≤ p .B
+unfolding headerLen headerWidths headerTable widthsOf total
+header-fits p r = omega (arith, r .block-low)
+
+pub header-block-long : (p : Params) → Ranged p → (d z r c : ℕ) → length (headerBlock p d z r c) ≡ p .B
 unfolding headerBlock
-header-block-long p d z r c h = length-padTo (p .B) (bytesOf (headerFields p d z r c)) (omega (arith, header-long p d z r c))
+header-block-long p h d z r c = length-padTo (p .B) (bytesOf (headerFields p d z r c)) (omega (arith, header-long p d z r c, header-fits p h))

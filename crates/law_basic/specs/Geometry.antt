@@ -1,5 +1,5 @@
 -- Laws of ranges, places and offsets (01, The array; What a zone holds). Assumes nothing.
-use mathlib.Core.Path.{_≡_, refl, sym, ap, _∙_}
+use mathlib.Core.Path.{_≡_, refl, sym, ap, _∙_, subst}
 use mathlib.Core.Bool.{Bool, true, false, not, _&&_}
 use Prim.Native.Nat.{ℕ, suc, _+_, _-_, _*_, _/_, _%_, _≤_, _<_}
 use native.Mathlib.Omega.{arith}
@@ -9,12 +9,13 @@ use lib.Dec.{leb, ltb, eqb}
 use native.Mathlib.Nat.{suc-mul, mul-assoc, le-of-eq, le-trans, sub-le, mul-le-mul-right, mul-le-mul, div-add-mod', div-mul-le-self, le-div-iff-mul-le}
 use native.Mathlib.Nat.{div-lt-iff-lt-mul, lt-div-mul-add, mod-lt, add-mod-right}
 use borrow.Author.Tests.{leb-true, eqb-false, not-true, lt-ltb, le-ltb, le-leb, eq-eqb, ne-eqb}
+use Rattle.spec.specs.Bytes.{widthsOf}
 use Rattle.spec.specs.Drives.{pointerByte, zoneOn}
 use Rattle.spec.specs.Layout.{parityDrive, dataDrive, dataPosition, isData}
 use Rattle.spec.specs.Lists.{all, isMember, total}
 use Rattle.spec.specs.Memory.{compactAt, slotByte}
-use Rattle.spec.specs.Params.{between, blockSizes, dataCount, mostAddresses, inRange, recordWidths, spareLen, perFooter, footers, capacity, unitLen, zoneLen}
-use Rattle.spec.specs.Params.{driveLen, imageLen, pointersLen, compactLen, inflightLen, placeOf, placeBlock, placeZone, placeDrive, placeByte}
+use Rattle.spec.specs.Params.{between, blockSizes, dataCount, mostAddresses, inRange, recordTable, recordWidths, spareLen, perFooter, footers, capacity, unitLen}
+use Rattle.spec.specs.Params.{zoneLen, driveLen, imageLen, pointersLen, compactLen, inflightLen, placeOf, placeBlock, placeZone, placeDrive, placeByte}
 use Rattle.spec.specs.declared.Params.{Params}
 use Rattle.law_basic.specs.Ranges.{and-left, and-right, and-both, not-both, member-all}
 
@@ -89,18 +90,19 @@ ranged p h =
 
 -- ---- sizes
 
+-- the one place of the number
 pub spare-len : spareLen ≡ 20
-unfolding spareLen total recordWidths
+unfolding spareLen total recordWidths recordTable widthsOf
 spare-len = refl
 
 module _ (p : Params) (r : Ranged p) where
   pub per-footer-low : 3 ≤ perFooter p
-  unfolding perFooter spareLen total recordWidths
-  per-footer-low = omega (arith, r .block-low)
+  unfolding perFooter
+  per-footer-low = subst (λ (n : ℕ). 3 ≤ p .B / n) (sym spare-len) (omega (arith, r .block-low))
 
   pub per-footer-high : perFooter p ≤ 204
-  unfolding perFooter spareLen total recordWidths
-  per-footer-high = omega (arith, r .block-high)
+  unfolding perFooter
+  per-footer-high = subst (λ (n : ℕ). p .B / n ≤ 204) (sym spare-len) (omega (arith, r .block-high))
 
   -- the records of a footer block fit in it
   pub per-footer-fits : perFooter p * spareLen ≤ p .B
@@ -145,17 +147,17 @@ module _ (p : Params) (r : Ranged p) where
   unfolding capacity
   data-below b h = omega arith
 
-  pub unit-low : 84 ≤ unitLen p
-  unfolding unitLen spareLen total recordWidths
+  pub unit-low : 64 + spareLen ≤ unitLen p
+  unfolding unitLen
   unit-low = omega (arith, r .block-low)
 
-  pub unit-high : unitLen p ≤ 4116
-  unfolding unitLen spareLen total recordWidths
+  pub unit-high : unitLen p ≤ 4096 + spareLen
+  unfolding unitLen
   unit-high = omega (arith, r .block-high)
 
   pub zone-high : zoneLen p ≤ 359660196
   unfolding zoneLen
-  zone-high = prod-le (capacity p) (unitLen p) 87381 4116 359660196 capacity-high unit-high (omega arith)
+  zone-high = prod-le (capacity p) (unitLen p) 87381 (4096 + spareLen) 359660196 capacity-high unit-high (omega (arith, spare-len))
 
   pub drive-high : driveLen p ≤ 368292040704
   unfolding driveLen

@@ -4,8 +4,8 @@ pub mod Le
 pub mod Ranges
 pub mod Xor
 pub mod Mask
-pub mod Fields
 pub mod Sections
 pub mod Stores
 pub mod Geometry
+pub mod Fields
 pub mod Turns

@@ -6,17 +6,18 @@ use Prim.Native.Nat.{ℕ, zero, suc, _+_, _-_, _*_, _/_, _%_, _^_, _≤_, _<_}
 use native.Mathlib.Nat.{div-add-mod', pow-le-pow-right, mod-lt, mul-suc, mul-le-mul-right}
 use native.Mathlib.Omega.{arith}
 use lib.Dec.{lit<}
-use lib.ListN.{length, getD, take, drop, replicate, length-take, length-drop, length-replicate}
+use lib.ListN.{length, getD, take, drop, replicate, length-take, length-drop}
 use lib.Seq.{take-at, getD-take, getD-drop}
 use Rattle.spec.specs.declared.Params.{Params}
-use Rattle.spec.specs.Bytes.{beOf, toBe, part, Field, field, bytesOf, readField}
+use Rattle.spec.specs.Bytes.{beOf, toBe, part, Field, bytesOf, widthsOf, fieldAt, readField}
 use Rattle.spec.specs.Drives.{zeroSpare}
-use Rattle.spec.specs.Layout.{headerWidths, headerValues, headerFields, headerBlock, headerSerial, headerCopied, Rec, recordFields, recordBytes, recordOf, footerBlock}
-use Rattle.spec.specs.Lists.{flat, total, padTo, zipped}
-use Rattle.spec.specs.Params.{recordWidths, spareLen, perFooter}
+use Rattle.spec.specs.Layout.{headerTable, serialField, copiedField, headerWidths, headerFields, headerBlock, headerSerial, headerCopied, Rec, recordFields}
+use Rattle.spec.specs.Layout.{recordBytes, recordOf, footerBlock}
+use Rattle.spec.specs.Lists.{flat, padTo}
+use Rattle.spec.specs.Params.{recordTable, addressField, stampField, stripeField, recordWidths, spareLen, perFooter}
 use Rattle.law_basic.specs.Be.{beOf-lt, toBe-byte}
-use Rattle.law_basic.specs.Fields.{widths, length-bytesOf, readField-bytesOf}
-use Rattle.law_basic.specs.Geometry.{Ranged, spare-len, per-footer-low, per-footer-fits}
+use Rattle.law_basic.specs.Fields.{noField, readField-bytesOf}
+use Rattle.law_basic.specs.Geometry.{Ranged, per-footer-low, per-footer-fits}
 use Rattle.law_basic.specs.Ranges.{length-padTo}
 use Rattle.law_basic.specs.Splice.{part-append-right}
 use Rattle.law_drives.specs.Image.{bytes-part}
@@ -59,21 +60,9 @@ pub bytes-header : (p : Params) (d z r c : ℕ) → Bytes (headerBlock p d z r c
 unfolding headerBlock
 bytes-header p d z r c = bytes-pad (p .B) (bytesOf (headerFields p d z r c)) (bytes-fields (headerFields p d z r c))
 
-pub length-zeroSpare : length zeroSpare ≡ spareLen
-unfolding zeroSpare
-length-zeroSpare = length-replicate spareLen 0
-
 pub bytes-zeroSpare : Bytes zeroSpare
 unfolding zeroSpare
 bytes-zeroSpare = bytes-zeros spareLen
-
-record-width : (r : Rec) → widths (recordFields r) ≡ 20
-unfolding widths recordFields recordWidths zipped
-record-width r = refl
-
-pub length-record : (r : Rec) → length (recordBytes r) ≡ spareLen
-unfolding recordBytes
-length-record r = length-bytesOf (recordFields r) ∙ record-width r ∙ sym spare-len
 
 pub bytes-record : (r : Rec) → Bytes (recordBytes r)
 unfolding recordBytes
@@ -120,37 +109,35 @@ bytes-footer p ss i h = bytes-pad (p .B) (flat (λ (b : List ℕ). b) (take (per
 -- ---- fields are read back
 
 pub header-serial : (p : Params) (d z r c : ℕ) → r < 256 ^ 8 → headerSerial (headerBlock p d z r c) ≡ r
-unfolding headerSerial headerBlock padTo headerFields headerWidths headerValues
+unfolding headerSerial headerBlock padTo headerFields headerWidths headerTable widthsOf
 header-serial p d z r c h =
-    let vs = headerValues p d z r c in
-    let t : List ℕ = replicate (p .B - length (bytesOf (zipped field headerWidths vs))) 0 in
-    readField-bytesOf headerWidths vs 9 t (lit< tt) (lit< tt) h
+    let fs = headerFields p d z r c in
+    readField-bytesOf fs serialField (replicate (p .B - length (bytesOf fs)) 0) (lit< tt) h
 
 pub header-copied : (p : Params) (d z r c : ℕ) → c < 256 ^ 8 → headerCopied (headerBlock p d z r c) ≡ c
-unfolding headerCopied headerBlock padTo headerFields headerWidths headerValues
+unfolding headerCopied headerBlock padTo headerFields headerWidths headerTable widthsOf
 header-copied p d z r c h =
-    let vs = headerValues p d z r c in
-    let t : List ℕ = replicate (p .B - length (bytesOf (zipped field headerWidths vs))) 0 in
-    readField-bytesOf headerWidths vs 10 t (lit< tt) (lit< tt) h
+    let fs = headerFields p d z r c in
+    readField-bytesOf fs copiedField (replicate (p .B - length (bytesOf fs)) 0) (lit< tt) h
 
-record-field : (r : Rec) (i : ℕ) → i < length recordWidths → i < 3 → getD (r .address ∷ r .stamp ∷ r .stripe ∷ []) i 0 < 256 ^ getD recordWidths i 0
-    → readField recordWidths i (recordBytes r) ≡ getD (r .address ∷ r .stamp ∷ r .stripe ∷ []) i 0
-unfolding recordBytes recordFields
-record-field r i h l b =
-    let vs = r .address ∷ r .stamp ∷ r .stripe ∷ [] in
-    ap (readField recordWidths i) (sym (append-nil (bytesOf (zipped field recordWidths vs)))) ∙ readField-bytesOf recordWidths vs i [] h l b
+record-field : (r : Rec) (i : ℕ) → i < length (recordFields r) → getD (recordFields r) i noField .value < 256 ^ getD (recordFields r) i noField .width
+    → readField recordWidths i (recordBytes r) ≡ getD (recordFields r) i noField .value
+unfolding recordBytes recordFields recordWidths recordTable widthsOf
+record-field r i h b =
+    let fs = recordFields r in
+    ap (readField (widthsOf fs) i) (sym (append-nil (bytesOf fs))) ∙ readField-bytesOf fs i [] h b
 
 pub record-stripe : (r : Rec) → r .stripe < 256 ^ 4 → recordOf (recordBytes r) .stripe ≡ r .stripe
-unfolding recordOf recordWidths
-record-stripe r h = record-field r 2 (lit< tt) (lit< tt) h
+unfolding recordOf recordFields recordTable
+record-stripe r h = record-field r stripeField (lit< tt) h
 
 pub record-back : (r : Rec) → r .address < 256 ^ 8 → r .stamp < 256 ^ 8 → r .stripe < 256 ^ 4 → recordOf (recordBytes r) ≡ r
-unfolding recordOf recordWidths
+unfolding recordOf recordFields recordTable
 record-back r a t s =
     λ i. record {
-      address = record-field r 0 (lit< tt) (lit< tt) a i;
-      stamp = record-field r 1 (lit< tt) (lit< tt) t i;
-      stripe = record-field r 2 (lit< tt) (lit< tt) s i;
+      address = record-field r addressField (lit< tt) a i;
+      stamp = record-field r stampField (lit< tt) t i;
+      stripe = record-field r stripeField (lit< tt) s i;
     }
 
 -- ---- what bytes say is small
@@ -159,25 +146,29 @@ length-part-le : (a n : ℕ) (l : List ℕ) → length (part a n l) ≤ n
 unfolding part
 length-part-le a n l = subst (λ (x : ℕ). x ≤ n) (sym (length-take n (drop a l))) (omega arith)
 
-pub field-low : (ws : List ℕ) (i : ℕ) (l : List ℕ) → Bytes l → readField ws i l < 256 ^ getD ws i 0
+field-low : (ws : List ℕ) (i : ℕ) (l : List ℕ) → Bytes l → readField ws i l < 256 ^ getD ws i 0
 unfolding readField
 field-low ws i l h =
-    let q = part (total (take i ws)) (getD ws i 0) l in
-    let m : 256 ^ length q ≤ 256 ^ getD ws i 0 = pow-le-pow-right (lit< tt) {i = length q} {j = getD ws i 0} (length-part-le (total (take i ws)) (getD ws i 0) l) in
-    let b = beOf-low q (bytes-part (total (take i ws)) (getD ws i 0) l h) in
+    let q = part (fieldAt ws i) (getD ws i 0) l in
+    let m : 256 ^ length q ≤ 256 ^ getD ws i 0 = pow-le-pow-right (lit< tt) {i = length q} {j = getD ws i 0} (length-part-le (fieldAt ws i) (getD ws i 0) l) in
+    let b = beOf-low q (bytes-part (fieldAt ws i) (getD ws i 0) l h) in
     omega arith
 
 pub serial-low : (l : List ℕ) → Bytes l → headerSerial l < 256 ^ 8
-unfolding headerSerial headerWidths
-serial-low l h = field-low headerWidths 9 l h
+unfolding headerSerial headerWidths headerTable widthsOf
+serial-low l h = field-low headerWidths serialField l h
+
+pub copied-low : (l : List ℕ) → Bytes l → headerCopied l < 256 ^ 8
+unfolding headerCopied headerWidths headerTable widthsOf
+copied-low l h = field-low headerWidths copiedField l h
 
 pub address-low : (l : List ℕ) → Bytes l → recordOf l .address < 256 ^ 8
-unfolding recordOf recordWidths
-address-low l h = field-low recordWidths 0 l h
+unfolding recordOf recordWidths recordTable widthsOf
+address-low l h = field-low recordWidths addressField l h
 
 pub stamp-low : (l : List ℕ) → Bytes l → recordOf l .stamp < 256 ^ 8
-unfolding recordOf recordWidths
-stamp-low l h = field-low recordWidths 1 l h
+unfolding recordOf recordWidths recordTable widthsOf
+stamp-low l h = field-low recordWidths stampField l h
 
 -- ---- footers are read back
 

@@ -18,11 +18,11 @@ use Rattle.spec.specs.Layout.{headerBlock, Rec, recordBytes, footerBlock}
 use Rattle.spec.specs.Lists.{upFrom, below, consIf, keep, flat}
 use Rattle.spec.specs.Params.{spareLen, capacity, drivesOf}
 use Rattle.law_basic.specs.Be.{room}
-use Rattle.law_basic.specs.Fields.{header-block-long}
+use Rattle.law_basic.specs.Fields.{length-record, length-zeroSpare, header-block-long}
 use Rattle.law_basic.specs.Geometry.{Ranged}
 use Rattle.law_basic.specs.Ranges.{Test, test, keep-append}
 use Rattle.law_basic.specs.Ranges.Test.{yes!, no! }
-use Rattle.law_drives.specs.Laid.{bytes-header, length-zeroSpare, bytes-zeroSpare, length-record, bytes-record, Long, length-footer, bytes-footer}
+use Rattle.law_drives.specs.Laid.{bytes-header, bytes-zeroSpare, bytes-record, Long, length-footer, bytes-footer}
 use Rattle.law_drives.specs.Members.{In, map-in, keep-nothing, keep-all, keep-flat, keep-map, from-in}
 use Rattle.law_drives.specs.Tables.{the-row}
 use Rattle.law_drives.specs.Tests.{and-false-right}
@@ -151,7 +151,7 @@ room-append p d z n (c ∷ cs) ss a b = (a .0, room-append p d z (suc n) cs ss (
 
 pub header-sound : (p : Params) → Ranged p → (d z r c : ℕ) → Sound p 0 (mkChunk (headerBlock p d z r c) zeroSpare)
 header-sound p r d z s c = record {
-  block-long = header-block-long p d z s c (omega (arith, r .block-low));
+  block-long = header-block-long p r d z s c;
   spare-long = length-zeroSpare;
   spare-bytes = bytes-zeroSpare;
   block-bytes = λ x. bytes-header p d z s c;

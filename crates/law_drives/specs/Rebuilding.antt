@@ -20,11 +20,12 @@ use Rattle.spec.specs.Params.{footers, named, present}
 use Rattle.spec.specs.Parity.{Piece, mkPiece, parityPiece}
 use Rattle.spec.specs.Rebuild.{rebuiltZone, rebuildStores}
 use Rattle.spec.specs.Segments.{remaining, Segment, segmentOf, segments, offsetOn, hasChunk, counts, counted, storedPiece, pieceOf, putPiece}
+use Rattle.law_basic.specs.Fields.{length-record}
 use Rattle.law_basic.specs.Geometry.{Ranged}
 use Rattle.law_basic.specs.Ranges.{length-below, map-append, map-map, getD-map, getD-map-below, length-keep}
 use Rattle.law_basic.specs.Xor.{AllLong, length-parity}
 use Rattle.law_drives.specs.Frame.{Agree}
-use Rattle.law_drives.specs.Laid.{length-record, bytes-record, Long}
+use Rattle.law_drives.specs.Laid.{bytes-record, Long}
 use Rattle.law_drives.specs.Members.{In, in-append, map-in, flat-in, keep-in, flat-cong, keep-nothing, flat-nothing, keep-map, flat-map, below-in, in-getD, nil-append}
 use Rattle.law_drives.specs.Puts.{hits-append, hits-flat, putAt, hits-puts, keep-one-below, flat-one, room-puts, room-append, header-sound, data-sound, footer-sound}
 use Rattle.law_drives.specs.Range.{capacity-is, capacity-over}

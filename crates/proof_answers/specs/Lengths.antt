@@ -16,14 +16,14 @@ use Rattle.spec.specs.Params.{dataCount, spareLen, capacity, unitLen, placeOf, 
 use Rattle.spec.specs.Parity.{Piece, mkPiece, parityPiece}
 use Rattle.spec.specs.Restart.{renumbered, movedPieces, movedOn}
 use Rattle.spec.specs.Segments.{Segment, segmentOf, offsetOn, hasChunk, counts, storedPiece, pieceOf, putPiece}
-use Rattle.law_basic.specs.Fields.{header-block-long}
+use Rattle.law_basic.specs.Fields.{length-record, length-zeroSpare, header-block-long}
 use Rattle.law_basic.specs.Geometry.{Ranged, block-within, data-drive-lt, position-lt}
 use Rattle.law_basic.specs.Mask.{isIn-empty}
 use Rattle.law_basic.specs.Ranges.{Test, test, length-upFrom, length-below}
 use Rattle.law_basic.specs.Ranges.Test.{yes!, no! }
 use Rattle.law_basic.specs.Splice.{length-part}
 use Rattle.law_drives.specs.Footers.{sparesIn, footerChunks, footer-puts}
-use Rattle.law_drives.specs.Laid.{length-zeroSpare, length-record, Long, in-take, in-drop, length-footer}
+use Rattle.law_drives.specs.Laid.{Long, in-take, in-drop, length-footer}
 use Rattle.law_drives.specs.Members.{In, map-in, below-in, in-getD, getD-in}
 use Rattle.law_drives.specs.Puts.{putAt}
 use Rattle.law_drives.specs.Range.{capacity-over}
@@ -96,7 +96,7 @@ module _ (p : Params) (r : Ranged p) where
   drive-low d m = below-in (p .N) d m
 
   pub header-proper : (d z s c : ℕ) → d < p .N → z < p .Z → Proper p (put d z (headerBlock p d z s c) zeroSpare)
-  header-proper d z s c hd hz = (hd, hz, header-block-long p d z s c (omega (arith, r .block-low)), length-zeroSpare)
+  header-proper d z s c hd hz = (hd, hz, header-block-long p r d z s c, length-zeroSpare)
 
   pub headers-proper : (z sn c : ℕ) → z < p .Z → (s : Store) → In s (headerStores p z sn c) → Proper p s
   unfolding headerStores zoneOn

@@ -18,11 +18,12 @@ use Rattle.spec.specs.Params.{spareLen, footers, capacity, named}
 use Rattle.spec.specs.Parity.{Piece}
 use Rattle.spec.specs.Rebuild.{rebuiltZone, rebuildStores}
 use Rattle.spec.specs.Segments.{remaining, Segment, segmentOf, segments, counted, pieceOf, putPiece}
+use Rattle.law_basic.specs.Fields.{length-record}
 use Rattle.law_basic.specs.Geometry.{Ranged}
 use Rattle.law_basic.specs.Mask.{isIn-only}
 use Rattle.law_basic.specs.Ranges.{Test, test, length-below}
 use Rattle.law_basic.specs.Ranges.Test.{yes!, no! }
-use Rattle.law_drives.specs.Laid.{length-record, Long}
+use Rattle.law_drives.specs.Laid.{Long}
 use Rattle.law_drives.specs.Members.{In, in-append, map-in, flat-in, flat-cong, keep-nothing, keep-all, flat-nothing, keep-map, flat-map, below-in, nil-append}
 use Rattle.law_drives.specs.Puts.{hits-append, hits-flat, keep-one-below, flat-one}
 use Rattle.law_drives.specs.Range.{capacity-is}

@@ -19,12 +19,12 @@ use Rattle.spec.specs.Lists.{below, any, consIf, keep, isNil, flat, firstOr}
 use Rattle.spec.specs.Memory.{Memory, slotCount, entriesIn, openSegment, slotBlock, slotByte}
 use Rattle.spec.specs.Params.{between, footers, capacity, inflightLen, drivesOf}
 use Rattle.spec.specs.Write.{opens, sending}
+use Rattle.law_basic.specs.Fields.{length-record}
 use Rattle.law_basic.specs.Geometry.{Ranged, between-low, between-high, slot-within}
 use Rattle.law_basic.specs.Ranges.{Test, test, and-left, and-right, and-both}
 use Rattle.law_basic.specs.Ranges.Test.{yes!, no! }
 use Rattle.law_basic.specs.Splice.{length-part}
 use Rattle.law_drives.specs.Footers.{hits-each, footerChunks, footer-puts}
-use Rattle.law_drives.specs.Laid.{length-record}
 use Rattle.law_drives.specs.Members.{In, flat-in, keep-in, all-in, none-in, flat-cong, in-below, below-in, first-in}
 use Rattle.law_drives.specs.Puts.{putAt, hits-resets, hits-headers}
 use Rattle.law_drives.specs.Range.{capacity-over}

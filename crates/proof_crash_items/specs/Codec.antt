@@ -1,36 +1,24 @@
--- Fields, records, headers and footers: what is read is what was written. Assumes nothing.
-use mathlib.Core.Path.{_≡_, refl, sym, ap, ap₂, _∙_}
-use mathlib.Core.List.{List, [], _∷_, _++_, append-nil, append-assoc}
+-- Records and footers: what is read is what was written. Assumes nothing.
+use mathlib.Core.Path.{_≡_, sym, ap, ap₂, _∙_}
+use mathlib.Core.List.{List, [], _∷_, _++_, append-assoc}
 use Prim.Native.Nat.{ℕ, zero, suc, _+_, _-_, _*_, _/_, _%_, _^_, min, _≤_, _<_}
 use native.Mathlib.Nat.{mod-lt, suc-mul, mul-suc, zero-mul, mul-le-mul-right, div-add-mod'}
 use native.Mathlib.Omega.{arith}
 use lib.Dec.{lit<}
-use lib.ListN.{length, getD, take, drop, replicate, length-append, length-take, length-drop, length-replicate}
+use lib.ListN.{length, getD, take, drop, replicate, length-append, length-take, length-drop}
 use lib.Seq.{getD-take, getD-drop, take-at, drop-append-add}
 use Rattle.spec.specs.declared.Params.{Params}
-use Rattle.spec.specs.Bytes.{toBe, part, field, bytesOf, readField}
-use Rattle.spec.specs.Drives.{zeroSpare, zoneOn}
-use Rattle.spec.specs.Layout.{headerWidths, headerValues, headerFields, headerBlock, Rec, mkRec, recordFields, recordBytes, recordOf, footerBlock}
-use Rattle.spec.specs.Lists.{flat, total, padTo, zipped}
-use Rattle.spec.specs.Params.{recordWidths, spareLen, perFooter}
-use Rattle.law_basic.specs.Be.{length-toBe}
+use Rattle.spec.specs.Bytes.{part, bytesOf, widthsOf}
+use Rattle.spec.specs.Drives.{zoneOn}
+use Rattle.spec.specs.Layout.{headerTable, zoneField, headerWidths, headerFields, headerBlock, Rec, recordBytes, recordOf, footerBlock}
+use Rattle.spec.specs.Lists.{flat, padTo}
+use Rattle.spec.specs.Params.{spareLen, perFooter}
 use Rattle.law_basic.specs.Fields.{readField-bytesOf}
 use Rattle.law_basic.specs.Geometry.{Ranged, per-footer-low, per-footer-fits}
 use Rattle.law_basic.specs.Ranges.{length-padTo}
 use Rattle.law_basic.specs.Xor.{AllLong}
+use Rattle.law_drives.specs.Laid.{record-back}
 use Rattle.proof_crash_items.specs.Items.{headerZones}
-
--- ---- fields
-
-abbrev pub fieldBytes : List ℕ → List ℕ → List ℕ
-fieldBytes ws vs = bytesOf (zipped field ws vs)
-
-pub length-fields : (ws vs : List ℕ) → length vs ≡ length ws → length (fieldBytes ws vs) ≡ total ws
-unfolding zipped bytesOf total
-length-fields [] vs e = refl
-length-fields (w ∷ ws) [] e = absurd (let q : ⊥ = omega arith in q)
-length-fields (w ∷ ws) (x ∷ vs) e =
-    length-append (toBe w x) (bytesOf (zipped field ws vs)) ∙ ap₂ (λ (a b : ℕ). a + b) (length-toBe w x) (length-fields ws vs (omega arith))
 
 -- ---- records
 
@@ -41,46 +29,16 @@ pub record Wide (r : Rec) : Type 0 where
   pub stripe : r .stripe < 256 ^ 4
 
 pub record-bytes : (r : Rec) → Wide r → recordOf (recordBytes r) ≡ r
-unfolding recordOf recordBytes recordFields recordWidths
-record-bytes r w = λ j. mkRec (a j) (t j) (s j)
-  where
-    vs : List ℕ
-    vs = r .address ∷ r .stamp ∷ r .stripe ∷ []
-
-    back : (i : ℕ) → readField recordWidths i (fieldBytes recordWidths vs) ≡ readField recordWidths i (fieldBytes recordWidths vs ++ [])
-    back i = ap (readField recordWidths i) (sym (append-nil (fieldBytes recordWidths vs)))
-
-    a : readField recordWidths 0 (fieldBytes recordWidths vs) ≡ r .address
-    a = back 0 ∙ readField-bytesOf recordWidths vs 0 [] (omega arith) (omega arith) (w .address)
-
-    t : readField recordWidths 1 (fieldBytes recordWidths vs) ≡ r .stamp
-    t = back 1 ∙ readField-bytesOf recordWidths vs 1 [] (omega arith) (omega arith) (w .stamp)
-
-    s : readField recordWidths 2 (fieldBytes recordWidths vs) ≡ r .stripe
-    s = back 2 ∙ readField-bytesOf recordWidths vs 2 [] (omega arith) (omega arith) (w .stripe)
+record-bytes r w = record-back r (w .address) (w .stamp) (w .stripe)
 
 -- ---- headers
 
 pub header-zones : (p : Params) (d z r c : ℕ) → z < 256 ^ 4 → headerZones (headerBlock p d z r c) ≡ zoneOn z
-unfolding headerZones headerBlock padTo headerFields headerWidths headerValues
+unfolding headerZones headerBlock padTo headerFields headerWidths headerTable widthsOf
 header-zones p d z r c h =
-    let vs = headerValues p d z r c in
-    let t : List ℕ = replicate (p .B - length (bytesOf (zipped field headerWidths vs))) 0 in
-    ap zoneOn (readField-bytesOf headerWidths vs 7 t (lit< tt) (lit< tt) h)
-
-pub length-zeroSpare : length zeroSpare ≡ spareLen
-unfolding zeroSpare
-length-zeroSpare = length-replicate spareLen 0
-
--- ---- headers
-
-module _ (p : Params) (d z serial copied : ℕ) where
-  values : List ℕ
-  values = headerValues p d z serial copied
-
-  pub length-header : 64 ≤ p .B → length (headerBlock p d z serial copied) ≡ p .B
-  unfolding headerBlock headerFields headerValues headerWidths total
-  length-header h = length-padTo (p .B) (fieldBytes headerWidths (headerValues p d z serial copied)) (omega (arith, length-fields headerWidths (headerValues p d z serial copied) refl))
+    let fs = headerFields p d z r c in
+    let t : List ℕ = replicate (p .B - length (bytesOf fs)) 0 in
+    ap zoneOn (readField-bytesOf fs zoneField t (lit< tt) h)
 
 -- ---- footers
 

@@ -13,7 +13,7 @@ use Rattle.spec.specs.declared.Params.{Params}
 use Rattle.spec.specs.Bytes.{readField}
 use Rattle.spec.specs.Drives.{Chunk, mkChunk, noChunk, Zone, stored, View, zoneAt, pointerAt, Store, putZone, resetZone, setZone, storeView, storeAll, zoneOn, noZone}
 use Rattle.spec.specs.Drives.Store.{put, reset}
-use Rattle.spec.specs.Layout.{headerWidths, headerSerial, headerCopied, Rec, recordOf}
+use Rattle.spec.specs.Layout.{headerWidths, zoneField, headerSerial, headerCopied, Rec, recordOf}
 use Rattle.spec.specs.Params.{capacity}
 use Rattle.law_views.specs.Views.{Fits, AllFit}
 use Rattle.law_drives.specs.Tests.{cond-true, cond-false}
@@ -34,7 +34,7 @@ chunkItem c = chunk (recordOf (c .spare) .stripe) (valueOf (c .block) (recordOf 
 
 -- the zones that a header names, by drive: those of the segment with its zone's number
 unfoldable pub headerZones : List ℕ → ℕ → ℕ
-headerZones b = zoneOn (readField headerWidths 7 b)
+headerZones b = zoneOn (readField headerWidths zoneField b)
 
 -- block 0 is the header, 1 to S are data, then footers
 unfoldable pub itemAt : Params → ℕ → Chunk → Item

@@ -12,13 +12,14 @@ use Rattle.spec.specs.Bytes.{part}
 use Rattle.spec.specs.Drives.{Chunk, mkChunk, noChunk, Zone, putZone, resetZone, blocksOf, sparesOf, recordIn, zeroSpare, zoneOn}
 use Rattle.spec.specs.Layout.{headerBlock, headerSerial, headerCopied, Rec, recordBytes, recordOf, footerBlock, footerRecord}
 use Rattle.spec.specs.Params.{spareLen, perFooter, footers, capacity}
+use Rattle.law_basic.specs.Fields.{length-record, length-zeroSpare, header-block-long}
 use Rattle.law_basic.specs.Geometry.{Ranged, footer-of}
 use Rattle.law_basic.specs.Xor.{AllLong}
-use Rattle.law_drives.specs.Laid.{header-serial, header-copied, length-record}
+use Rattle.law_drives.specs.Laid.{header-serial, header-copied}
 use Rattle.law_drives.specs.Records.{spares-at, blocks-at}
 use Rattle.proof_crash_machine.specs.View.{Item}
 use Rattle.proof_crash_machine.specs.View.Item.{hdr, chunk, foot}
-use Rattle.proof_crash_items.specs.Codec.{Wide, record-bytes, length-zeroSpare, length-header, length-footer, footer-record, header-zones}
+use Rattle.proof_crash_items.specs.Codec.{Wide, record-bytes, length-footer, footer-record, header-zones}
 use Rattle.proof_crash_items.specs.Items.{valueOf, chunkItem, itemAt, item-data, item-foot}
 use Rattle.proof_crash_items.specs.Ranges.{capacity-few}
 use Rattle.proof_crash_items.specs.Shape.{ZoneShape}
@@ -76,7 +77,7 @@ module _ (p : Params) (h : Ranged p) (q : Zone) (s : ZoneShape p q) where
 
   -- ---- the lengths of what is put, and the room for it
   pub kind-fits : (d z : ℕ) (b t : List ℕ) → Kind p d z q b t → (q .pointer < capacity p) × (length b ≡ p .B) × (length t ≡ spareLen)
-  kind-fits d z _ _ (header ser cop e y a c) = (omega (arith, e, capacity-few p h), length-header p d z ser cop (h .block-low), length-zeroSpare)
+  kind-fits d z _ _ (header ser cop e y a c) = (omega (arith, e, capacity-few p h), header-block-long p h d z ser cop, length-zeroSpare)
   kind-fits d z _ _ (datum o b r e l lb w) = (omega (arith, e, l, capacity-few p h), lb, length-record r)
   kind-fits d z _ _ (footer j e l) = unfold capacity in (omega (arith, e, l), length-footer p h (sparesIn p q) spares-long j, length-zeroSpare)
 

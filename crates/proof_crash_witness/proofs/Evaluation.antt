@@ -3,7 +3,7 @@
 use Prim.Native.Nat.{ℕ}
 use lib.Count.{ones, onesIn}
 use Rattle.spec.specs.Answers.{kind, values, isRefused, isRefusedAs, isCut, finished}
-use Rattle.spec.specs.Bytes.{beFrom, beOf, toBe, leOf, toLe, part, splice, xors, parity, xorAll, bytesOf, readField}
+use Rattle.spec.specs.Bytes.{beFrom, beOf, toBe, leOf, toLe, part, splice, xors, parity, xorAll, bytesOf, widthsOf, fieldAt, readField}
 use Rattle.spec.specs.Calls.{ninth, ruled, firstRefusal, decided, cutMemory, limited, outcome}
 use Rattle.spec.specs.Closing.{padded, closeChecks, closePlan, closeVerdict}
 use Rattle.spec.specs.Demands.{areBytes, saidBlock, saidAt}
@@ -18,8 +18,8 @@ use Rattle.spec.specs.History.{callOf, restartOf, inOrder, swapped, before, hap
 use Rattle.spec.specs.History.{ackedBy, endsRun, sentAfter, untrustedAfter, marked, step, emptyDisk, began, namesAll, allowed, seenFilled, seenAt}
 use Rattle.spec.specs.Landing.{slotOf, ready, waiting, completes, seals, flightRec, misplaced, overfull, entryFaults, landFaults, serialAt, heldCand, held}
 use Rattle.spec.specs.Landing.{landedCand, landedCands, pointed, landChecks, sealStores, writesIn, landStore, landPlan, landVerdict}
-use Rattle.spec.specs.Layout.{parityDrive, dataDrive, dataPosition, isData, dataDrives, group, inGroupOf, groupOffsets, compactEntry, headerWidths}
-use Rattle.spec.specs.Layout.{headerVersion, headerValues, headerFields, headerBlock, headerSerial, headerCopied, recordFields, recordBytes, recordOf}
+use Rattle.spec.specs.Layout.{parityDrive, dataDrive, dataPosition, isData, dataDrives, group, inGroupOf, groupOffsets, compactEntry, headerVersion}
+use Rattle.spec.specs.Layout.{headerTable, headerWidths, headerLen, headerFields, headerBlock, headerSerial, headerCopied, recordFields, recordBytes, recordOf}
 use Rattle.spec.specs.Layout.{footerBlock, footerRecord}
 use Rattle.spec.specs.Lists.{upFrom, below, all, any, isMember, consIf, keep, tally, isNil, sucUnless, indexOf, flat, total, greatest, least, firstOr}
 use Rattle.spec.specs.Lists.{sameList, padTo, pieces, zipped, powers, only, isIn}
@@ -28,7 +28,7 @@ use Rattle.spec.specs.Memory.{stateNumbers, sectionBytes, stateBytes, stateOf, 
 use Rattle.spec.specs.Memory.{openSegment, isFree, isFull, isFilling, inFlight, freeSlot, fillingSlot, hasFilling, holdsAt, holds, slotOk, stateOk}
 use Rattle.spec.specs.Memory.{stateFaults, setStamp, setOpen, setClosed, beginStripe, addEntry, landedMask, markLanded, freeStripe, placeAt, setPlace}
 use Rattle.spec.specs.Memory.{compactAt, shownAt, slotByte, slotBlock, setSlotBlock, setSlotParity}
-use Rattle.spec.specs.Params.{between, blockSizes, dataCount, mostAddresses, inRange, recordWidths, spareLen, perFooter, footers, capacity, unitLen, zoneLen}
+use Rattle.spec.specs.Params.{between, blockSizes, dataCount, mostAddresses, inRange, recordTable, recordWidths, spareLen, perFooter, footers, capacity, unitLen, zoneLen}
 use Rattle.spec.specs.Params.{driveLen, imageLen, pointersLen, addressesLen, compactLen, inflightLen, placeOf, placeBlock, placeZone, placeDrive, placeByte}
 use Rattle.spec.specs.Params.{noDrive, named, drivesOf, present, absent}
 use Rattle.spec.specs.Parity.{parityRec, parityPiece}
@@ -52,7 +52,7 @@ use Rattle.proof_crash_witness.proofs.Numbers.{markLists, markFrom, bit
 use Rattle.proof_crash_witness.proofs.Told.{start, heard, tell}
 
 unfoldable pub evaluated : ℕ
-unfolding ones onesIn kind values isRefused isRefusedAs isCut finished beFrom beOf toBe leOf toLe part splice xors parity xorAll bytesOf readField
+unfolding ones onesIn kind values isRefused isRefusedAs isCut finished beFrom beOf toBe leOf toLe part splice xors parity xorAll bytesOf widthsOf fieldAt readField
     ninth ruled firstRefusal decided cutMemory limited outcome padded closeChecks closePlan closeVerdict areBytes saidBlock saidAt noChunk noZone stored
     zoneAt pointerAt chunkAt chunkOf zoneOf driveOf viewOf putZone resetZone setZone storeView pointerByte pointerOf setPointer storeDisk storeAll
     segmentNumbers zoneOn placeSegment emptyOnAll emptyZones sealedIn dataStored blocksOf sparesOf recordIn recordAt footersOf zeroSpare headerStores
@@ -62,12 +62,12 @@ unfolding ones onesIn kind values isRefused isRefusedAs isCut finished beFrom be
     acknowledge forget sentBy ackedBy endsRun sentAfter untrustedAfter marked step emptyDisk began namesAll allowed seenFilled seenAt slotOf ready
     waiting completes seals flightRec misplaced overfull entryFaults landFaults serialAt heldCand held landedCand landedCands pointed landChecks
     sealStores writesIn landStore landPlan landVerdict parityDrive dataDrive dataPosition isData dataDrives group inGroupOf groupOffsets compactEntry
-    headerWidths headerVersion headerValues headerFields headerBlock headerSerial headerCopied recordFields recordBytes recordOf footerBlock
+    headerVersion headerTable headerWidths headerLen headerFields headerBlock headerSerial headerCopied recordFields recordBytes recordOf footerBlock
     footerRecord upFrom below all any isMember consIf keep tally isNil sucUnless indexOf flat total greatest least firstOr sameList padTo pieces zipped
     powers only isIn slotCount slots cell idleState zeroState stateSections sectionLen sectionAt stateLen numbersAt sectionOf numberOf stateNumbers
     sectionBytes stateBytes stateOf stripeIn filledIn landedIn isWrite entryIn entriesIn offsetIn openSegment isFree isFull isFilling inFlight freeSlot
     fillingSlot hasFilling holdsAt holds slotOk stateOk stateFaults setStamp setOpen setClosed beginStripe addEntry landedMask markLanded freeStripe
-    placeAt setPlace compactAt shownAt slotByte slotBlock setSlotBlock setSlotParity between blockSizes dataCount mostAddresses inRange recordWidths
+    placeAt setPlace compactAt shownAt slotByte slotBlock setSlotBlock setSlotParity between blockSizes dataCount mostAddresses inRange recordTable recordWidths
     spareLen perFooter footers capacity unitLen zoneLen driveLen imageLen pointersLen addressesLen compactLen inflightLen placeOf placeBlock placeZone
     placeDrive placeByte noDrive named drivesOf present absent parityRec parityPiece beats better best placeOr candsOf placeFaults lookup foundFaults
     shown decodeFaults storedAt decodedAt readPiece readAnswer readChecks readVerdict fillVerdict namesMissing rebuildChecks rebuiltZone rebuildStores

@@ -14,17 +14,18 @@ use Rattle.spec.specs.declared.Params.{Params}
 use Rattle.spec.specs.Bytes.{part, xorAll}
 use Rattle.spec.specs.Drives.{Chunk, mkChunk, noChunk, Zone, noZone, View, zoneAt, pointerAt, chunkAt, zoneOn, sealedIn, dataStored, blocksOf, recordIn, zeroSpare}
 use Rattle.spec.specs.Faults.{sameChunk, headerFault}
-use Rattle.spec.specs.Layout.{headerWidths, headerBlock, headerSerial, headerCopied, Rec, mkRec, recordBytes, recordOf, footerBlock, footerRecord}
+use Rattle.spec.specs.Layout.{headerBlock, headerSerial, headerCopied, Rec, mkRec, recordBytes, recordOf, footerBlock, footerRecord}
 use Rattle.spec.specs.Lists.{below, any, indexOf, sameList, tally, isIn}
 use Rattle.spec.specs.Params.{spareLen, perFooter, footers, capacity, named, present}
 use Rattle.spec.specs.Parity.{Piece, parityRec}
 use Rattle.spec.specs.Segments.{lowDrive, headerAt, remaining, Segment, recordsIn, segmentOf, recsOn, offsetOn, hasChunk, counts, counted, storedPiece, pieceOf, storedRec, recOf}
+use Rattle.law_basic.specs.Fields.{length-record}
 use Rattle.law_basic.specs.Geometry.{Ranged, per-footer-low, footers-cover}
 use Rattle.law_basic.specs.Mask.{isIn-empty}
 use Rattle.law_basic.specs.Ranges.{and-left, and-right, map-map, getD-map, getD-map-below, sameList-true}
 use Rattle.law_basic.specs.Xor.{xorAll-lt}
 use Rattle.law_drives.specs.Accept.{Accepted, faults-apart}
-use Rattle.law_drives.specs.Laid.{length-record, Long, getD-footer, field-low, serial-low, header-serial, header-copied, record-back}
+use Rattle.law_drives.specs.Laid.{Long, getD-footer, serial-low, copied-low, header-serial, header-copied, record-back}
 use Rattle.law_drives.specs.Masks.{low-present}
 use Rattle.law_drives.specs.Members.{In, map-in, in-map, in-keep, all-in, in-all, none-in, in-any, keep-cong, in-below, below-in, in-getD, index-is}
 use Rattle.law_drives.specs.Range.{capacity-is, capacity-over}
@@ -268,11 +269,8 @@ module _ (p : Params) (v : View) (d : ℕ) (lo : Loss p v d) (g : ℕ) (m : In g
   serials-low : (x .serial < 256 ^ 8) × (x .copied < 256 ^ 8)
   serials-low = (
     subst (λ (n : ℕ). n < 256 ^ 8) (sym (serial-is p v gone g)) (serial-low (headerAt v (lowDrive p gone) g) header-bytes),
-    subst (λ (n : ℕ). n < 256 ^ 8) (sym (copied-is p v gone g)) (copied-low! (headerAt v (lowDrive p gone) g) header-bytes),
+    subst (λ (n : ℕ). n < 256 ^ 8) (sym (copied-is p v gone g)) (copied-low (headerAt v (lowDrive p gone) g) header-bytes),
   )
-    where
-      copied-low! : (l : List ℕ) → Bytes l → headerCopied l < 256 ^ 8
-      copied-low! l h = unfold headerCopied headerWidths in field-low headerWidths 10 l h
 
   -- drive 0's header, read back
   pub head-serial : headerSerial (headerAt u 0 g) ≡ x .serial

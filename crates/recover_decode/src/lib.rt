@@ -47,7 +47,7 @@ fn put_lost_with(
 {
     recover_groups::lost_block(p, image, w, at, k, block);
     let q = recover_groups::lost_rec(p, image, w, at, k);
-    let mut spare = [0u8; 20];
+    let mut spare = [0u8; disk_shape::SPARE];
     disk_records::write_record(&mut spare, q);
     let zone = disk_shape::zone_on(w.seg, drive);
     disk_zones::put_limited(p, image, pointers, drive, zone, block, &spare, count)

@@ -140,7 +140,7 @@ fn record_of(
     ensures { λ r. ⌜ ((ps : List ℕ) → length ps ≡ pointersLen p → recVal r ≡ recordIn p full (zoneAt (viewOf p (now (image .entry)) ps) drive zone) offset) ⌝ }
 {
     let at = disk_stored::record_byte(p, full, drive, zone, offset);
-    let end = at + 20;
+    let end = at + disk_shape::SPARE;
     disk_records::read_record(&image[at..end])
 }
 

@@ -5,11 +5,10 @@ ghost use mathlib.Core.List.{List};
 ghost use Prim.Native.Nat.{ℕ, _+_, _≤_, _<_};
 ghost use lib.Dec.{ltb};
 ghost use lib.ListN.{length, getD};
-ghost use Rattle.spec.specs.Drives.{noZone, viewOf, zoneAt, mkDisk, chunkOf, pointerOf, zoneOn, zeroSpare};
-ghost use Rattle.spec.specs.Faults.{pointerFaults, sameChunk, headerFault, serialFault, footerFaultIn};
-ghost use Rattle.spec.specs.Layout.{headerBlock};
+ghost use Rattle.spec.specs.Drives.{noZone, viewOf, zoneAt, mkDisk, pointerOf, zoneOn};
+ghost use Rattle.spec.specs.Faults.{pointerFaults, headerFault, serialFault, footerFaultIn};
 ghost use Rattle.spec.specs.Lists.{firstOr, any, isIn};
-ghost use Rattle.spec.specs.Params.{inRange, footers, capacity, unitLen, imageLen, pointersLen, present};
+ghost use Rattle.spec.specs.Params.{inRange, footers, capacity, imageLen, pointersLen, present};
 ghost use Rattle.spec.specs.Segments.{segmentOf, segments};
 ghost use Rattle.recover_segments.specs.Remains.{Keeps, Serials};
 ghost use Rattle.law_views.specs.Views.{Whole};
@@ -66,58 +65,6 @@ pub fn pointer_fault(p: Params, pointers: &[u8], gone: u8) -> usize
 
 // ---- headers and serials
 
-// Whether a block with its spare is the header of a zone; scratch is room for the header.
-fn matches_header(
-    src: &[u8],
-    scratch: &mut [u8],
-    p: Params,
-    drive: usize,
-    zone: usize,
-    serial: Serial,
-    copied: Serial,
-) -> bool
-    requires { ⌜ (inRange p ≡ true) × (length (now src) ≡ unitLen p) × (unitLen p ≤ length (now scratch)) ⌝ }
-    ensures { λ r. ⌜ r ≡ sameChunk (chunkOf p (now (src .entry))) (headerBlock p drive zone (serial .0) (copied .0)) zeroSpare ⌝ }
-{
-    let n = disk_shape::unit_len(p);
-    disk_records::write_header(&mut scratch[..n], p, drive, zone, serial, copied);
-    disk_blocks::same(src, &scratch[..n])
-}
-
-// The same for small blocks: the room that is cleared is small too.
-fn is_small_header(
-    src: &[u8],
-    p: Params,
-    drive: usize,
-    zone: usize,
-    serial: Serial,
-    copied: Serial,
-) -> bool
-    requires { ⌜ (inRange p ≡ true) × (length (now src) ≡ unitLen p) × (p .B ≤ 256) ⌝ }
-    ensures { λ r. ⌜ r ≡ sameChunk (chunkOf p (now (src .entry))) (headerBlock p drive zone (serial .0) (copied .0)) zeroSpare ⌝ }
-{
-    let mut scratch = [0u8; 276];
-    matches_header(src, &mut scratch, p, drive, zone, serial, copied)
-}
-
-// The same for all blocks.
-fn is_header(
-    src: &[u8],
-    p: Params,
-    drive: usize,
-    zone: usize,
-    serial: Serial,
-    copied: Serial,
-) -> bool
-    requires { ⌜ (inRange p ≡ true) × (length (now src) ≡ unitLen p) ⌝ }
-    ensures { λ r. ⌜ r ≡ sameChunk (chunkOf p (now (src .entry))) (headerBlock p drive zone (serial .0) (copied .0)) zeroSpare ⌝ }
-{
-    if p.B <= 256 {
-        return is_small_header(src, p, drive, zone, serial, copied);
-    }
-    disk_records::is_header(src, p, drive, zone, serial, copied)
-}
-
 // A present drive's header is not the one that the serials give, or its spare is not zero.
 fn header_differs(
     p: Params,
@@ -138,7 +85,7 @@ fn header_differs(
     let zone = disk_shape::zone_on(segment, drive);
     let a = disk_shape::block_byte(p, drive, zone, 0);
     let e = a + disk_shape::unit_len(p);
-    !is_header(&image[a..e], p, drive, zone, serial, copied)
+    !disk_records::is_header(&image[a..e], p, drive, zone, serial, copied)
 }
 
 // 01, Refusals, 9: some present drive's header is not as it should be; the serials are those of the lowest present drive's.

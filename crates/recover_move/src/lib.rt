@@ -141,7 +141,7 @@ fn move_with(
         Storing p count (movedTo p (segmentIn p (now (image .entry)) (now (pointers .entry)) w) to (w .base + k) s drive ∷ [])
         (mkDisk (now (image .entry)) (now (pointers .entry))) r (mkDisk (now (image .exit)) (now (pointers .exit))) ⌝ }
 {
-    let mut spare = [0u8; 20];
+    let mut spare = [0u8; disk_shape::SPARE];
     let r = moved_chunk(p, image, w, at, k, s, drive, block);
     disk_records::write_record(&mut spare, r);
     let zone = disk_shape::zone_on(to, drive);

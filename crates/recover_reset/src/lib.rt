@@ -77,8 +77,8 @@ pub fn put_header(
         Storing p count (put drive zone (headerBlock p drive zone (serial .0) (copied .0)) zeroSpare ∷ [])
         (mkDisk (now (image .entry)) (now (pointers .entry))) r (mkDisk (now (image .exit)) (now (pointers .exit))) ⌝ }
 {
-    let mut unit = [0u8; 4116];
-    let spare = [0u8; 20];
+    let mut unit = [0u8; disk_shape::UNIT];
+    let spare = [0u8; disk_shape::SPARE];
     let n = disk_shape::unit_len(p);
     put_header_with(
         p,

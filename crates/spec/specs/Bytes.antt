@@ -1,5 +1,5 @@
 -- Bytes: big-endian and little-endian numbers over the width, parts and splices, exclusive or of blocks. Assumes nothing.
-use mathlib.Core.List.{List, [], _∷_, _++_}
+use mathlib.Core.List.{List, [], _∷_, _++_, map}
 use Prim.Native.Nat.{ℕ, zero, suc, _+_, _*_, _/_, _%_}
 use lib.ListN.{length, getD, take, drop, replicate}
 use lib.Bits.{bitXor}
@@ -54,7 +54,7 @@ unfoldable pub xorAll : List ℕ → ℕ
 xorAll [] = 0
 xorAll (n ∷ l) = bitXor n (xorAll l)
 
--- a field of a header, a record or the state: its width in bytes and its number
+-- a field of a header or a record: its width in bytes and its number
 pub record Field : Type 0 where
   pub width : ℕ
   pub value : ℕ
@@ -67,6 +67,14 @@ unfoldable pub bytesOf : List Field → List ℕ
 bytesOf [] = []
 bytesOf (f ∷ fs) = toBe (f .width) (f .value) ++ bytesOf fs
 
--- field i of bytes laid out by these widths
+-- the widths of a table of fields
+unfoldable pub widthsOf : List Field → List ℕ
+widthsOf fs = map (λ (f : Field). f .width) fs
+
+-- where field i begins in bytes laid out by these widths
+unfoldable pub fieldAt : List ℕ → ℕ → ℕ
+fieldAt ws i = total (take i ws)
+
+-- the number in field i
 unfoldable pub readField : List ℕ → ℕ → List ℕ → ℕ
-readField ws i bs = beOf (part (total (take i ws)) (getD ws i 0) bs)
+readField ws i bs = beOf (part (fieldAt ws i) (getD ws i 0) bs)

@@ -9,7 +9,7 @@ use lib.Count.{ones, onesIn}
 use Rattle.spec.specs.declared.Params.{Params}
 use Rattle.spec.specs.declared.Answer.the-variants.{Refused, Cut}
 use Rattle.spec.specs.Answers.{kind, values, isRefused, isRefusedAs, isCut, finished}
-use Rattle.spec.specs.Bytes.{beFrom, beOf, toBe, leOf, toLe, part, splice, xors, parity, xorAll, bytesOf, readField}
+use Rattle.spec.specs.Bytes.{beFrom, beOf, toBe, leOf, toLe, part, splice, xors, parity, xorAll, bytesOf, widthsOf, fieldAt, readField}
 use Rattle.spec.specs.Calls.{ninth, ruled, firstRefusal, decided, cutMemory, limited, outcome}
 use Rattle.spec.specs.Closing.{padded, closeChecks, closePlan, closeVerdict}
 use Rattle.spec.specs.Counts.{neverPlace}
@@ -23,8 +23,8 @@ use Rattle.spec.specs.Faults.{pointerFaults, sameChunk, headerFault, ser
 use Rattle.spec.specs.Faults.{addressFault, footersStored, sameBlocks, footerFaultIn, footerFault, clashes, segmentFault, segmentFaults, imageChecks}
 use Rattle.spec.specs.Landing.{slotOf, ready, waiting, completes, seals, flightRec, misplaced, overfull, entryFaults, landFaults, serialAt, heldCand}
 use Rattle.spec.specs.Landing.{held, landedCand, landedCands, pointed, landChecks, sealStores, writesIn, landStore, landPlan, landVerdict}
-use Rattle.spec.specs.Layout.{parityDrive, dataDrive, dataPosition, isData, dataDrives, group, inGroupOf, groupOffsets, compactEntry, headerWidths}
-use Rattle.spec.specs.Layout.{headerVersion, headerValues, headerFields, headerBlock, headerSerial, headerCopied, mkRec, recordFields, recordBytes}
+use Rattle.spec.specs.Layout.{parityDrive, dataDrive, dataPosition, isData, dataDrives, group, inGroupOf, groupOffsets, compactEntry, headerVersion}
+use Rattle.spec.specs.Layout.{headerTable, headerWidths, headerLen, headerFields, headerBlock, headerSerial, headerCopied, mkRec, recordFields, recordBytes}
 use Rattle.spec.specs.Layout.{recordOf, footerBlock, footerRecord}
 use Rattle.spec.specs.Lists.{upFrom, below, all, any, isMember, consIf, keep, tally, isNil, sucUnless, indexOf, flat, total, greatest, least, firstOr}
 use Rattle.spec.specs.Lists.{sameList, padTo, pieces, zipped, powers, only, isIn}
@@ -33,8 +33,8 @@ use Rattle.spec.specs.Memory.{numberOf, stateNumbers, sectionBytes, stat
 use Rattle.spec.specs.Memory.{offsetIn, openSegment, isFree, isFull, isFilling, inFlight, freeSlot, fillingSlot, hasFilling, holdsAt, holds, slotOk}
 use Rattle.spec.specs.Memory.{stateOk, stateFaults, setStamp, setOpen, setClosed, beginStripe, addEntry, landedMask, markLanded, freeStripe, placeAt}
 use Rattle.spec.specs.Memory.{setPlace, compactAt, shownAt, slotByte, slotBlock, setSlotBlock, setSlotParity}
-use Rattle.spec.specs.Params.{mkParams, between, blockSizes, dataCount, mostAddresses, inRange, recordWidths, spareLen, perFooter, footers, capacity}
-use Rattle.spec.specs.Params.{unitLen, zoneLen, driveLen, imageLen, pointersLen, addressesLen, compactLen, inflightLen, placeOf, placeBlock, placeZone}
+use Rattle.spec.specs.Params.{mkParams, between, blockSizes, dataCount, mostAddresses, inRange, recordTable, recordWidths, spareLen, perFooter, footers}
+use Rattle.spec.specs.Params.{capacity, unitLen, zoneLen, driveLen, imageLen, pointersLen, addressesLen, compactLen, inflightLen, placeOf, placeBlock, placeZone}
 use Rattle.spec.specs.Params.{placeDrive, placeByte, noDrive, named, drivesOf, present, absent}
 use Rattle.spec.specs.Parity.{parityRec, parityPiece}
 use Rattle.spec.specs.Rank.{beats, better, best, placeOr, candsOf}
@@ -126,7 +126,7 @@ pub record Examples : Type 0 where
   pub m8 : countedBoth small (runs small (fresh small) m8Calls) 2 0 ≡ [] ∷ (0 ∷ []) ∷ []
 
 pub examples-hold : Examples
-unfolding ones onesIn kind values isRefused isRefusedAs isCut finished beFrom beOf toBe leOf toLe part splice xors parity xorAll bytesOf readField
+unfolding ones onesIn kind values isRefused isRefusedAs isCut finished beFrom beOf toBe leOf toLe part splice xors parity xorAll bytesOf widthsOf fieldAt readField
     ninth ruled firstRefusal decided cutMemory limited outcome padded closeChecks closePlan closeVerdict noChunk noZone stored zoneAt pointerAt chunkAt
     chunkOf zoneOf driveOf viewOf putZone resetZone setZone storeView pointerByte pointerOf setPointer storeDisk storeAll segmentNumbers zoneOn
     placeSegment emptyOnAll emptyZones sealedIn dataStored blocksOf sparesOf recordIn recordAt footersOf zeroSpare headerStores footerStores resetStores
@@ -134,13 +134,13 @@ unfolding ones onesIn kind values isRefused isRefusedAs isCut finished beFrom be
     outside twice stripeFault badRec storedBad decodedBad addressFault footersStored sameBlocks footerFaultIn footerFault clashes segmentFault
     segmentFaults imageChecks slotOf ready waiting completes seals flightRec misplaced overfull entryFaults landFaults serialAt heldCand held landedCand
     landedCands pointed landChecks sealStores writesIn landStore landPlan landVerdict parityDrive dataDrive dataPosition isData dataDrives group
-    inGroupOf groupOffsets compactEntry headerWidths headerVersion headerValues headerFields headerBlock headerSerial headerCopied recordFields
+    inGroupOf groupOffsets compactEntry headerVersion headerTable headerWidths headerLen headerFields headerBlock headerSerial headerCopied recordFields
     recordBytes recordOf footerBlock footerRecord upFrom below all any isMember consIf keep tally isNil sucUnless indexOf flat total greatest least
     firstOr sameList padTo pieces zipped powers only isIn slotCount slots cell idleState zeroState stateSections sectionLen sectionAt stateLen numbersAt
     sectionOf numberOf stateNumbers sectionBytes stateBytes stateOf stripeIn filledIn landedIn isWrite entryIn entriesIn offsetIn openSegment isFree
     isFull isFilling inFlight freeSlot fillingSlot hasFilling holdsAt holds slotOk stateOk stateFaults setStamp setOpen setClosed beginStripe addEntry
     landedMask markLanded freeStripe placeAt setPlace compactAt shownAt slotByte slotBlock setSlotBlock setSlotParity between blockSizes dataCount
-    mostAddresses inRange recordWidths spareLen perFooter footers capacity unitLen zoneLen driveLen imageLen pointersLen addressesLen compactLen
+    mostAddresses inRange recordTable recordWidths spareLen perFooter footers capacity unitLen zoneLen driveLen imageLen pointersLen addressesLen compactLen
     inflightLen placeOf placeBlock placeZone placeDrive placeByte noDrive named drivesOf present absent parityRec parityPiece beats better best placeOr
     candsOf placeFaults lookup foundFaults shown decodeFaults storedAt decodedAt readPiece readAnswer readChecks readVerdict fillVerdict namesMissing
     rebuildChecks rebuiltZone rebuildStores rebuildVerdict placesIn tableFaults segmentPlaces liveIn flying victimOf fewer fewest victim isNone

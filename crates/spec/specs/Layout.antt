@@ -5,9 +5,9 @@ use Prim.Native.Nat.{ℕ, suc, _-_, _*_, _/_, _%_}
 use lib.Dec.{ltb, eqb}
 use lib.ListN.{getD, take, drop}
 use Rattle.spec.specs.declared.Params.{Params}
-use Rattle.spec.specs.Bytes.{part, Field, field, bytesOf, readField}
-use Rattle.spec.specs.Lists.{upFrom, below, keep, flat, total, padTo, zipped}
-use Rattle.spec.specs.Params.{dataCount, recordWidths, spareLen, perFooter}
+use Rattle.spec.specs.Bytes.{part, Field, field, bytesOf, widthsOf, readField}
+use Rattle.spec.specs.Lists.{upFrom, below, keep, flat, total, padTo}
+use Rattle.spec.specs.Params.{mkParams, dataCount, recordTable, addressField, stampField, stripeField, recordWidths, spareLen, perFooter}
 
 -- 01, What a zone holds: the drive of stripe s's parity
 unfoldable pub parityDrive : Params → ℕ → ℕ
@@ -45,21 +45,37 @@ groupOffsets p s = keep (λ o. ltb o (p .S)) (upFrom (group p s * p .G) (p .G))
 unfoldable pub compactEntry : Params → ℕ → ℕ
 compactEntry p s = s % p .G
 
--- 01, What a zone holds: the header's fields: length, version, N, drive, B, G, S, zone, L, serial, copied serial
-unfoldable pub headerWidths : List ℕ
-headerWidths = 2 ∷ 1 ∷ 1 ∷ 1 ∷ 2 ∷ 2 ∷ 4 ∷ 4 ∷ 8 ∷ 8 ∷ 8 ∷ []
-
 -- 01, What a zone holds: version 1
 unfoldable pub headerVersion : ℕ
 headerVersion = 1
 
--- 01, What a zone holds: the header's numbers
-unfoldable pub headerValues : Params → ℕ → ℕ → ℕ → ℕ → List ℕ
-headerValues p d z serial copied = total headerWidths ∷ headerVersion ∷ p .N ∷ d ∷ p .B ∷ p .G ∷ p .S ∷ z ∷ p .L ∷ serial ∷ copied ∷ []
+-- 01, What a zone holds: the table of a header: width and number of each field, the first its own length
+unfoldable pub headerTable : ℕ → Params → ℕ → ℕ → ℕ → ℕ → List Field
+headerTable long p d z serial copied =
+    field 2 long ∷ field 1 headerVersion ∷ field 1 (p .N) ∷ field 1 d ∷ field 2 (p .B) ∷ field 2 (p .G) ∷ field 4 (p .S) ∷ field 4 z ∷ field 8 (p .L)
+    ∷ field 8 serial ∷ field 8 copied ∷ []
 
--- 01, What a zone holds: with their widths
+-- the fields that are read back, by name: their index in the table
+abbrev pub zoneField : ℕ
+zoneField = 7
+
+abbrev pub serialField : ℕ
+serialField = 9
+
+abbrev pub copiedField : ℕ
+copiedField = 10
+
+-- 01, What a zone holds: the widths, whatever the numbers are
+unfoldable pub headerWidths : List ℕ
+headerWidths = widthsOf (headerTable 0 (mkParams 0 0 0 0 0 0) 0 0 0 0)
+
+-- 01, What a zone holds: the header in bytes
+unfoldable pub headerLen : ℕ
+headerLen = total headerWidths
+
+-- 01, What a zone holds: the header's fields
 unfoldable pub headerFields : Params → ℕ → ℕ → ℕ → ℕ → List Field
-headerFields p d z serial copied = zipped field headerWidths (headerValues p d z serial copied)
+headerFields p d z serial copied = headerTable headerLen p d z serial copied
 
 -- 01, What a zone holds: the header block
 unfoldable pub headerBlock : Params → ℕ → ℕ → ℕ → ℕ → List ℕ
@@ -67,11 +83,11 @@ headerBlock p d z serial copied = padTo (p .B) (bytesOf (headerFields p d z seri
 
 -- a header's serial and copied serial
 unfoldable pub headerSerial : List ℕ → ℕ
-headerSerial b = readField headerWidths 9 b
+headerSerial b = readField headerWidths serialField b
 
 -- 01, What a zone holds: the copied serial in a header
 unfoldable pub headerCopied : List ℕ → ℕ
-headerCopied b = readField headerWidths 10 b
+headerCopied b = readField headerWidths copiedField b
 
 -- 01, What a zone holds: the record of a data block
 pub record Rec : Type 0 where
@@ -84,7 +100,7 @@ mkRec a t s = record { address = a; stamp = t; stripe = s }
 
 -- 01, What a zone holds: a record's fields
 unfoldable pub recordFields : Rec → List Field
-recordFields r = zipped field recordWidths (r .address ∷ r .stamp ∷ r .stripe ∷ [])
+recordFields r = recordTable (r .address) (r .stamp) (r .stripe)
 
 -- 01, What a zone holds: a record in a spare
 unfoldable pub recordBytes : Rec → List ℕ
@@ -92,7 +108,7 @@ recordBytes r = bytesOf (recordFields r)
 
 -- 01, What a zone holds: and back
 unfoldable pub recordOf : List ℕ → Rec
-recordOf bs = mkRec (readField recordWidths 0 bs) (readField recordWidths 1 bs) (readField recordWidths 2 bs)
+recordOf bs = mkRec (readField recordWidths addressField bs) (readField recordWidths stampField bs) (readField recordWidths stripeField bs)
 
 -- 01, What a zone holds: footer block i of a zone whose S spares are these
 unfoldable pub footerBlock : Params → List (List ℕ) → ℕ → List ℕ

@@ -4,6 +4,7 @@ use mathlib.Core.Bool.{Bool, not, _&&_}
 use Prim.Native.Nat.{ℕ, _+_, _-_, _*_, _/_, _%_}
 use lib.Dec.{leb}
 use Rattle.spec.specs.declared.Params.{Params}
+use Rattle.spec.specs.Bytes.{Field, field, widthsOf}
 use Rattle.spec.specs.Lists.{below, isMember, keep, total, only, isIn}
 
 -- 01, The array: the six parameters
@@ -32,9 +33,23 @@ inRange p =
     between 3 8 (p .N) && isMember (p .B) blockSizes && between 4 1024 (p .Z) && between 1 65535 (p .S) && between 1 256 (p .G)
     && between 1 (mostAddresses p) (p .L)
 
--- 01, What a zone holds: widths of a record's fields (address, stamp, stripe number), and so its 20 bytes
+-- 01, What a zone holds: the table of a record: width and number of each field
+unfoldable pub recordTable : ℕ → ℕ → ℕ → List Field
+recordTable address stamp stripe = field 8 address ∷ field 8 stamp ∷ field 4 stripe ∷ []
+
+-- its fields by name: their index in the table
+abbrev pub addressField : ℕ
+addressField = 0
+
+abbrev pub stampField : ℕ
+stampField = 1
+
+abbrev pub stripeField : ℕ
+stripeField = 2
+
+-- 01, What a zone holds: their widths, whatever the numbers are
 unfoldable pub recordWidths : List ℕ
-recordWidths = 8 ∷ 8 ∷ 4 ∷ []
+recordWidths = widthsOf (recordTable 0 0 0)
 
 -- 01, What a zone holds: the record in bytes, and so a spare
 unfoldable pub spareLen : ℕ

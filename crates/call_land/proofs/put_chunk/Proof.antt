@@ -1,4 +1,4 @@
--- `put_chunk`: the part lent is the block of the drive in the eighth, the spare its record's 20 bytes; `put` stores the two. Assumes nothing.
+-- `put_chunk`: the part lent is the block of the drive in the eighth, the spare its record's bytes; `put` stores the two. Assumes nothing.
 use Prim.Native.Nat.{ℕ}
 use Rattle.spec.specs.Bytes.{part}
 use Rattle.spec.specs.Drives.{Disk, mkDisk, storeDisk}
@@ -6,13 +6,14 @@ use Rattle.spec.specs.Drives.Store.{put}
 use Rattle.spec.specs.Landing.{flightRec}
 use Rattle.spec.specs.Layout.{recordBytes}
 use Rattle.spec.specs.Memory.{slotBlock}
-use Rattle.law_basic.specs.Geometry.{ranged}
+use Rattle.law_basic.specs.Geometry.{ranged, spare-len}
 use Rattle.law_basic.specs.Splice.{length-part, part-lent}
-use Rattle.disk_records.specs.Record.{recOf, record-long}
+use Rattle.law_basic.specs.Fields.{length-record}
+use Rattle.disk_records.specs.Record.{recOf}
 use Rattle.call_land_chunk.specs.Alone.{alone}
 use borrow.Author.Needs.{needs}
 use lib.ListN.{length, take, drop}
-use mathlib.Core.Path.{_≡_, ap, _∙_}
+use mathlib.Core.Path.{_≡_, sym, ap, _∙_}
 use Prim.Native.Nat.{_+_, _-_}
 use native.Mathlib.Omega.{arith}
 use Rattle.call_land.proofs.put_chunk.Statement.{statement}
@@ -27,7 +28,7 @@ flight-record-requires c κs =
     (q .0, q .1 .1 .1 .0, q .1 .1 .0 .2)
 
 write-record-requires : tie.Need-write-record-requires
-write-record-requires c κs = search needs
+write-record-requires c κs = sym spare-len
 
 slot-byte-requires : tie.Need-slot-byte-requires
 slot-byte-requires c κs =
@@ -66,7 +67,7 @@ put-requires c κs =
     let b = a .p .B in
     let l : length (take (t + b - t) (drop t (a .inflight .now))) ≡ b =
     ap length (part-lent t b (a .inflight .now)) ∙ length-part t b (a .inflight .now) (omega (arith, slot-byte .ensures .1, q .1 .1 .0 .0)) in
-    (q .0, (q .1 .0, (q .1 .1 .1, (l, ap length (write-record .ensures) ∙ record-long (recOf (flight-record .result))))))
+    (q .0, (q .1 .0, (q .1 .1 .1, (l, ap length (write-record .ensures) ∙ length-record (recOf (flight-record .result))))))
 
 same-length : tie.Need-same-length
 same-length c = search needs

@@ -1,9 +1,10 @@
--- `serial_at`: the part lent is the first block of drive 0's zone as the view has it; a block has the 41 bytes that the serial needs. Assumes nothing.
+-- `serial_at`: the part lent is the first block of drive 0's zone as the view has it; a block has room for the header, as the serial needs. Assumes nothing.
 use Prim.Native.Nat.{ℕ, _≤_}
 use Rattle.spec.specs.Drives.{mkDisk, zoneOn}
 use Rattle.spec.specs.Landing.{serialAt}
-use Rattle.spec.specs.Layout.{headerSerial}
+use Rattle.spec.specs.Layout.{headerLen, headerSerial}
 use Rattle.spec.specs.Params.{unitLen, placeOf, placeByte}
+use Rattle.law_basic.specs.Fields.{header-fits}
 use Rattle.law_basic.specs.Geometry.{ranged, capacity-low, zone-on-lt}
 use Rattle.law_basic.specs.Splice.{length-part, part-lent}
 use Rattle.law_views.specs.Views.{block-view}
@@ -54,7 +55,7 @@ header-serial-requires c κs =
     let pre = c .before .before .before .before .before .pre in
     let t = block-byte .result in
     let l : length (part t (a .p .B) (a .image .now)) ≡ a .p .B = length-part t (a .p .B) (a .image .now) (omega (arith, block-byte .ensures .1, pre .1 .0)) in
-    subst (λ (x : List ℕ). 41 ≤ length x) (sym (part-lent t (a .p .B) (a .image .now))) (omega (arith, l, ranged (a .p) (pre .0) .block-low))
+    subst (λ (x : List ℕ). headerLen ≤ length x) (sym (part-lent t (a .p .B) (a .image .now))) (omega (arith, l, header-fits (a .p) (ranged (a .p) (pre .0))))
 
 returns : tie.Need-returns
 unfolding serialAt

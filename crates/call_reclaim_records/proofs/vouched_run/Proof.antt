@@ -1,10 +1,12 @@
 -- `vouched_run`: c is at most the places among the first i that the table points at, and at most i; a turn adds place q + i if it does. Assumes nothing.
-use Prim.Native.Nat.{ℕ, _+_, _-_, _≤_}
+use Prim.Native.Nat.{ℕ, _+_, _-_, _*_, _≤_}
+use Rattle.spec.specs.Params.{spareLen}
+use Rattle.law_basic.specs.Geometry.{spare-len}
 use Rattle.mem_marks.specs.Marks.{isPointed}
 use Rattle.call_reclaim_records.specs.Vouch.{pointedFrom, pointed-bit, run-snoc, run-le}
 use lib.Dec.{eqb}
 use lib.ListN.{length}
-use mathlib.Core.Path.{_≡_, ap, _∙_}
+use mathlib.Core.Path.{_≡_, sym, ap, _∙_}
 use mir.Val.{boolByte}
 use native.Mathlib.Omega.{arith}
 use Rattle.call_reclaim_records.proofs.vouched_run.Statement.{statement}
@@ -19,14 +21,22 @@ abbrev μ-loop : tie.MeasureT-loop
 loop-holds : tie.Need-loop-holds Inv-loop μ-loop
 loop-holds c = (omega arith, omega arith, omega arith)
 
+-- the records lie in the image; n: the bytes of a record
+room : (n : ℕ) (c : tie.In-loop Inv-loop μ-loop) → n ≡ spareLen
+    → c .before .before .before .before .args .at + n * c .before .before .before .before .args .n ≤ length (c .before .before .before .before .args .image .now)
+room n c e = rw e (c .before .before .before .before .pre .2)
+
 mul-read-be64 : tie.Need-mul-read-be64 Inv-loop μ-loop
-mul-read-be64 c = omega arith
+mul-read-be64 c = omega (arith, room _ c (sym spare-len))
 
 add-read-be64 : tie.Need-add-read-be64 Inv-loop μ-loop
-add-read-be64 c = omega arith
+add-read-be64 c = omega (arith, room _ c (sym spare-len))
+
+add-read-be64-2 : tie.Need-add-read-be64-2 Inv-loop μ-loop
+add-read-be64-2 c = omega (arith, room _ c (sym spare-len))
 
 read-be64-requires : tie.Need-read-be64-requires Inv-loop μ-loop
-read-be64-requires c κs = omega arith
+read-be64-requires c κs = omega (arith, room _ c (sym spare-len))
 
 clipped-requires : tie.Need-clipped-requires Inv-loop μ-loop
 clipped-requires c κs =
@@ -97,6 +107,7 @@ vouched-run-spec =
     loop-holds
     mul-read-be64
     add-read-be64
+    add-read-be64-2
     read-be64-requires
     clipped-requires
     place-at-requires

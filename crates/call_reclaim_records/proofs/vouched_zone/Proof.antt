@@ -107,13 +107,13 @@ vouched-run-requires c κs =
     let r = ranged p (o .pre .0) in
     let h = o .pre .1 in
     let i = c3 .loop .inv in
-    let per : perFooter p * 20 ≤ p .B = subst (λ (x : ℕ). perFooter p * x ≤ p .B) spare-len (per-footer-fits p r) in
+    let per = subst (λ (x : ℕ). perFooter p * x ≤ p .B) spare-len (per-footer-fits p r) in
     let inside = block-within p (a .drive) (a .g) (1 + p .S + c3 .loop .f) (h .2) (h .3) (omega (arith, loop-test .taken, c9 .footers .ensures .0)) in
     let last = place-lt p (a .drive) (a .g) (p .S) (h .2) (h .3) (data-below p r (p .S) (omega arith)) in
     let n = c .run-len .ensures in (
       omega (arith, r .addresses-low),
       omega (arith, h .1),
-      omega (arith, n, c10 .per-footer .ensures .0, per, inside, i .3, h .0, spare-len),
+      subst (λ (x : ℕ). c3 .loop .at + x * c .run-len .result ≤ length (a .image .now)) (sym spare-len) (omega (arith, n, c10 .per-footer .ensures .0, per, inside, i .3, h .0, spare-len)),
       omega (arith, n, c7 .place-of .ensures .0, last, places-high p r, i .1),
     )
 
@@ -172,7 +172,7 @@ in-image c =
 add-at : tie.Need-add-at Inv-loop μ-loop
 add-at c =
     let o = c .before .before .before .before .before .before .before .before .before in
-    omega (arith, in-image c, o .unit-len .ensures .2)
+    omega (arith, in-image c, o .unit-len .ensures .2, spare-len)
 
 add-f : tie.Need-add-f Inv-loop μ-loop
 add-f c =

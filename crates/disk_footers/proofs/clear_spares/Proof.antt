@@ -54,7 +54,7 @@ clear-part-requires c κs =
     let r = ranged p (pre .0) in
     let h = pre .1 in
     let t = loop-test .taken in
-    omega (arith, c .before .spare-byte .ensures .1, l .inv .long)
+    omega (arith, c .before .spare-byte .ensures .1, l .inv .long, spare-len)
 
 add-i : tie.Need-add-i Inv-loop μ-loop
 add-i c = omega arith

@@ -1,17 +1,17 @@
 -- `make_footer`: after j turns the block holds the first j records of footer i, zeros behind them, and at is the spare of record j;
 -- one turn appends that spare; blocks lie one unit apart. At n the block is the footer. Assumes nothing.
-use mathlib.Core.Path.{_≡_, refl, sym, ap, ap₂, _∙_}
+use mathlib.Core.Path.{_≡_, refl, sym, ap, _∙_, subst}
 use mathlib.Core.List.{List, []}
 use Prim.Native.Nat.{ℕ, suc, _+_, _-_, _*_, _≤_, _<_}
 use native.Mathlib.Omega.{arith}
-use native.Mathlib.Nat.{add-assoc}
+use native.Mathlib.Nat.{add-assoc, mul-comm}
 use borrow.Author.Needs.{needs}
 use lib.ListN.{length, getD, take, drop, replicate}
 use Rattle.spec.specs.Bytes.{part, splice}
 use Rattle.spec.specs.Layout.{footerBlock}
-use Rattle.spec.specs.Lists.{flat, total}
-use Rattle.spec.specs.Params.{recordWidths, spareLen, perFooter, unitLen, imageLen, placeOf, placeByte}
-use Rattle.law_basic.specs.Geometry.{Ranged, ranged, spare-len, image-high, data-below, block-within}
+use Rattle.spec.specs.Lists.{flat}
+use Rattle.spec.specs.Params.{spareLen, perFooter, unitLen, imageLen, placeOf, placeByte}
+use Rattle.law_basic.specs.Geometry.{Ranged, ranged, item, spare-len, per-footer-fits, image-high, data-below, block-within}
 use Rattle.law_basic.specs.Splice.{length-part, part-lent, splice-nil}
 use Rattle.disk_footers.specs.Feet.{sparesBy, recordsOf, byte-next, footer-start, spares-count, spare-of, spare-long, spares-view, footer-is, footer-turn}
 use Rattle.spec.specs.declared.Params.{Params}
@@ -28,13 +28,16 @@ Inv-loop p image drive zone i block₀ n per at₀ j₀ block at j =
 abbrev μ-loop : tie.MeasureT-loop
 μ-loop p image drive zone i block₀ n per at₀ j₀ block at j = n - j
 
-unit-is : (p : Params) → unitLen p ≡ p .B + 20
+unit-is : (p : Params) → unitLen p ≡ p .B + spareLen
 unfolding unitLen
-unit-is p = ap (λ (x : ℕ). p .B + x) spare-len
+unit-is p = refl
 
-row-room : (p : Params) → Ranged p → (j : ℕ) → j < perFooter p → 20 * j + 20 ≤ p .B
-unfolding perFooter spareLen total recordWidths
-row-room p r j h = omega arith
+-- n: the bytes of a spare
+row-room : (p : Params) → Ranged p → (n j : ℕ) → n ≡ spareLen → j < perFooter p → n * j + n ≤ p .B
+row-room p r n j e h = subst (λ (x : ℕ). x * j + x ≤ p .B) (sym e) (omega (arith, mul-comm spareLen j, item j (perFooter p) spareLen h, per-footer-fits p r))
+
+lent-long : (n at : ℕ) (im : List ℕ) → n ≡ spareLen → at + spareLen ≤ length im → length (take (at + n - at) (drop at im)) ≡ n
+lent-long n at im e h = ap length (part-lent at n im) ∙ length-part at n im (omega arith)
 
 begun : (p : Params) (ss : List (List ℕ)) (i : ℕ) → _≡_ {A = List ℕ} (replicate (p .B) 0) (splice (replicate (p .B) 0) 0 (recordsOf p ss i 0))
 unfolding recordsOf flat
@@ -115,9 +118,9 @@ add-end c =
     let t = c .loop-test .taken in
     let o : a .i * perFooter p + l .j < p .S = omega (arith, n .1, t) in
     let w = block-within p (a .drive) (a .zone) (1 + a .i * perFooter p + l .j) (h .1) (h .2) (data-below p r (1 + a .i * perFooter p + l .j) (omega arith)) in
-    let u : unitLen p ≡ p .B + 20 = unit-is p in
-    let m : l .at + 20 ≤ imageLen p = omega (arith, l .inv .2, w, u) in
-    omega (arith, m, image-high p r)
+    let u : unitLen p ≡ p .B + spareLen = unit-is p in
+    let m : l .at + spareLen ≤ imageLen p = omega (arith, l .inv .2, w, u) in
+    omega (arith, m, image-high p r, spare-len)
 
 mul-copy-part : tie.Need-mul-copy-part Inv-loop μ-loop
 mul-copy-part c =
@@ -132,10 +135,10 @@ mul-copy-part c =
     let t = c .before .loop-test .taken in
     let o : a .i * perFooter p + l .j < p .S = omega (arith, n .1, t) in
     let w = block-within p (a .drive) (a .zone) (1 + a .i * perFooter p + l .j) (h .1) (h .2) (data-below p r (1 + a .i * perFooter p + l .j) (omega arith)) in
-    let u : unitLen p ≡ p .B + 20 = unit-is p in
-    let m : l .at + 20 ≤ imageLen p = omega (arith, l .inv .2, w, u) in
-    let j20 : 20 * l .j + 20 ≤ p .B = row-room p r (l .j) (omega (arith, n .0, t)) in
-    omega (arith, j20, r .block-high)
+    let u : unitLen p ≡ p .B + spareLen = unit-is p in
+    let m : l .at + spareLen ≤ imageLen p = omega (arith, l .inv .2, w, u) in
+    let room = row-room p r _ (l .j) (sym spare-len) (omega (arith, n .0, t)) in
+    omega (arith, room, r .block-high)
 
 sub-copy-part : tie.Need-sub-copy-part Inv-loop μ-loop
 sub-copy-part c = omega arith
@@ -156,9 +159,9 @@ part-copy-part-end c =
     let t = c .before .loop-test .taken in
     let o : a .i * perFooter p + l .j < p .S = omega (arith, n .1, t) in
     let w = block-within p (a .drive) (a .zone) (1 + a .i * perFooter p + l .j) (h .1) (h .2) (data-below p r (1 + a .i * perFooter p + l .j) (omega arith)) in
-    let u : unitLen p ≡ p .B + 20 = unit-is p in
-    let m : l .at + 20 ≤ imageLen p = omega (arith, l .inv .2, w, u) in
-    omega (arith, m, h .0)
+    let u : unitLen p ≡ p .B + spareLen = unit-is p in
+    let m : l .at + spareLen ≤ imageLen p = omega (arith, l .inv .2, w, u) in
+    omega (arith, m, h .0, spare-len)
 
 copy-part-requires : tie.Need-copy-part-requires Inv-loop μ-loop
 unfolding part
@@ -176,11 +179,11 @@ copy-part-requires c κs =
     let t = loop-test .taken in
     let o : a .i * perFooter p + l .j < p .S = omega (arith, n .1, t) in
     let w = block-within p (a .drive) (a .zone) (1 + a .i * perFooter p + l .j) (h .1) (h .2) (data-below p r (1 + a .i * perFooter p + l .j) (omega arith)) in
-    let u : unitLen p ≡ p .B + 20 = unit-is p in
-    let m : l .at + 20 ≤ imageLen p = omega (arith, l .inv .2, w, u) in
-    let j20 : 20 * l .j + 20 ≤ p .B = row-room p r (l .j) (omega (arith, n .0, t)) in
-    let q : length (part (l .at) 20 (a .image .now)) ≡ 20 = length-part (l .at) 20 (a .image .now) (omega (arith, m, h .0)) in
-    omega (arith, j20, q, l .inv .1, clear .kept .0, h .4, ap length (part-lent (l .at) 20 (a .image .now)))
+    let u : unitLen p ≡ p .B + spareLen = unit-is p in
+    let m : l .at + spareLen ≤ imageLen p = omega (arith, l .inv .2, w, u) in
+    let room = row-room p r _ (l .j) (sym spare-len) (omega (arith, n .0, t)) in
+    let q = lent-long _ (l .at) (a .image .now) (sym spare-len) (omega (arith, m, h .0)) in
+    omega (arith, room, q, l .inv .1, clear .kept .0, h .4)
 
 add-at : tie.Need-add-at Inv-loop μ-loop
 add-at c =
@@ -196,8 +199,8 @@ add-at c =
     let t = loop-test .taken in
     let o : a .i * perFooter p + l .j < p .S = omega (arith, n .1, t) in
     let w = block-within p (a .drive) (a .zone) (1 + a .i * perFooter p + l .j) (h .1) (h .2) (data-below p r (1 + a .i * perFooter p + l .j) (omega arith)) in
-    let u : unitLen p ≡ p .B + 20 = unit-is p in
-    let m : l .at + 20 ≤ imageLen p = omega (arith, l .inv .2, w, u) in
+    let u : unitLen p ≡ p .B + spareLen = unit-is p in
+    let m : l .at + spareLen ≤ imageLen p = omega (arith, l .inv .2, w, u) in
     omega (arith, r .block-high)
 
 add-at-2 : tie.Need-add-at-2 Inv-loop μ-loop
@@ -214,9 +217,9 @@ add-at-2 c =
     let t = loop-test .taken in
     let o : a .i * perFooter p + l .j < p .S = omega (arith, n .1, t) in
     let w = block-within p (a .drive) (a .zone) (1 + a .i * perFooter p + l .j) (h .1) (h .2) (data-below p r (1 + a .i * perFooter p + l .j) (omega arith)) in
-    let u : unitLen p ≡ p .B + 20 = unit-is p in
-    let m : l .at + 20 ≤ imageLen p = omega (arith, l .inv .2, w, u) in
-    omega (arith, r .block-high, m, image-high p r)
+    let u : unitLen p ≡ p .B + spareLen = unit-is p in
+    let m : l .at + spareLen ≤ imageLen p = omega (arith, l .inv .2, w, u) in
+    omega (arith, r .block-high, m, image-high p r, spare-len)
 
 add-j : tie.Need-add-j Inv-loop μ-loop
 add-j c =
@@ -232,8 +235,8 @@ add-j c =
     let t = loop-test .taken in
     let o : a .i * perFooter p + l .j < p .S = omega (arith, n .1, t) in
     let w = block-within p (a .drive) (a .zone) (1 + a .i * perFooter p + l .j) (h .1) (h .2) (data-below p r (1 + a .i * perFooter p + l .j) (omega arith)) in
-    let u : unitLen p ≡ p .B + 20 = unit-is p in
-    let m : l .at + 20 ≤ imageLen p = omega (arith, l .inv .2, w, u) in
+    let u : unitLen p ≡ p .B + spareLen = unit-is p in
+    let m : l .at + spareLen ≤ imageLen p = omega (arith, l .inv .2, w, u) in
     omega (arith, n .2, t)
 
 loop-less : tie.Need-loop-less Inv-loop μ-loop
@@ -254,20 +257,20 @@ loop-again c =
     let t = loop-test .taken in
     let o : a .i * perFooter p + l .j < p .S = omega (arith, n .1, t) in
     let w = block-within p (a .drive) (a .zone) (1 + a .i * perFooter p + l .j) (h .1) (h .2) (data-below p r (1 + a .i * perFooter p + l .j) (omega arith)) in
-    let u : unitLen p ≡ p .B + 20 = unit-is p in
-    let m : l .at + 20 ≤ imageLen p = omega (arith, l .inv .2, w, u) in
+    let u : unitLen p ≡ p .B + spareLen = unit-is p in
+    let m : l .at + spareLen ≤ imageLen p = omega (arith, l .inv .2, w, u) in
     let b₁ : 1 + a .i * perFooter p + (l .j + 1) ≡ suc (1 + a .i * perFooter p + l .j) = omega arith in
     let im = a .image .now in
     let ss = sparesBy p im (a .drive) (a .zone) in
-    let d : part (l .at) 20 im ≡ getD ss (a .i * perFooter p + l .j) [] =
-    ap₂ (λ (x y : ℕ). part x y im) (l .inv .2 ∙ ap (λ (x : ℕ). placeByte p (placeOf p (a .drive) (a .zone) x) + p .B) (add-assoc 1 (a .i * perFooter p) (l .j))) (sym spare-len)
+    let d : part (l .at) spareLen im ≡ getD ss (a .i * perFooter p + l .j) [] =
+    ap (λ (x : ℕ). part x spareLen im) (l .inv .2 ∙ ap (λ (x : ℕ). placeByte p (placeOf p (a .drive) (a .zone) x) + p .B) (add-assoc 1 (a .i * perFooter p) (l .j)))
     ∙ sym (spare-of p r (a .drive) (a .zone) (h .1) (h .2) im (h .0) (a .i * perFooter p + l .j) o) in (
       omega arith,
       copy-part .kept .0 ∙ l .inv .1,
-      omega (arith, l .inv .2, u, byte-next p (a .drive) (a .zone) (1 + a .i * perFooter p + l .j), ap (λ (x : ℕ). placeByte p (placeOf p (a .drive) (a .zone) x)) b₁),
+      omega (arith, l .inv .2, u, spare-len, byte-next p (a .drive) (a .zone) (1 + a .i * perFooter p + l .j), ap (λ (x : ℕ). placeByte p (placeOf p (a .drive) (a .zone) x)) b₁),
       footer-turn p r ss (spares-count p r (a .drive) (a .zone) (h .1) (h .2) im (h .0)) (spare-long p r (a .drive) (a .zone) (h .1) (h .2) im (h .0))
-          (l .block) (copy-part .last .0) (take (l .at + 20 - l .at) (drop (l .at) im)) (a .i) (l .j) (l .inv .3) o (omega (arith, n .0, t))
-          (part-lent (l .at) 20 im ∙ d) (copy-part .ensures),
+          (l .block) (copy-part .last .0) _ _ (a .i) (l .j) (sym spare-len) (l .inv .3) o (omega (arith, n .0, t))
+          (part-lent (l .at) _ im ∙ ap (λ (x : ℕ). part (l .at) x im) (sym spare-len) ∙ d) (copy-part .ensures),
     )
 
 same-length : tie.Need-same-length Inv-loop μ-loop

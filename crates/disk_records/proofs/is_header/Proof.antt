@@ -1,22 +1,20 @@
--- `is_header`: a block with its spare is at most 4116 bytes, so the array is room enough for `matches_header`. Assumes nothing.
+-- `is_header`: either call says it. Assumes nothing.
 use borrow.Author.Needs.{needs}
-use Rattle.spec.specs.Engine.Call.{close}
-use Rattle.law_basic.specs.Geometry.{ranged, unit-high}
 use Rattle.disk_records.proofs.is_header.Statement.{statement}
 use Rattle.disk_records.proofs.is_header.Tie as tie
 
-slice-aggregate-matches-header : tie.Need-slice-aggregate-matches-header
-slice-aggregate-matches-header c = search needs
-
-matches-header-requires : tie.Need-matches-header-requires
-matches-header-requires c κs =
-    let args = c .before .before .args in
-    let pre = c .before .before .pre in
-    (pre .0, pre .1, unit-high (args .p) (ranged (args .p) (pre .0)))
+is-small-header-requires : tie.Need-is-small-header-requires
+is-small-header-requires c κs = search needs
 
 returns : tie.Need-returns
 returns c = search needs
 
+is-long-header-requires : tie.Need-is-long-header-requires
+is-long-header-requires c κs = search needs
+
+returns-2 : tie.Need-returns-2
+returns-2 c = search needs
+
 pub is-header-spec : {M : Type 1} → statement M
 is-header-spec =
-    tie.close (tie.spec slice-aggregate-matches-header matches-header-requires returns)
+    tie.close (tie.spec is-small-header-requires returns is-long-header-requires returns-2)

@@ -81,7 +81,7 @@ returns c =
     let b = headerBlock p (a .drive) (a .zone) (a .serial .0) (a .copied .0) in
     let r = ranged p (h .0) in
     c .same .ensures ∙ ap (sameList (a .src .now)) (e ∙ write-header .ensures)
-    ∙ same-unit p (a .src .now) b zeroSpare (h .1) (header-block-long p (a .drive) (a .zone) (a .serial .0) (a .copied .0) (omega (arith, r .block-low)))
+    ∙ same-unit p (a .src .now) b zeroSpare (h .1) (header-block-long p r (a .drive) (a .zone) (a .serial .0) (a .copied .0))
 
 pub matches-header-spec : {M : Type 1} → statement M
 matches-header-spec =

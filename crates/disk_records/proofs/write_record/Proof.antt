@@ -1,18 +1,20 @@
--- `write_record`: three fields of 8, 8, 4 bytes one behind the other fill all 20 bytes. Assumes nothing.
+-- `write_record`: the table's fields, one behind the other, fill the spare. Assumes nothing.
+use native.Mathlib.Omega.{arith}
 use borrow.Author.Needs.{needs}
 use Rattle.spec.specs.Engine.Call.{close}
+use Rattle.law_basic.specs.Geometry.{spare-len}
 use Rattle.disk_records.specs.Record.{recOf, record-written}
 use Rattle.disk_records.proofs.write_record.Statement.{statement}
 use Rattle.disk_records.proofs.write_record.Tie as tie
 
 write-be64-requires : tie.Need-write-be64-requires
-write-be64-requires c κs = search needs
+write-be64-requires c κs = omega (arith, spare-len)
 
 write-be64-requires-2 : tie.Need-write-be64-requires-2
-write-be64-requires-2 c κs = search needs
+write-be64-requires-2 c κs = omega (arith, spare-len)
 
 write-be32-requires : tie.Need-write-be32-requires
-write-be32-requires c κs = search needs
+write-be32-requires c κs = omega (arith, spare-len)
 
 same-length : tie.Need-same-length
 same-length c = search needs

@@ -1,6 +1,7 @@
 -- `begins`: per is the records of a footer block, so the numbers are footers, place and byte of the definitions; `begun` bounds each. Assumes nothing.
+use mathlib.Core.Path.{sym}
 use native.Mathlib.Omega.{arith}
-use Rattle.law_basic.specs.Geometry.{ranged, capacity-high}
+use Rattle.law_basic.specs.Geometry.{ranged, spare-len, capacity-high}
 use Rattle.disk_stored.specs.Stored.{begun}
 use Rattle.disk_stored.proofs.begins.Statement.{statement}
 use Rattle.disk_stored.proofs.begins.Tie as tie
@@ -10,7 +11,7 @@ cast-feet c =
     let a = c .before .args in
     let r = ranged (a .p) (c .before .pre .0) in
     let h = c .before .pre .1 in
-    let g = begun (a .p) r (a .per) (a .drive) (a .zone) (a .block) (h .0) (h .1) (h .2) (h .3) in
+    let g = begun (a .p) r (a .per) _ (a .drive) (a .zone) (a .block) (h .0) (sym spare-len) (h .1) (h .2) (h .3) in
     omega (arith, r .stripes-high)
 
 add-feet : tie.Need-add-feet
@@ -18,7 +19,7 @@ add-feet c =
     let a = c .before .args in
     let r = ranged (a .p) (c .before .pre .0) in
     let h = c .before .pre .1 in
-    let g = begun (a .p) r (a .per) (a .drive) (a .zone) (a .block) (h .0) (h .1) (h .2) (h .3) in
+    let g = begun (a .p) r (a .per) _ (a .drive) (a .zone) (a .block) (h .0) (sym spare-len) (h .1) (h .2) (h .3) in
     omega (arith, r .stripes-high, g .few)
 
 sub-feet : tie.Need-sub-feet
@@ -26,7 +27,7 @@ sub-feet c =
     let a = c .before .args in
     let r = ranged (a .p) (c .before .pre .0) in
     let h = c .before .pre .1 in
-    let g = begun (a .p) r (a .per) (a .drive) (a .zone) (a .block) (h .0) (h .1) (h .2) (h .3) in
+    let g = begun (a .p) r (a .per) _ (a .drive) (a .zone) (a .block) (h .0) (sym spare-len) (h .1) (h .2) (h .3) in
     omega (arith, g .some)
 
 div-feet : tie.Need-div-feet
@@ -34,7 +35,7 @@ div-feet c =
     let a = c .before .args in
     let r = ranged (a .p) (c .before .pre .0) in
     let h = c .before .pre .1 in
-    let g = begun (a .p) r (a .per) (a .drive) (a .zone) (a .block) (h .0) (h .1) (h .2) (h .3) in
+    let g = begun (a .p) r (a .per) _ (a .drive) (a .zone) (a .block) (h .0) (sym spare-len) (h .1) (h .2) (h .3) in
     omega (arith, g .some)
 
 cast-feet-2 : tie.Need-cast-feet-2
@@ -42,7 +43,7 @@ cast-feet-2 c =
     let a = c .before .args in
     let r = ranged (a .p) (c .before .pre .0) in
     let h = c .before .pre .1 in
-    let g = begun (a .p) r (a .per) (a .drive) (a .zone) (a .block) (h .0) (h .1) (h .2) (h .3) in
+    let g = begun (a .p) r (a .per) _ (a .drive) (a .zone) (a .block) (h .0) (sym spare-len) (h .1) (h .2) (h .3) in
     omega (arith, g .feet)
 
 mul-place : tie.Need-mul-place
@@ -51,7 +52,7 @@ mul-place c =
     let pre = c .before .before .pre in
     let r = ranged (a .p) (pre .0) in
     let h = pre .1 in
-    let g = begun (a .p) r (a .per) (a .drive) (a .zone) (a .block) (h .0) (h .1) (h .2) (h .3) in
+    let g = begun (a .p) r (a .per) _ (a .drive) (a .zone) (a .block) (h .0) (sym spare-len) (h .1) (h .2) (h .3) in
     omega (arith, g .zone-high)
 
 add-place : tie.Need-add-place
@@ -60,7 +61,7 @@ add-place c =
     let pre = c .before .before .pre in
     let r = ranged (a .p) (pre .0) in
     let h = pre .1 in
-    let g = begun (a .p) r (a .per) (a .drive) (a .zone) (a .block) (h .0) (h .1) (h .2) (h .3) in
+    let g = begun (a .p) r (a .per) _ (a .drive) (a .zone) (a .block) (h .0) (sym spare-len) (h .1) (h .2) (h .3) in
     omega (arith, g .zone-high)
 
 add-place-2 : tie.Need-add-place-2
@@ -69,7 +70,7 @@ add-place-2 c =
     let pre = c .before .before .before .pre in
     let r = ranged (a .p) (pre .0) in
     let h = pre .1 in
-    let g = begun (a .p) r (a .per) (a .drive) (a .zone) (a .block) (h .0) (h .1) (h .2) (h .3) in
+    let g = begun (a .p) r (a .per) _ (a .drive) (a .zone) (a .block) (h .0) (sym spare-len) (h .1) (h .2) (h .3) in
     omega (arith, r .stripes-high)
 
 add-place-3 : tie.Need-add-place-3
@@ -78,7 +79,7 @@ add-place-3 c =
     let pre = c .before .before .before .pre in
     let r = ranged (a .p) (pre .0) in
     let h = pre .1 in
-    let g = begun (a .p) r (a .per) (a .drive) (a .zone) (a .block) (h .0) (h .1) (h .2) (h .3) in
+    let g = begun (a .p) r (a .per) _ (a .drive) (a .zone) (a .block) (h .0) (sym spare-len) (h .1) (h .2) (h .3) in
     omega (arith, r .stripes-high, g .feet)
 
 mul-place-2 : tie.Need-mul-place-2
@@ -87,7 +88,7 @@ mul-place-2 c =
     let pre = c .before .before .before .pre in
     let r = ranged (a .p) (pre .0) in
     let h = pre .1 in
-    let g = begun (a .p) r (a .per) (a .drive) (a .zone) (a .block) (h .0) (h .1) (h .2) (h .3) in
+    let g = begun (a .p) r (a .per) _ (a .drive) (a .zone) (a .block) (h .0) (sym spare-len) (h .1) (h .2) (h .3) in
     omega (arith, g .rows)
 
 add-place-4 : tie.Need-add-place-4
@@ -96,7 +97,7 @@ add-place-4 c =
     let pre = c .before .before .before .pre in
     let r = ranged (a .p) (pre .0) in
     let h = pre .1 in
-    let g = begun (a .p) r (a .per) (a .drive) (a .zone) (a .block) (h .0) (h .1) (h .2) (h .3) in
+    let g = begun (a .p) r (a .per) _ (a .drive) (a .zone) (a .block) (h .0) (sym spare-len) (h .1) (h .2) (h .3) in
     omega (arith, g .rows, h .3, capacity-high (a .p) r)
 
 add-result : tie.Need-add-result
@@ -105,7 +106,7 @@ add-result c =
     let pre = c .before .before .before .before .pre in
     let r = ranged (a .p) (pre .0) in
     let h = pre .1 in
-    let g = begun (a .p) r (a .per) (a .drive) (a .zone) (a .block) (h .0) (h .1) (h .2) (h .3) in
+    let g = begun (a .p) r (a .per) _ (a .drive) (a .zone) (a .block) (h .0) (sym spare-len) (h .1) (h .2) (h .3) in
     omega (arith, r .block-high)
 
 mul-result : tie.Need-mul-result
@@ -114,7 +115,7 @@ mul-result c =
     let pre = c .before .before .before .before .pre in
     let r = ranged (a .p) (pre .0) in
     let h = pre .1 in
-    let g = begun (a .p) r (a .per) (a .drive) (a .zone) (a .block) (h .0) (h .1) (h .2) (h .3) in
+    let g = begun (a .p) r (a .per) _ (a .drive) (a .zone) (a .block) (h .0) (sym spare-len) (h .1) (h .2) (h .3) in
     omega (arith, g .byte, g .within, g .high)
 
 returns : tie.Need-returns
@@ -123,7 +124,7 @@ returns c =
     let pre = c .before .before .before .before .pre in
     let r = ranged (a .p) (pre .0) in
     let h = pre .1 in
-    let g = begun (a .p) r (a .per) (a .drive) (a .zone) (a .block) (h .0) (h .1) (h .2) (h .3) in
+    let g = begun (a .p) r (a .per) _ (a .drive) (a .zone) (a .block) (h .0) (sym spare-len) (h .1) (h .2) (h .3) in
     (g .byte, omega (arith, g .byte, g .within), omega (arith, g .byte, g .within, g .high))
 
 pub begins-spec : {M : Type 1} → statement M

@@ -1,7 +1,8 @@
--- `record_byte`: the offset's quotient steps over units, its remainder over records of 20 bytes; `stepping` says this is the record's byte. Assumes nothing.
+-- `record_byte`: the offset's quotient steps over units, its remainder over records; `stepping` says this is the record's byte. Assumes nothing.
+use mathlib.Core.Path.{sym}
 use native.Mathlib.Omega.{arith}
 use borrow.Author.Needs.{needs}
-use Rattle.law_basic.specs.Geometry.{ranged}
+use Rattle.law_basic.specs.Geometry.{ranged, spare-len}
 use Rattle.disk_stored.specs.Stored.{stepping}
 use Rattle.disk_stored.proofs.record_byte.Statement.{statement}
 use Rattle.disk_stored.proofs.record_byte.Tie as tie
@@ -20,8 +21,8 @@ cast-block c =
     let r = ranged p (pre .0) in
     let h = pre .1 in
     let g =
-    stepping p r (a .full) (c .before .first-byte .result) (c .together .result) (a .drive) (a .zone) (a .offset)
-    (c .before .first-byte .ensures .0) (c .together .ensures .0) (h .0) (h .1) (h .2) in
+    stepping p r (a .full) (c .before .first-byte .result) (c .together .result) _ (a .drive) (a .zone) (a .offset)
+    (c .before .first-byte .ensures .0) (c .together .ensures .0) (sym spare-len) (h .0) (h .1) (h .2) in
     omega (arith, g .low)
 
 div-block : tie.Need-div-block
@@ -35,8 +36,8 @@ cast-block-2 c =
     let r = ranged p (pre .0) in
     let h = pre .1 in
     let g =
-    stepping p r (a .full) (c .before .first-byte .result) (c .together .result) (a .drive) (a .zone) (a .offset)
-    (c .before .first-byte .ensures .0) (c .together .ensures .0) (h .0) (h .1) (h .2) in
+    stepping p r (a .full) (c .before .first-byte .result) (c .together .result) _ (a .drive) (a .zone) (a .offset)
+    (c .before .first-byte .ensures .0) (c .together .ensures .0) (sym spare-len) (h .0) (h .1) (h .2) in
     omega (arith, g .quotient)
 
 cast-number : tie.Need-cast-number
@@ -47,8 +48,8 @@ cast-number c =
     let r = ranged p (pre .0) in
     let h = pre .1 in
     let g =
-    stepping p r (a .full) (c .before .first-byte .result) (c .together .result) (a .drive) (a .zone) (a .offset)
-    (c .before .first-byte .ensures .0) (c .together .ensures .0) (h .0) (h .1) (h .2) in
+    stepping p r (a .full) (c .before .first-byte .result) (c .together .result) _ (a .drive) (a .zone) (a .offset)
+    (c .before .first-byte .ensures .0) (c .together .ensures .0) (sym spare-len) (h .0) (h .1) (h .2) in
     omega (arith, g .low)
 
 rem-number : tie.Need-rem-number
@@ -62,8 +63,8 @@ cast-number-2 c =
     let r = ranged p (pre .0) in
     let h = pre .1 in
     let g =
-    stepping p r (a .full) (c .before .first-byte .result) (c .together .result) (a .drive) (a .zone) (a .offset)
-    (c .before .first-byte .ensures .0) (c .together .ensures .0) (h .0) (h .1) (h .2) in
+    stepping p r (a .full) (c .before .first-byte .result) (c .together .result) _ (a .drive) (a .zone) (a .offset)
+    (c .before .first-byte .ensures .0) (c .together .ensures .0) (sym spare-len) (h .0) (h .1) (h .2) in
     omega (arith, g .rest)
 
 add-result : tie.Need-add-result
@@ -75,8 +76,8 @@ add-result c =
     let r = ranged p (pre .0) in
     let h = pre .1 in
     let g =
-    stepping p r (a .full) (first-byte .result) (c .before .together .result) (a .drive) (a .zone) (a .offset) (first-byte .ensures .0)
-    (c .before .together .ensures .0) (h .0) (h .1) (h .2) in
+    stepping p r (a .full) (first-byte .result) (c .before .together .result) _ (a .drive) (a .zone) (a .offset) (first-byte .ensures .0)
+    (c .before .together .ensures .0) (sym spare-len) (h .0) (h .1) (h .2) in
     omega (arith, g .byte, g .within, g .high, g .rest, r .block-high)
 
 mul-result : tie.Need-mul-result
@@ -88,8 +89,8 @@ mul-result c =
     let r = ranged p (pre .0) in
     let h = pre .1 in
     let g =
-    stepping p r (a .full) (first-byte .result) (c .before .together .result) (a .drive) (a .zone) (a .offset) (first-byte .ensures .0)
-    (c .before .together .ensures .0) (h .0) (h .1) (h .2) in
+    stepping p r (a .full) (first-byte .result) (c .before .together .result) _ (a .drive) (a .zone) (a .offset) (first-byte .ensures .0)
+    (c .before .together .ensures .0) (sym spare-len) (h .0) (h .1) (h .2) in
     omega (arith, g .byte, g .within, g .high, g .rest, r .block-high)
 
 add-result-2 : tie.Need-add-result-2
@@ -101,8 +102,8 @@ add-result-2 c =
     let r = ranged p (pre .0) in
     let h = pre .1 in
     let g =
-    stepping p r (a .full) (first-byte .result) (c .before .together .result) (a .drive) (a .zone) (a .offset) (first-byte .ensures .0)
-    (c .before .together .ensures .0) (h .0) (h .1) (h .2) in
+    stepping p r (a .full) (first-byte .result) (c .before .together .result) _ (a .drive) (a .zone) (a .offset) (first-byte .ensures .0)
+    (c .before .together .ensures .0) (sym spare-len) (h .0) (h .1) (h .2) in
     omega (arith, g .byte, g .within, g .high, g .rest, r .block-high)
 
 mul-result-2 : tie.Need-mul-result-2
@@ -114,8 +115,8 @@ mul-result-2 c =
     let r = ranged p (pre .0) in
     let h = pre .1 in
     let g =
-    stepping p r (a .full) (first-byte .result) (c .before .together .result) (a .drive) (a .zone) (a .offset) (first-byte .ensures .0)
-    (c .before .together .ensures .0) (h .0) (h .1) (h .2) in
+    stepping p r (a .full) (first-byte .result) (c .before .together .result) _ (a .drive) (a .zone) (a .offset) (first-byte .ensures .0)
+    (c .before .together .ensures .0) (sym spare-len) (h .0) (h .1) (h .2) in
     omega (arith, g .byte, g .within, g .high, g .rest, r .block-high)
 
 add-result-3 : tie.Need-add-result-3
@@ -127,8 +128,8 @@ add-result-3 c =
     let r = ranged p (pre .0) in
     let h = pre .1 in
     let g =
-    stepping p r (a .full) (first-byte .result) (c .before .together .result) (a .drive) (a .zone) (a .offset) (first-byte .ensures .0)
-    (c .before .together .ensures .0) (h .0) (h .1) (h .2) in
+    stepping p r (a .full) (first-byte .result) (c .before .together .result) _ (a .drive) (a .zone) (a .offset) (first-byte .ensures .0)
+    (c .before .together .ensures .0) (sym spare-len) (h .0) (h .1) (h .2) in
     omega (arith, g .byte, g .within, g .high, g .rest, r .block-high)
 
 returns : tie.Need-returns
@@ -140,8 +141,8 @@ returns c =
     let r = ranged p (pre .0) in
     let h = pre .1 in
     let g =
-    stepping p r (a .full) (first-byte .result) (c .before .together .result) (a .drive) (a .zone) (a .offset) (first-byte .ensures .0)
-    (c .before .together .ensures .0) (h .0) (h .1) (h .2) in
+    stepping p r (a .full) (first-byte .result) (c .before .together .result) _ (a .drive) (a .zone) (a .offset) (first-byte .ensures .0)
+    (c .before .together .ensures .0) (sym spare-len) (h .0) (h .1) (h .2) in
     (g .byte, omega (arith, g .byte, g .within), omega (arith, g .byte, g .within, g .high))
 
 pub record-byte-spec : {M : Type 1} → statement M

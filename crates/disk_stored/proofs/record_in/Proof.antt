@@ -1,10 +1,11 @@
--- `record_in`: the 20 bytes at `record_byte` are, by `record-by`, those that the view takes for the record, whatever the pointers are. Assumes nothing.
-use mathlib.Core.Path.{ap, _∙_}
+-- `record_in`: the bytes at `record_byte` are, by `record-by`, those that the view takes for the record, whatever the pointers are. Assumes nothing.
+use mathlib.Core.Path.{sym, ap, ap₂, _∙_}
 use Prim.Native.Nat.{ℕ}
+use native.Mathlib.Omega.{arith}
 use borrow.Author.Needs.{needs}
 use Rattle.spec.specs.Bytes.{part}
 use Rattle.spec.specs.Layout.{recordOf}
-use Rattle.law_basic.specs.Geometry.{ranged}
+use Rattle.law_basic.specs.Geometry.{ranged, spare-len}
 use Rattle.law_basic.specs.Splice.{part-lent}
 use Rattle.disk_stored.specs.Stored.{record-by}
 use Rattle.disk_stored.proofs.record_in.Statement.{statement}
@@ -14,7 +15,7 @@ record-byte-requires : tie.Need-record-byte-requires
 record-byte-requires c κs = search needs
 
 add-end : tie.Need-add-end
-add-end c = search needs
+add-end c = omega (arith, spare-len)
 
 sub-read-record : tie.Need-sub-read-record
 sub-read-record c = search needs
@@ -23,10 +24,10 @@ part-read-record-start : tie.Need-part-read-record-start
 part-read-record-start c = search needs
 
 part-read-record-end : tie.Need-part-read-record-end
-part-read-record-end c = search needs
+part-read-record-end c = omega (arith, spare-len)
 
 read-record-requires : tie.Need-read-record-requires
-read-record-requires c κs = search needs
+read-record-requires c κs = omega (arith, spare-len)
 
 returns : tie.Need-returns
 returns c =
@@ -40,7 +41,7 @@ returns c =
     let h = pre .1 in
     let im = a .image .now in
     c .read-record .ensures
-    ∙ ap recordOf (part-lent (record-byte .result) 20 im ∙ ap (λ (x : ℕ). part x 20 im) (record-byte .ensures .0))
+    ∙ ap recordOf (part-lent (record-byte .result) _ im ∙ ap₂ (λ (x y : ℕ). part x y im) (record-byte .ensures .0) (sym spare-len))
     ∙ record-by p r im ps (h .0) hp (a .drive) (a .zone) (h .1) (h .2) (a .full) (a .offset) (h .3)
 
 pub record-in-spec : {M : Type 1} → statement M

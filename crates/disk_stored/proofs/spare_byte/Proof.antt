@@ -1,10 +1,10 @@
--- `spare_byte`: the spare is B bytes behind the start of its block; the unit of B + 20 bytes ends inside the image. Assumes nothing.
+-- `spare_byte`: the spare is B bytes behind the start of its block; the block with its spare ends inside the image. Assumes nothing.
 use mathlib.Core.Path.{ap}
 use Prim.Native.Nat.{ℕ, _+_}
 use native.Mathlib.Omega.{arith}
 use borrow.Author.Needs.{needs}
 use Rattle.spec.specs.Params.{unitLen}
-use Rattle.law_basic.specs.Geometry.{ranged, spare-len, image-high}
+use Rattle.law_basic.specs.Geometry.{ranged, image-high}
 use Rattle.disk_stored.proofs.spare_byte.Statement.{statement}
 use Rattle.disk_stored.proofs.spare_byte.Tie as tie
 
@@ -26,7 +26,7 @@ returns c =
     let p = c .before .before .before .args .p in
     let r = ranged p (c .before .before .before .pre .0) in
     let e = c .before .begins .ensures in
-    (ap (λ (x : ℕ). x + p .B) (e .0), omega (arith, e .1, spare-len), omega (arith, e .1, spare-len, image-high p r))
+    (ap (λ (x : ℕ). x + p .B) (e .0), omega (arith, e .1), omega (arith, e .1, image-high p r))
 
 pub spare-byte-spec : {M : Type 1} → statement M
 spare-byte-spec =

@@ -8,8 +8,7 @@ use lib.ListN.{length}
 use Rattle.spec.specs.Bytes.{splice}
 use Rattle.spec.specs.Drives.{pointerOf, setPointer}
 use Rattle.spec.specs.Engine.Call.{close}
-use Rattle.spec.specs.Lists.{total}
-use Rattle.spec.specs.Params.{recordWidths, spareLen, unitLen, placeOf, placeByte}
+use Rattle.spec.specs.Params.{unitLen, placeOf, placeByte}
 use Rattle.law_basic.specs.Geometry.{ranged, capacity-high}
 use Rattle.law_basic.specs.Splice.{splice-next}
 use Rattle.disk_zones.specs.Made.{put-disk}
@@ -29,7 +28,7 @@ add-after : tie.Need-add-after
 add-after c = search needs
 
 copy-part-requires : tie.Need-copy-part-requires
-unfolding unitLen spareLen total recordWidths
+unfolding unitLen
 copy-part-requires c κs =
     let a = c .before .before .before .before .before .before .before .before .before .args in
     let block-byte = c .before .before .block-byte in
@@ -42,7 +41,7 @@ copy-part-requires c κs =
     omega (arith, block-byte .ensures .1, w .image-long, g .0)
 
 copy-part-requires-2 : tie.Need-copy-part-requires-2
-unfolding unitLen spareLen total recordWidths
+unfolding unitLen
 copy-part-requires-2 c κs =
     let a = c .before .before .before .before .before .before .before .before .before .before .before .before .before .args in
     let copy-part = c .before .before .before .copy-part in
@@ -76,7 +75,7 @@ same-length-2 : tie.Need-same-length-2
 same-length-2 c = search needs
 
 returns : tie.Need-returns
-unfolding unitLen spareLen total recordWidths
+unfolding unitLen
 returns c =
     let a = c .before .before .before .before .before .before .before .before .before .before .before .before .before .before .before .before .before .before .before .before .args in
     let set-pointer = c .before .before .set-pointer in

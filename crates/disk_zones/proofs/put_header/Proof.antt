@@ -85,7 +85,7 @@ returns c =
     let u = unit-len .result in
     let l : length (write-header .last .0) ≡ u =
     ap length (write-header .ensures)
-    ∙ header-unit p (a .drive) (a .zone) (a .serial .0) (a .copied .0) (omega (arith, r .block-low))
+    ∙ header-unit p r (a .drive) (a .zone) (a .serial .0) (a .copied .0)
     ∙ sym (unit-len .ensures .0) in
     put-disk p (a .drive) (a .zone) b zeroSpare im (a .pointers .now) (take t im ++ (write-header .last .0 ++ drop (t + u - t) (drop t im))) (set-pointer .last .1 .0)
     (splice-lent t u im (write-header .last .0) l ∙ ap₂ (splice im) at (write-header .ensures))

@@ -10,7 +10,7 @@ use Rattle.spec.specs.Engine.Call.{close}
 use Rattle.spec.specs.History.{before}
 use Rattle.spec.specs.Layout.{recordBytes}
 use Rattle.spec.specs.Params.{capacity}
-use Rattle.law_basic.specs.Geometry.{zone-on-lt}
+use Rattle.law_basic.specs.Geometry.{spare-len, zone-on-lt}
 use Rattle.disk_zones.specs.Made.{Storing}
 use Rattle.recover_groups.specs.Chunks.{counts-entered}
 use Rattle.recover_groups.specs.Groups.{AllEntered, segmentIn}
@@ -47,7 +47,7 @@ slice-aggregate-write-record : tie.Need-slice-aggregate-write-record
 slice-aggregate-write-record c = search needs
 
 write-record-requires : tie.Need-write-record-requires
-write-record-requires c κs = search needs
+write-record-requires c κs = sym spare-len
 
 zone-on-requires : tie.Need-zone-on-requires
 zone-on-requires c κs = tt
@@ -73,7 +73,7 @@ put-limited-requires c κs =
             subst (λ (x : ℕ). x < a .p .Z) (sym z) (zone-on-lt (a .p) (a .w .seg) (a .drive) (h .2)),
             subst (λ (x : ℕ). pointerOf (a .p) (a .pointers .now) (a .drive) x < capacity (a .p)) (sym z) (h .5),
           ),
-          (lost-block .kept .1 .1 .1 .1 .1 .0 ∙ h .0, write-record .kept .0),
+          (lost-block .kept .1 .1 .1 .1 .1 .0 ∙ h .0, write-record .kept .0 ∙ sym spare-len),
         ),
       ),
     )

@@ -1,13 +1,14 @@
--- `move_with`: block and record of the moved chunk, the record as 20 bytes of spare, make the one store, by `put-moved`. Assumes nothing.
+-- `move_with`: block and record of the moved chunk, the record as a spare, make the one store, by `put-moved`. Assumes nothing.
 use Prim.Native.Nat.{_+_}
 use Rattle.spec.specs.Drives.{mkDisk, zoneOn}
 use Rattle.recover_groups.specs.Groups.{segmentIn}
-use Rattle.law_basic.specs.Geometry.{zone-on-lt}
+use Rattle.law_basic.specs.Geometry.{spare-len, zone-on-lt}
 use Rattle.recover_move.specs.Moves.{put-moved}
-use Rattle.disk_records.specs.Record.{record-long, recOf as recVal}
+use Rattle.law_basic.specs.Fields.{length-record}
+use Rattle.disk_records.specs.Record.{recOf as recVal}
 use borrow.Author.Needs.{needs}
 use lib.ListN.{length}
-use mathlib.Core.Path.{_≡_, ap, _∙_}
+use mathlib.Core.Path.{_≡_, sym, ap, _∙_}
 use Rattle.recover_move.proofs.move_with.Statement.{statement}
 use Rattle.recover_move.proofs.move_with.Tie as tie
 
@@ -20,7 +21,7 @@ slice-aggregate-write-record : tie.Need-slice-aggregate-write-record
 slice-aggregate-write-record c = search needs
 
 write-record-requires : tie.Need-write-record-requires
-write-record-requires c κs = search needs
+write-record-requires c κs = sym spare-len
 
 zone-on-requires : tie.Need-zone-on-requires
 zone-on-requires c κs = search needs
@@ -46,7 +47,7 @@ put-limited-requires c κs =
             moved-chunk .kept .1 .1 .1 .1 .1 .1 .1 .0
                 ∙ pre .1 .1 .1 .1 .1 .3,
             ap length (write-record .ensures)
-                ∙ record-long (recVal (moved-chunk .result)),
+                ∙ length-record (recVal (moved-chunk .result)),
           ),
         ),
       ),

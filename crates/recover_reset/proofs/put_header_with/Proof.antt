@@ -12,9 +12,8 @@ use Rattle.spec.specs.Engine.Call.{close}
 use Rattle.spec.specs.History.{before}
 use Rattle.spec.specs.Layout.{headerBlock}
 use Rattle.spec.specs.Params.{unitLen}
-use Rattle.law_basic.specs.Fields.{header-block-long}
+use Rattle.law_basic.specs.Fields.{length-zeroSpare, header-block-long}
 use Rattle.law_basic.specs.Geometry.{ranged}
-use Rattle.disk_records.specs.Header.{zero-spare-long}
 use Rattle.disk_zones.specs.Made.{Storing}
 use Rattle.recover_reset.proofs.put_header_with.Statement.{statement}
 use Rattle.recover_reset.proofs.put_header_with.Tie as tie
@@ -40,7 +39,7 @@ block-is c =
     let pre = c .before .before .before .before .before .before .before .before .before .before .pre in
     let r = ranged (a .p) (pre .0) in
     let h = headerBlock (a .p) (a .drive) (a .zone) (a .serial .0) (a .copied .0) in
-    ap (take (a .p .B)) (write-header .ensures) ∙ take-at h zeroSpare (a .p .B) (header-block-long (a .p) (a .drive) (a .zone) (a .serial .0) (a .copied .0) (omega (arith, r .block-low)))
+    ap (take (a .p .B)) (write-header .ensures) ∙ take-at h zeroSpare (a .p .B) (header-block-long (a .p) r (a .drive) (a .zone) (a .serial .0) (a .copied .0))
 
 block-long :
     (c : tie.After-put-limited-arg2)
@@ -51,7 +50,7 @@ block-long c =
     let a = c .before .before .before .before .before .before .before .before .before .before .args in
     let pre = c .before .before .before .before .before .before .before .before .before .before .pre in
     let r = ranged (a .p) (pre .0) in
-    ap length (block-is c) ∙ header-block-long (a .p) (a .drive) (a .zone) (a .serial .0) (a .copied .0) (omega (arith, r .block-low))
+    ap length (block-is c) ∙ header-block-long (a .p) r (a .drive) (a .zone) (a .serial .0) (a .copied .0)
 
 slice-reshare-prefix-put-limited : tie.Need-slice-reshare-prefix-put-limited
 unfolding unitLen
@@ -66,7 +65,7 @@ slice-aggregate-put-limited c = sym (block-long (c .before))
 put-limited-requires : tie.Need-put-limited-requires
 put-limited-requires c κs =
     let q = c .before .before .before .before .before .before .before .before .before .before .before .pre in
-    (q .0, (q .1 .0, ((q .1 .1 .0, q .1 .1 .1, q .1 .1 .2), (block-long (c .before), ap length (q .1 .1 .4) ∙ zero-spare-long))))
+    (q .0, (q .1 .0, ((q .1 .1 .0, q .1 .1 .1, q .1 .1 .2), (block-long (c .before), ap length (q .1 .1 .4) ∙ length-zeroSpare))))
 
 same-length : tie.Need-same-length
 same-length c = search needs
