@@ -1,5 +1,6 @@
-// The calls of the host, in C: numbers and byte buffers, the state as bytes (01, The array). Reads look at the state's bytes where they lie; each
-// other call decodes the state, makes the call and, unless it is refused, encodes the state again.
+// The calls of the host, in C: numbers and byte buffers, the state as bytes (01, The array). Reads look at the state's bytes where they lie. Write,
+// closing, landing and reclaim take the state by value with its bytes, and what they change is written there. Restart and rebuild make a whole state,
+// and encode it. A refusal leaves the bytes.
 ghost use mathlib.Core.Path.{_≡_};
 ghost use mathlib.Core.Bool.{cond};
 ghost use mathlib.Core.List.{[]};
@@ -335,7 +336,16 @@ pub extern "C" fn sorgizhed_close(
         return api_answers::short_of(disk_shape::in_range(p));
     }
     let before = mem_codec::decode(state);
-    let change = call_close::close(p, image, pointers, addresses, compact, inflight, before);
+    let change = call_close::close(
+        p,
+        image,
+        pointers,
+        addresses,
+        compact,
+        inflight,
+        before,
+        state,
+    );
     api_answers::apply(state, change)
 }
 
@@ -435,6 +445,7 @@ pub extern "C" fn sorgizhed_reclaim(
         compact,
         inflight,
         before,
+        state,
         count,
     );
     api_answers::apply(state, change)

@@ -13,12 +13,14 @@ ghost use Rattle.spec.specs.Calls.Check.{rule, zones};
 ghost use Rattle.spec.specs.Drives.{viewOf, mkDisk};
 ghost use Rattle.spec.specs.Engine.{callDisk};
 ghost use Rattle.spec.specs.Engine.Call.{close};
-ghost use Rattle.spec.specs.Lists.{isNil};
-ghost use Rattle.spec.specs.Memory.{mkMemory, fillingSlot, stateFaults};
+ghost use Rattle.spec.specs.Lists.{consIf, isNil};
+ghost use Rattle.spec.specs.Memory.{mkMemory, fillingSlot, stateFaults, stateLen, stateOf};
 ghost use Rattle.spec.specs.Params.{inRange, dataCount, addressesLen, inflightLen};
 ghost use Rattle.spec.specs.Reclaim.{tableFaults, victim, idle};
+ghost use Rattle.call_reclaim_victim.specs.Outside.{isOutside};
 ghost use Rattle.mem_rows.specs.Rows.{afterChange};
 ghost use Rattle.law_views.specs.Views.{Whole};
+use call_reclaim_victim::Chosen;
 use mem_calls::Check;
 use mem_rows::Change;
 use mem_rows::Row;
@@ -29,38 +31,37 @@ use spec::Place;
 use spec::Stamp;
 use spec::State;
 
-// 01, Refusals, 5: whether the segment that reclaim would take has a live block not in flight.
-fn is_left(p: Params, image: &[u8], pointers: &[u8], addresses: &[u8], state: State) -> bool
+// 01, Refusals, 9: whether some place of the table lies outside the image. Where a segment is sealed, the look at the table has told it.
+fn is_outside(p: Params, addresses: &[u8], seen: Chosen) -> bool
     requires { ⌜ inRange p ≡ true ⌝ }
-    requires { ⌜ Whole p (mkDisk (now image) (now pointers)) ⌝ }
-    requires { ⌜ length (now addresses) ≡ addressesLen p ⌝ }
-    ensures { λ r. ⌜
-        r
-        ≡ not (isNil (idle p (viewOf p (now (image .entry)) (now (pointers .entry))) state
-        (victim p (viewOf p (now (image .entry)) (now (pointers .entry))) (now (addresses .entry))))) ⌝ }
+    requires { ⌜ (length (now addresses) ≡ addressesLen p) × (seen .segment < p .Z → seen .outside ≡ isOutside p (now addresses)) ⌝ }
+    ensures { λ r. ⌜ tableFaults p (now (addresses .entry)) ≡ consIf r 0 [] ⌝ }
 {
-    let v = call_reclaim_victim::look(p, image, pointers, addresses, state);
-    v.first.0 != Place::NEVER.0
+    if seen.segment < p.Z {
+        return seen.outside;
+    }
+    call_reclaim_victim::any_outside(p, addresses)
 }
 
-// 01, Refusals, 5 and 9: the last checks where 1 or fewer zones are empty on all drives.
-fn scarce_checks(p: Params, image: &[u8], pointers: &[u8], addresses: &[u8], state: State) -> Check
+// 01, Refusals, 5 and 9: the last checks where 1 or fewer zones are empty on all drives. The table is looked at once.
+fn scarce_checks(p: Params, image: &[u8], pointers: &[u8], addresses: &[u8], bytes: &[u8]) -> Check
     requires { ⌜ inRange p ≡ true ⌝ }
     requires { ⌜ Whole p (mkDisk (now image) (now pointers)) ⌝ }
-    requires { ⌜ length (now addresses) ≡ addressesLen p ⌝ }
+    requires { ⌜ (length (now addresses) ≡ addressesLen p) × (length (now bytes) ≡ stateLen) ⌝ }
     ensures { λ r. ⌜
         checked r
-        ≡ firstRefusal (rule 5 (not (isNil (idle p (viewOf p (now (image .entry)) (now (pointers .entry))) state
+        ≡ firstRefusal (rule 5 (not (isNil (idle p (viewOf p (now (image .entry)) (now (pointers .entry))) (stateOf (now (bytes .entry)))
         (victim p (viewOf p (now (image .entry)) (now (pointers .entry))) (now (addresses .entry)))))) ∷ zones
-        (stateFaults p state ++ tableFaults p (now (addresses .entry))) ∷ []) ⌝ }
+        (stateFaults p (stateOf (now (bytes .entry))) ++ tableFaults p (now (addresses .entry))) ∷ []) ⌝ }
 {
-    if is_left(p, image, pointers, addresses, state) {
+    let seen = call_reclaim_victim::look(p, image, pointers, addresses, bytes);
+    if seen.first.0 != Place::NEVER.0 {
         return Check::Fail(Answer::Refused(5));
     }
-    if !mem_state::state_ok(p, state) {
+    if !mem_bounds::state_ok(p, bytes) {
         return Check::Fail(Answer::BadZone(0));
     }
-    if call_reclaim_victim::any_outside(p, addresses) {
+    if is_outside(p, addresses, seen) {
         return Check::Fail(Answer::BadZone(0));
     }
     Check::Pass
@@ -72,7 +73,7 @@ fn is_slot(slot: usize) -> bool
     slot < 8
 }
 
-// 01, Refusals: the checks of a closing, in order; slot: the filling stripe's eighth.
+// 01, Refusals: the checks of a closing, in order; slot: the filling stripe's eighth. The ranges of the state are looked at in its bytes.
 fn checks(
     p: Params,
     image: &[u8],
@@ -80,11 +81,15 @@ fn checks(
     addresses: &[u8],
     compact: &[u8],
     inflight: &[u8],
-    state: State,
+    bytes: &[u8],
+    missing: u8,
     slot: usize,
 ) -> Check
-    requires { ⌜ slot ≡ fillingSlot p state ⌝ }
-    ensures { λ r. ⌜ checked r ≡ refusal p (mkDisk (now (image .entry)) (now (pointers .entry))) (mkMemory state (now (addresses .entry)) (now (compact .entry)) (now (inflight .entry))) ⌝ }
+    requires { ⌜ (slot ≡ fillingSlot p (stateOf (now bytes))) × (missing ≡ stateOf (now bytes) .missing) × (length (now bytes) ≡ stateLen) ⌝ }
+    ensures { λ r. ⌜
+        checked r
+        ≡ refusal p (mkDisk (now (image .entry)) (now (pointers .entry)))
+        (mkMemory (stateOf (now (bytes .entry))) (now (addresses .entry)) (now (compact .entry)) (now (inflight .entry))) ⌝ }
 {
     if !disk_shape::in_range(p) {
         return Check::Fail(Answer::Refused(1));
@@ -92,16 +97,16 @@ fn checks(
     if !mem_calls::lent_ok(p, image, pointers, addresses, compact, inflight) {
         return Check::Fail(Answer::Refused(2));
     }
-    if state.missing != 0 {
+    if missing != 0 {
         return Check::Fail(Answer::Refused(3));
     }
     if !is_slot(slot) {
         return Check::Fail(Answer::Refused(5));
     }
     if call_filling::scarce(p, pointers, 1) {
-        return scarce_checks(p, image, pointers, addresses, state);
+        return scarce_checks(p, image, pointers, addresses, bytes);
     }
-    if !mem_state::state_ok(p, state) {
+    if !mem_bounds::state_ok(p, bytes) {
         return Check::Fail(Answer::BadZone(0));
     }
     Check::Pass
@@ -143,7 +148,7 @@ fn pad_all(p: Params, inflight: &mut [u8], row: Row, i: usize) -> Row
     next
 }
 
-// A closing: refused or done, it leaves what the definition says, whatever the store count.
+// A closing: refused or done, it leaves what the definition says, whatever the store count. The state goes by value, with the bytes that say it.
 pub fn close(
     p: Params,
     image: &[u8],
@@ -152,7 +157,9 @@ pub fn close(
     compact: &[u8],
     inflight: &mut [u8],
     state: State,
+    bytes: &[u8],
 ) -> Change
+    requires { ⌜ (state ≡ stateOf (now bytes)) × (length (now bytes) ≡ stateLen) ⌝ }
     ensures { λ r. ⌜
         ((n : ℕ)
         → afterChange state r (now (image .entry)) (now (pointers .entry)) (now (addresses .entry)) (now (compact .entry)) (now (inflight .exit))
@@ -161,11 +168,21 @@ pub fn close(
 {
     let f = mem_rows::front_of(state);
     let i = call_filling::filling_slot(p, f);
-    let c = checks(p, image, pointers, addresses, compact, inflight, state, i);
+    let c = checks(
+        p,
+        image,
+        pointers,
+        addresses,
+        compact,
+        inflight,
+        bytes,
+        state.missing,
+        i,
+    );
     if let Check::Fail(answer) = c {
         return mem_rows::kept(answer, f);
     }
-    let row = mem_rows::row_of(state, i);
+    let row = mem_codec::row_at(bytes, i);
     let next = pad_all(p, inflight, row, i);
     let stamp = f.stamp;
     let serial = f.serial;

@@ -9,20 +9,22 @@ ghost use Rattle.spec.specs.Bytes.{part};
 ghost use Rattle.spec.specs.Calls.{outcome};
 ghost use Rattle.spec.specs.Calls.Verdict.{due};
 ghost use Rattle.spec.specs.Drives.{viewOf, mkDisk, storeDisk};
-ghost use Rattle.spec.specs.Memory.{mkMemory};
+ghost use Rattle.spec.specs.Memory.{mkMemory, stateLen, stateOf};
 ghost use Rattle.spec.specs.Params.{inRange, capacity, imageLen, placeByte};
 ghost use Rattle.spec.specs.Reclaim.{copyPlan};
-ghost use Rattle.mem_rows.specs.Rows.{afterChange};
+ghost use Rattle.call_filling.specs.Aims.{aimOf};
+ghost use Rattle.mem_rows.specs.Rows.{frontOf, afterChange};
 ghost use Rattle.call_reclaim_victim.specs.Waiting.{isOdd};
+use call_filling::Aim;
 use mem_rows::Change;
+use mem_rows::Front;
 use spec::Address;
 use spec::Answer;
 use spec::Params;
 use spec::Place;
 use spec::Stamp;
-use spec::State;
 
-// 01, Reclaim: the block goes into the filling stripe with its old stamp, once a segment is open for it.
+// 01, Reclaim: the block goes into the filling stripe with its old stamp, once a segment is open for it. f, a: the front of the state and where the block goes.
 fn send_copy(
     p: Params,
     image: &mut [u8],
@@ -30,28 +32,28 @@ fn send_copy(
     addresses: &mut [u8],
     compact: &mut [u8],
     inflight: &mut [u8],
-    state: State,
+    bytes: &[u8],
+    f: Front,
+    a: Aim,
     address: Address,
     stamp: Stamp,
     block: &[u8],
     count: u64,
 ) -> Change
-    requires { ⌜ CopyReady p (mkDisk (now image) (now pointers)) (mkMemory state (now addresses) (now compact) (now inflight)) ⌝ }
-    requires { ⌜ length (now block) ≡ p .B ⌝ }
+    requires { ⌜ CopyReady p (mkDisk (now image) (now pointers)) (mkMemory (stateOf (now bytes)) (now addresses) (now compact) (now inflight)) ⌝ }
+    requires { ⌜ (f ≡ frontOf (stateOf (now bytes))) × (a ≡ aimOf p (stateOf (now bytes))) × (length (now bytes) ≡ stateLen) × (length (now block) ≡ p .B) ⌝ }
     ensures { λ r. ⌜
-        afterChange state r (now (image .exit)) (now (pointers .exit)) (now (addresses .exit)) (now (compact .exit)) (now (inflight .exit)) []
+        afterChange (stateOf (now (bytes .entry))) r (now (image .exit)) (now (pointers .exit)) (now (addresses .exit)) (now (compact .exit)) (now (inflight .exit)) []
         ≡ outcome p (storeDisk p) count (mkDisk (now (image .entry)) (now (pointers .entry)))
-        (mkMemory state (now (addresses .entry)) (now (compact .entry)) (now (inflight .entry))) []
+        (mkMemory (stateOf (now (bytes .entry))) (now (addresses .entry)) (now (compact .entry)) (now (inflight .entry))) []
         (due (sentPlan p (viewOf p (now (image .entry)) (now (pointers .entry)))
-        (mkMemory state (now (addresses .entry)) (now (compact .entry)) (now (inflight .entry))) (address .0) (stamp .0) (now (block .entry)))) ⌝ }
+        (mkMemory (stateOf (now (bytes .entry))) (now (addresses .entry)) (now (compact .entry)) (now (inflight .entry))) (address .0) (stamp .0) (now (block .entry)))) ⌝ }
 {
-    let f = mem_rows::front_of(state);
-    let a = call_filling::aim_of(p, f);
     let o = call_filling::open(p, image, pointers, f, a, count);
     if o.cut {
         return call_filling::cut(addresses, compact, f);
     }
-    let row = mem_rows::row_of(state, a.slot);
+    let row = mem_codec::row_at(bytes, a.slot);
     let w = call_filling::send(p, inflight, row, a, o.next, address, stamp, false, block);
     let last = w.row;
     let serial = o.serial;
@@ -86,18 +88,21 @@ pub fn copy_block(
     addresses: &mut [u8],
     compact: &mut [u8],
     inflight: &mut [u8],
-    state: State,
+    bytes: &[u8],
+    f: Front,
+    a: Aim,
     q: Place,
     count: u64,
 ) -> Change
-    requires { ⌜ CopyReady p (mkDisk (now image) (now pointers)) (mkMemory state (now addresses) (now compact) (now inflight)) ⌝ }
+    requires { ⌜ CopyReady p (mkDisk (now image) (now pointers)) (mkMemory (stateOf (now bytes)) (now addresses) (now compact) (now inflight)) ⌝ }
+    requires { ⌜ (f ≡ frontOf (stateOf (now bytes))) × (a ≡ aimOf p (stateOf (now bytes))) × (length (now bytes) ≡ stateLen) ⌝ }
     requires { ⌜ (q .0 < p .N * p .Z * capacity p) × (isOdd p (q .0) ≡ false) ⌝ }
     ensures { λ r. ⌜
-        afterChange state r (now (image .exit)) (now (pointers .exit)) (now (addresses .exit)) (now (compact .exit)) (now (inflight .exit)) []
+        afterChange (stateOf (now (bytes .entry))) r (now (image .exit)) (now (pointers .exit)) (now (addresses .exit)) (now (compact .exit)) (now (inflight .exit)) []
         ≡ outcome p (storeDisk p) count (mkDisk (now (image .entry)) (now (pointers .entry)))
-        (mkMemory state (now (addresses .entry)) (now (compact .entry)) (now (inflight .entry))) []
+        (mkMemory (stateOf (now (bytes .entry))) (now (addresses .entry)) (now (compact .entry)) (now (inflight .entry))) []
         (due (copyPlan p (viewOf p (now (image .entry)) (now (pointers .entry)))
-        (mkMemory state (now (addresses .entry)) (now (compact .entry)) (now (inflight .entry))) (q .0))) ⌝ }
+        (mkMemory (stateOf (now (bytes .entry))) (now (addresses .entry)) (now (compact .entry)) (now (inflight .entry))) (q .0))) ⌝ }
 {
     let r = call_reclaim_victim::record_of(p, image, pointers, q);
     let address = r.address;
@@ -112,7 +117,9 @@ pub fn copy_block(
         addresses,
         compact,
         inflight,
-        state,
+        bytes,
+        f,
+        a,
         address,
         stamp,
         &block[..b],

@@ -16,6 +16,7 @@ ghost use Rattle.call_land_chunk.specs.Alone.{alone};
 use mem_rows::Row;
 use spec::Address;
 use spec::Params;
+use spec::Place;
 
 // 01, Refusals, 9: the pointer is not at a data block of the stripe's group.
 fn misplaced(p: Params, pointers: &[u8], d: usize, zone: usize, stripe: usize) -> bool
@@ -79,7 +80,7 @@ fn entry_fault(p: Params, pointers: &[u8], addresses: &[u8], address: Address) -
         return p.Z;
     }
     let q = mem_tables::place_at(addresses, address.0 as usize);
-    if q.0 == 0xffff_ffff {
+    if q.0 == Place::NEVER.0 {
         return p.Z;
     }
     mem_lookup::place_fault(p, pointers, 0, q)

@@ -64,7 +64,7 @@ fn held(p: Params, image: &[u8], pointers: &[u8], addresses: &[u8], address: Add
     ensures { λ r. ⌜ rankedBest r ≡ held p (viewOf p (now (image .entry)) (now (pointers .entry))) (now (addresses .entry)) (address .0) ⌝ }
 {
     let place = mem_tables::place_at(addresses, address.0 as usize);
-    if place.0 == 0xffff_ffff {
+    if place.0 == Place::NEVER.0 {
         return Best::Nothing;
     }
     Best::Holds(held_cand(p, image, pointers, address, place))

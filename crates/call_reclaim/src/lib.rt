@@ -6,6 +6,7 @@ ghost use Prim.Native.Nat.{ℕ, _<_};
 ghost use lib.ListN.{length};
 ghost use Rattle.mem_calls.specs.Left.{checked};
 ghost use Rattle.spec.specs.declared.Answer.the-variants.{BadZone};
+ghost use Rattle.spec.specs.declared.State.{State as StateOf};
 ghost use Rattle.spec.specs.Calls.{firstRefusal, outcome};
 ghost use Rattle.spec.specs.Calls.Check.{zones};
 ghost use Rattle.spec.specs.Calls.Verdict.{due};
@@ -13,17 +14,20 @@ ghost use Rattle.spec.specs.Drives.{viewOf, mkDisk, storeDisk};
 ghost use Rattle.spec.specs.Engine.{callDisk};
 ghost use Rattle.spec.specs.Engine.Call.{reclaim};
 ghost use Rattle.spec.specs.Lists.Opt.{some};
-ghost use Rattle.spec.specs.Memory.{mkMemory, stateFaults};
+ghost use Rattle.spec.specs.Memory.{mkMemory, stateFaults, stateLen, stateOf};
 ghost use Rattle.spec.specs.Params.{inRange, imageLen, pointersLen, addressesLen, compactLen, drivesOf};
 ghost use Rattle.spec.specs.Reclaim.{tableFaults, victim, cleared, resetPlan};
 ghost use Rattle.call_reclaim.specs.Choosing.{copyRules, laterChecks, Chose, refusal};
-ghost use Rattle.mem_rows.specs.Rows.{afterChange};
+ghost use Rattle.call_filling.specs.Aims.{aimOf};
+ghost use Rattle.mem_rows.specs.Rows.{frontOf, behind, afterChange};
 ghost use Rattle.call_reclaim_victim.specs.Looked.{Looked};
 ghost use Rattle.call_reclaim_victim.specs.Outside.{isOutside};
 ghost use Rattle.law_views.specs.Views.{Whole};
+use call_filling::Aim;
 use call_reclaim_victim::Chosen;
 use mem_calls::Check;
 use mem_rows::Change;
+use mem_rows::Front;
 use spec::Answer;
 use spec::Params;
 use spec::Place;
@@ -31,14 +35,16 @@ use spec::State;
 
 // ---- checks
 
-// 01, Refusals, 6 to 8, of a copy.
-fn copy_rules(p: Params, pointers: &[u8], state: State) -> Check
+// 01, Refusals, 6 to 8, of a copy; f, a: the front of the state and where a block goes.
+fn copy_rules(p: Params, pointers: &[u8], f: Front, a: Aim) -> Check
     requires { ⌜ inRange p ≡ true ⌝ }
-    requires { ⌜ length (now pointers) ≡ pointersLen p ⌝ }
-    ensures { λ r. ⌜ ((im : List ℕ) → length im ≡ imageLen p → checked r ≡ firstRefusal (copyRules p (viewOf p im (now (pointers .entry))) state)) ⌝ }
+    requires { ⌜ (length (now pointers) ≡ pointersLen p) × (a ≡ aimOf p (behind f)) ⌝ }
+    ensures { λ r. ⌜
+        ((st : StateOf) (im : List ℕ)
+        → f ≡ frontOf st
+        → length im ≡ imageLen p
+        → checked r ≡ firstRefusal (copyRules p (viewOf p im (now (pointers .entry))) st)) ⌝ }
 {
-    let f = mem_rows::front_of(state);
-    let a = call_filling::aim_of(p, f);
     if call_filling::no_serial(f, a) {
         return Check::Fail(Answer::Refused(6));
     }
@@ -55,12 +61,15 @@ fn copy_rules(p: Params, pointers: &[u8], state: State) -> Check
 }
 
 // 01, Refusals, 9: a state number out of range, or a place of the table outside the image; both name zone 0.
-fn has_fault(p: Params, addresses: &[u8], state: State, outside: bool) -> bool
+fn has_fault(p: Params, addresses: &[u8], bytes: &[u8], outside: bool) -> bool
     requires { ⌜ inRange p ≡ true ⌝ }
-    requires { ⌜ (length (now addresses) ≡ addressesLen p) × (outside ≡ isOutside p (now addresses)) ⌝ }
-    ensures { λ r. ⌜ ((zs : List ℕ) → firstRefusal (zones (stateFaults p state ++ tableFaults p (now (addresses .entry)) ++ zs) ∷ []) ≡ cond r (some (BadZone 0)) (firstRefusal (zones zs ∷ []))) ⌝ }
+    requires { ⌜ (length (now addresses) ≡ addressesLen p) × (outside ≡ isOutside p (now addresses)) × (length (now bytes) ≡ stateLen) ⌝ }
+    ensures { λ r. ⌜
+        ((zs : List ℕ)
+        → firstRefusal (zones (stateFaults p (stateOf (now (bytes .entry))) ++ tableFaults p (now (addresses .entry)) ++ zs) ∷ [])
+        ≡ cond r (some (BadZone 0)) (firstRefusal (zones zs ∷ []))) ⌝ }
 {
-    if !mem_state::state_ok(p, state) {
+    if !mem_bounds::state_ok(p, bytes) {
         return true;
     }
     outside
@@ -79,17 +88,19 @@ fn choose_copy(
     image: &[u8],
     pointers: &[u8],
     addresses: &[u8],
-    state: State,
+    bytes: &[u8],
+    f: Front,
+    a: Aim,
     seen: Chosen,
 ) -> Choice
     requires { ⌜ inRange p ≡ true ⌝ }
     requires { ⌜ Whole p (mkDisk (now image) (now pointers)) ⌝ }
-    requires { ⌜ length (now addresses) ≡ addressesLen p ⌝ }
-    requires { ⌜ (Looked p (viewOf p (now image) (now pointers)) (now addresses) state seen) × (seen .segment < p .Z) × (0 < seen .live) ⌝ }
+    requires { ⌜ (length (now addresses) ≡ addressesLen p) × (f ≡ frontOf (stateOf (now bytes))) × (a ≡ aimOf p (stateOf (now bytes))) × (length (now bytes) ≡ stateLen) ⌝ }
+    requires { ⌜ (Looked p (viewOf p (now image) (now pointers)) (now addresses) (stateOf (now bytes)) seen) × (seen .segment < p .Z) × (0 < seen .live) ⌝ }
     ensures { λ r. ⌜
-        Chose p (viewOf p (now (image .entry)) (now (pointers .entry))) state
+        Chose p (viewOf p (now (image .entry)) (now (pointers .entry))) (stateOf (now (bytes .entry)))
         (victim p (viewOf p (now (image .entry)) (now (pointers .entry))) (now (addresses .entry)))
-        (firstRefusal (laterChecks p (viewOf p (now (image .entry)) (now (pointers .entry))) state (now (addresses .entry))
+        (firstRefusal (laterChecks p (viewOf p (now (image .entry)) (now (pointers .entry))) (stateOf (now (bytes .entry))) (now (addresses .entry))
         (victim p (viewOf p (now (image .entry)) (now (pointers .entry))) (now (addresses .entry))))) r ⌝ }
 {
     let none = Place::NEVER;
@@ -97,11 +108,11 @@ fn choose_copy(
     if first.0 == none.0 {
         return Choice::Refuse(Answer::Refused(5));
     }
-    let c = copy_rules(p, pointers, state);
+    let c = copy_rules(p, pointers, f, a);
     if let Check::Fail(answer) = c {
         return Choice::Refuse(answer);
     }
-    if has_fault(p, addresses, state, seen.outside) {
+    if has_fault(p, addresses, bytes, seen.outside) {
         return Choice::Refuse(Answer::BadZone(0));
     }
     if seen.odd {
@@ -118,13 +129,17 @@ fn choose(
     addresses: &[u8],
     compact: &[u8],
     inflight: &[u8],
-    state: State,
+    bytes: &[u8],
+    missing: u8,
+    f: Front,
+    a: Aim,
 ) -> Choice
+    requires { ⌜ (f ≡ frontOf (stateOf (now bytes))) × (a ≡ aimOf p (stateOf (now bytes))) × (missing ≡ stateOf (now bytes) .missing) × (length (now bytes) ≡ stateLen) ⌝ }
     ensures { λ r. ⌜
-        Chose p (viewOf p (now (image .entry)) (now (pointers .entry))) state
+        Chose p (viewOf p (now (image .entry)) (now (pointers .entry))) (stateOf (now (bytes .entry)))
         (victim p (viewOf p (now (image .entry)) (now (pointers .entry))) (now (addresses .entry)))
         (refusal p (mkDisk (now (image .entry)) (now (pointers .entry)))
-        (mkMemory state (now (addresses .entry)) (now (compact .entry)) (now (inflight .entry)))) r ⌝ }
+        (mkMemory (stateOf (now (bytes .entry))) (now (addresses .entry)) (now (compact .entry)) (now (inflight .entry)))) r ⌝ }
 {
     if !disk_shape::in_range(p) {
         return Choice::Refuse(Answer::Refused(1));
@@ -132,17 +147,17 @@ fn choose(
     if !mem_calls::lent_ok(p, image, pointers, addresses, compact, inflight) {
         return Choice::Refuse(Answer::Refused(2));
     }
-    if state.missing != 0 {
+    if missing != 0 {
         return Choice::Refuse(Answer::Refused(3));
     }
-    let seen = call_reclaim_victim::look(p, image, pointers, addresses, state);
+    let seen = call_reclaim_victim::look(p, image, pointers, addresses, bytes);
     if p.Z <= seen.segment {
         return Choice::Refuse(Answer::Refused(5));
     }
     if 0 < seen.live {
-        return choose_copy(p, image, pointers, addresses, state, seen);
+        return choose_copy(p, image, pointers, addresses, bytes, f, a, seen);
     }
-    if has_fault(p, addresses, state, seen.outside) {
+    if has_fault(p, addresses, bytes, seen.outside) {
         return Choice::Refuse(Answer::BadZone(0));
     }
     Choice::Clear(seen.segment)
@@ -171,19 +186,19 @@ fn reset_segment(
     pointers: &mut [u8],
     addresses: &mut [u8],
     compact: &mut [u8],
-    state: State,
+    f: Front,
     g: usize,
     count: u64,
 ) -> Change
     requires { ⌜ inRange p ≡ true ⌝ }
     requires { ⌜ (length (now pointers) ≡ pointersLen p) × (length (now addresses) ≡ addressesLen p) × (length (now compact) ≡ compactLen p) × (g < p .Z) ⌝ }
     ensures { λ r. ⌜
-        ((im fl : List ℕ)
-        → afterChange state r im (now (pointers .exit)) (now (addresses .exit)) (now (compact .exit)) fl [] ≡ outcome p (storeDisk p) count
-        (mkDisk im (now (pointers .entry))) (mkMemory state (now (addresses .entry)) (now (compact .entry)) fl) []
-        (due (resetPlan p (mkMemory state (now (addresses .entry)) (now (compact .entry)) fl) g))) ⌝ }
+        ((st : StateOf) (im fl : List ℕ)
+        → f ≡ frontOf st
+        → afterChange st r im (now (pointers .exit)) (now (addresses .exit)) (now (compact .exit)) fl [] ≡ outcome p (storeDisk p) count
+        (mkDisk im (now (pointers .entry))) (mkMemory st (now (addresses .entry)) (now (compact .entry)) fl) []
+        (due (resetPlan p (mkMemory st (now (addresses .entry)) (now (compact .entry)) fl) g))) ⌝ }
 {
-    let f = mem_rows::front_of(state);
     let made = disk_zones::reset_stores(p, pointers, g, count);
     if made.cut {
         return call_filling::cut(addresses, compact, f);
@@ -194,7 +209,7 @@ fn reset_segment(
 
 // ---- the call
 
-// A reclaim: refused, cut or done, it leaves what the definition says.
+// A reclaim: refused, cut or done, it leaves what the definition says. The state goes by value, with the bytes that say it.
 pub fn reclaim(
     p: Params,
     image: &mut [u8],
@@ -203,17 +218,32 @@ pub fn reclaim(
     compact: &mut [u8],
     inflight: &mut [u8],
     state: State,
+    bytes: &[u8],
     count: u64,
 ) -> Change
+    requires { ⌜ (state ≡ stateOf (now bytes)) × (length (now bytes) ≡ stateLen) ⌝ }
     ensures { λ r. ⌜
         afterChange state r (now (image .exit)) (now (pointers .exit)) (now (addresses .exit)) (now (compact .exit)) (now (inflight .exit)) []
         ≡ callDisk p (mkDisk (now (image .entry)) (now (pointers .entry)))
         (mkMemory state (now (addresses .entry)) (now (compact .entry)) (now (inflight .entry))) (reclaim count) ⌝ }
 {
-    let c = choose(p, image, pointers, addresses, compact, inflight, state);
+    let f = mem_rows::front_of(state);
+    let a = call_filling::aim_of(p, f);
+    let c = choose(
+        p,
+        image,
+        pointers,
+        addresses,
+        compact,
+        inflight,
+        bytes,
+        state.missing,
+        f,
+        a,
+    );
     match c {
-        Choice::Refuse(answer) => mem_rows::kept(answer, mem_rows::front_of(state)),
-        Choice::Clear(g) => reset_segment(p, pointers, addresses, compact, state, g, count),
+        Choice::Refuse(answer) => mem_rows::kept(answer, f),
+        Choice::Clear(g) => reset_segment(p, pointers, addresses, compact, f, g, count),
         Choice::Copy(q) => call_copy::copy_block(
             p,
             image,
@@ -221,7 +251,9 @@ pub fn reclaim(
             addresses,
             compact,
             inflight,
-            state,
+            bytes,
+            f,
+            a,
             q,
             count,
         ),

@@ -17,7 +17,7 @@ use Rattle.call_reclaim_victim.specs.declared.Chosen.{Chosen}
 use Rattle.call_reclaim_victim.specs.declared.Idle.{Idle}
 use borrow.Author.Tests.{le-leb, lt-leb, eq-eqb}
 use lib.Dec.{leb, eqb}
-use lib.ListN.{length}
+use lib.ListN.{length, replicate, length-replicate}
 use mathlib.Core.Bool.{Bool, false, not}
 use mathlib.Core.List.{List, map}
 use mathlib.Core.Path.{_≡_, sym, ap, _∙_, subst}
@@ -110,3 +110,11 @@ module _ (p : Params) (v : View) (tb : List ℕ) (st : State) (g : ℕ) (taken :
 pub unsealed : (p : Params) (v : View) (tb : List ℕ) → any (sealedIn p v 0) (below (p .Z)) ≡ false → victim p v tb ≡ takenAs p tb (p .Z)
 unfolding victim fewest segmentNumbers
 unsealed p v tb h = ap (λ (l : List ℕ). fewest none (map (victimOf p (placesIn p tb)) l)) (pass-none (sealedIn p v 0) (below (p .Z)) h) ∙ sym (taken-none p tb (p .Z) (omega arith))
+
+-- ---- clear marks, however many
+
+-- n bytes of them are some, and below the bound of `look_with`
+pub marks-long : (n : ℕ) → 0 < n → n < 268435456 → (0 < length {A = ℕ} (replicate n 0)) × (length {A = ℕ} (replicate n 0) < 268435456)
+marks-long n low high =
+    let e : n ≡ length {A = ℕ} (replicate n 0) = sym (length-replicate {A = ℕ} n 0) in
+    (subst (λ (x : ℕ). 0 < x) e low, subst (λ (x : ℕ). x < 268435456) e high)

@@ -7,6 +7,7 @@ ghost use lib.Dec.{eqb};
 ghost use lib.ListN.{length};
 ghost use Rattle.spec.specs.Drives.{viewOf, mkDisk, recordAt, sealedIn};
 ghost use Rattle.spec.specs.Lists.{consIf, any, below};
+ghost use Rattle.spec.specs.Memory.{stateLen, stateOf};
 ghost use Rattle.spec.specs.Params.{inRange, capacity, imageLen, pointersLen, addressesLen, placeOf, placeBlock, placeZone, placeDrive};
 ghost use Rattle.spec.specs.Reclaim.{tableFaults, flying};
 ghost use Rattle.disk_records.specs.Record.{recOf};
@@ -18,7 +19,6 @@ ghost use Rattle.law_views.specs.Views.{Whole};
 use disk_records::Record;
 use spec::Params;
 use spec::Place;
-use spec::State;
 
 // ---- the first live block that is not in flight
 
@@ -54,16 +54,16 @@ pub fn record_of(p: Params, image: &[u8], pointers: &[u8], place: Place) -> Reco
 }
 
 // 01, Reclaim: a data block is in flight while a stripe in flight holds its address with its stamp.
-fn is_flying(p: Params, image: &[u8], pointers: &[u8], state: State, place: Place) -> bool
+fn is_flying(p: Params, image: &[u8], pointers: &[u8], bytes: &[u8], place: Place) -> bool
     requires { ⌜ inRange p ≡ true ⌝ }
     requires { ⌜ Whole p (mkDisk (now image) (now pointers)) ⌝ }
-    requires { ⌜ (place .0 < p .N * p .Z * capacity p) × (isOdd p (place .0) ≡ false) ⌝ }
-    ensures { λ r. ⌜ r ≡ flying p (viewOf p (now (image .entry)) (now (pointers .entry))) state (place .0) ⌝ }
+    requires { ⌜ (place .0 < p .N * p .Z * capacity p) × (isOdd p (place .0) ≡ false) × (length (now bytes) ≡ stateLen) ⌝ }
+    ensures { λ r. ⌜ r ≡ flying p (viewOf p (now (image .entry)) (now (pointers .entry))) (stateOf (now (bytes .entry))) (place .0) ⌝ }
 {
     let r = record_of(p, image, pointers, place);
     let address = r.address;
     let stamp = r.stamp;
-    mem_state::holds(state, address, stamp)
+    mem_state::holds(bytes, address, stamp)
 }
 
 // The first place, or the second where the first is none.
@@ -82,14 +82,14 @@ fn idle_step(
     p: Params,
     image: &[u8],
     pointers: &[u8],
-    state: State,
+    bytes: &[u8],
     idle: Idle,
     place: Place,
 ) -> Idle
     requires { ⌜ inRange p ≡ true ⌝ }
     requires { ⌜ Whole p (mkDisk (now image) (now pointers)) ⌝ }
-    requires { ⌜ place .0 < p .N * p .Z * capacity p ⌝ }
-    ensures { λ r. ⌜ Stepped p (viewOf p (now (image .entry)) (now (pointers .entry))) state idle (place .0) r ⌝ }
+    requires { ⌜ (place .0 < p .N * p .Z * capacity p) × (length (now bytes) ≡ stateLen) ⌝ }
+    ensures { λ r. ⌜ Stepped p (viewOf p (now (image .entry)) (now (pointers .entry))) (stateOf (now (bytes .entry))) idle (place .0) r ⌝ }
 {
     let none = Place::NEVER;
     let first = idle.first;
@@ -103,7 +103,7 @@ fn idle_step(
     if first.0 != none.0 {
         return idle;
     }
-    if is_flying(p, image, pointers, state, place) {
+    if is_flying(p, image, pointers, bytes, place) {
         return idle;
     }
     Idle {
@@ -118,7 +118,7 @@ fn idle_run(
     image: &[u8],
     pointers: &[u8],
     marks: &[u8],
-    state: State,
+    bytes: &[u8],
     first: usize,
     lo: usize,
     hi: usize,
@@ -127,13 +127,13 @@ fn idle_run(
 ) -> Idle
     requires { ⌜ inRange p ≡ true ⌝ }
     requires { ⌜ Whole p (mkDisk (now image) (now pointers)) ⌝ }
-    requires { ⌜ (first ≤ lo) × (lo ≤ hi) × (hi ≤ first + 8 * length (now marks)) × (hi ≤ p .N * p .Z * capacity p) ⌝ }
+    requires { ⌜ (first ≤ lo) × (lo ≤ hi) × (hi ≤ first + 8 * length (now marks)) × (hi ≤ p .N * p .Z * capacity p) × (length (now bytes) ≡ stateLen) ⌝ }
     ensures { λ r. ⌜
         ((tb : List ℕ) (g : ℕ)
         → Marks tb (p .L) (now (marks .entry)) first hi
         → ((q : ℕ) → lo ≤ q → q < hi → eqb (placeZone p q) g ≡ mine)
-        → Waiting p (viewOf p (now (image .entry)) (now (pointers .entry))) state tb g lo idle
-        → Waiting p (viewOf p (now (image .entry)) (now (pointers .entry))) state tb g hi r) ⌝ }
+        → Waiting p (viewOf p (now (image .entry)) (now (pointers .entry))) (stateOf (now (bytes .entry))) tb g lo idle
+        → Waiting p (viewOf p (now (image .entry)) (now (pointers .entry))) (stateOf (now (bytes .entry))) tb g hi r) ⌝ }
 {
     if !mine {
         return idle;
@@ -145,7 +145,7 @@ fn idle_run(
         if hi <= next {
             return found;
         }
-        found = idle_step(p, image, pointers, state, found, Place(next as u32));
+        found = idle_step(p, image, pointers, bytes, found, Place(next as u32));
         q = next + 1;
     }
     found
@@ -157,7 +157,7 @@ fn idle_zones(
     image: &[u8],
     pointers: &[u8],
     marks: &[u8],
-    state: State,
+    bytes: &[u8],
     first: usize,
     end: usize,
     g: usize,
@@ -165,12 +165,12 @@ fn idle_zones(
 ) -> Idle
     requires { ⌜ inRange p ≡ true ⌝ }
     requires { ⌜ Whole p (mkDisk (now image) (now pointers)) ⌝ }
-    requires { ⌜ (first ≤ end) × (end ≤ first + 8 * length (now marks)) × (end ≤ p .N * p .Z * capacity p) ⌝ }
+    requires { ⌜ (first ≤ end) × (end ≤ first + 8 * length (now marks)) × (end ≤ p .N * p .Z * capacity p) × (length (now bytes) ≡ stateLen) ⌝ }
     ensures { λ r. ⌜
         ((tb : List ℕ)
         → Marks tb (p .L) (now (marks .entry)) first end
-        → Waiting p (viewOf p (now (image .entry)) (now (pointers .entry))) state tb g first idle
-        → Waiting p (viewOf p (now (image .entry)) (now (pointers .entry))) state tb g end r) ⌝ }
+        → Waiting p (viewOf p (now (image .entry)) (now (pointers .entry))) (stateOf (now (bytes .entry))) tb g first idle
+        → Waiting p (viewOf p (now (image .entry)) (now (pointers .entry))) (stateOf (now (bytes .entry))) tb g end r) ⌝ }
 {
     let cap = disk_shape::capacity(p);
     let mut found = idle;
@@ -184,7 +184,7 @@ fn idle_zones(
             image,
             pointers,
             marks,
-            state,
+            bytes,
             first,
             from,
             to,
@@ -205,13 +205,13 @@ fn idle_windows(
     pointers: &[u8],
     addresses: &[u8],
     marks: &mut [u8],
-    state: State,
+    bytes: &[u8],
     g: usize,
 ) -> Idle
     requires { ⌜ inRange p ≡ true ⌝ }
     requires { ⌜ Whole p (mkDisk (now image) (now pointers)) ⌝ }
-    requires { ⌜ (length (now addresses) ≡ addressesLen p) × (0 < length (now marks)) × (length (now marks) < 268435456) ⌝ }
-    ensures { λ r. ⌜ Waiting p (viewOf p (now (image .entry)) (now (pointers .entry))) state (now (addresses .entry)) g (p .N * p .Z * capacity p) r ⌝ }
+    requires { ⌜ (length (now addresses) ≡ addressesLen p) × (0 < length (now marks)) × (length (now marks) < 268435456) × (length (now bytes) ≡ stateLen) ⌝ }
+    ensures { λ r. ⌜ Waiting p (viewOf p (now (image .entry)) (now (pointers .entry))) (stateOf (now (bytes .entry))) (now (addresses .entry)) g (p .N * p .Z * capacity p) r ⌝ }
 {
     let all = call_reclaim_live::places(p);
     let step = 8 * marks.len();
@@ -223,7 +223,7 @@ fn idle_windows(
     while first < all {
         let end = call_reclaim_live::clip(0, all, first + step);
         mem_marks::mark_window(addresses, p.L, marks, first, end);
-        found = idle_zones(p, image, pointers, marks, state, first, end, g, found);
+        found = idle_zones(p, image, pointers, marks, bytes, first, end, g, found);
         first = end;
     }
     found
@@ -236,24 +236,24 @@ fn idle_of(
     pointers: &[u8],
     addresses: &[u8],
     marks: &mut [u8],
-    state: State,
+    bytes: &[u8],
     g: usize,
 ) -> Idle
     requires { ⌜ inRange p ≡ true ⌝ }
     requires { ⌜ Whole p (mkDisk (now image) (now pointers)) ⌝ }
-    requires { ⌜ (length (now addresses) ≡ addressesLen p) × (0 < length (now marks)) × (length (now marks) < 268435456) ⌝ }
+    requires { ⌜ (length (now addresses) ≡ addressesLen p) × (0 < length (now marks)) × (length (now marks) < 268435456) × (length (now bytes) ≡ stateLen) ⌝ }
     requires { ⌜ (p .N * p .Z * capacity p ≤ 8 * length (now marks) → Marks (now addresses) (p .L) (now marks) 0 (p .N * p .Z * capacity p)) ⌝ }
-    ensures { λ r. ⌜ Waiting p (viewOf p (now (image .entry)) (now (pointers .entry))) state (now (addresses .entry)) g (p .N * p .Z * capacity p) r ⌝ }
+    ensures { λ r. ⌜ Waiting p (viewOf p (now (image .entry)) (now (pointers .entry))) (stateOf (now (bytes .entry))) (now (addresses .entry)) g (p .N * p .Z * capacity p) r ⌝ }
 {
     let all = call_reclaim_live::places(p);
     if 8 * marks.len() < all {
-        return idle_windows(p, image, pointers, addresses, marks, state, g);
+        return idle_windows(p, image, pointers, addresses, marks, bytes, g);
     }
     let none = Idle {
         first: Place::NEVER,
         odd: false,
     };
-    idle_zones(p, image, pointers, marks, state, 0, all, g, none)
+    idle_zones(p, image, pointers, marks, bytes, 0, all, g, none)
 }
 
 // ---- the segment
@@ -275,12 +275,12 @@ fn look_with(
     pointers: &[u8],
     addresses: &[u8],
     marks: &mut [u8],
-    state: State,
+    bytes: &[u8],
 ) -> Chosen
     requires { ⌜ inRange p ≡ true ⌝ }
     requires { ⌜ Whole p (mkDisk (now image) (now pointers)) ⌝ }
-    requires { ⌜ (length (now addresses) ≡ addressesLen p) × (0 < length (now marks)) × (length (now marks) < 268435456) ⌝ }
-    ensures { λ r. ⌜ Looked p (viewOf p (now (image .entry)) (now (pointers .entry))) (now (addresses .entry)) state r ⌝ }
+    requires { ⌜ (length (now addresses) ≡ addressesLen p) × (0 < length (now marks)) × (length (now marks) < 268435456) × (length (now bytes) ≡ stateLen) ⌝ }
+    ensures { λ r. ⌜ Looked p (viewOf p (now (image .entry)) (now (pointers .entry))) (now (addresses .entry)) (stateOf (now (bytes .entry))) r ⌝ }
 {
     let mut live = [0usize; 1024];
     let outside = call_reclaim_live::count_windows(p, addresses, marks, &mut live);
@@ -295,7 +295,7 @@ fn look_with(
         };
     }
     let n = live[g];
-    let idle = idle_of(p, image, pointers, addresses, marks, state, g);
+    let idle = idle_of(p, image, pointers, addresses, marks, bytes, g);
     let first = idle.first;
     let odd = idle.odd;
     Chosen {
@@ -321,7 +321,7 @@ fn see_block(
     image: &[u8],
     pointers: &[u8],
     addresses: &[u8],
-    state: State,
+    bytes: &[u8],
     drive: usize,
     g: usize,
     at: usize,
@@ -330,9 +330,9 @@ fn see_block(
 ) -> Seen
     requires { ⌜ inRange p ≡ true ⌝ }
     requires { ⌜ Whole p (mkDisk (now image) (now pointers)) ⌝ }
-    requires { ⌜ (length (now addresses) ≡ addressesLen p) × (drive < p .N) × (g < p .Z) × (at ≡ placeOf p drive g 1) × (o < p .S) × (seen .live < 4294967296) ⌝ }
+    requires { ⌜ (length (now addresses) ≡ addressesLen p) × (drive < p .N) × (g < p .Z) × (at ≡ placeOf p drive g 1) × (o < p .S) × (seen .live < 4294967296) × (length (now bytes) ≡ stateLen) ⌝ }
     ensures { λ r. ⌜ r .live ≤ seen .live + 1 ⌝ }
-    ensures { λ r. ⌜ Sees p (viewOf p (now (image .entry)) (now (pointers .entry))) state (now (addresses .entry)) g (at + o) (at + o + 1) seen r ⌝ }
+    ensures { λ r. ⌜ Sees p (viewOf p (now (image .entry)) (now (pointers .entry))) (stateOf (now (bytes .entry))) (now (addresses .entry)) g (at + o) (at + o + 1) seen r ⌝ }
 {
     let record = disk_stored::record_in(p, image, true, drive, g, o);
     let address = record.address;
@@ -343,7 +343,7 @@ fn see_block(
         return seen;
     }
     let first = seen.first;
-    let idle = idle_step(p, image, pointers, state, Idle { first, odd: false }, q);
+    let idle = idle_step(p, image, pointers, bytes, Idle { first, odd: false }, q);
     let next = idle.first;
     Seen {
         live: seen.live + 1,
@@ -357,22 +357,22 @@ fn see_zone(
     image: &[u8],
     pointers: &[u8],
     addresses: &[u8],
-    state: State,
+    bytes: &[u8],
     drive: usize,
     g: usize,
     seen: Seen,
 ) -> Seen
     requires { ⌜ inRange p ≡ true ⌝ }
     requires { ⌜ Whole p (mkDisk (now image) (now pointers)) ⌝ }
-    requires { ⌜ (length (now addresses) ≡ addressesLen p) × (drive < p .N) × (g < p .Z) × (seen .live ≤ 65535 * drive) ⌝ }
+    requires { ⌜ (length (now addresses) ≡ addressesLen p) × (drive < p .N) × (g < p .Z) × (seen .live ≤ 65535 * drive) × (length (now bytes) ≡ stateLen) ⌝ }
     ensures { λ r. ⌜ r .live ≤ 65535 * (drive + 1) ⌝ }
-    ensures { λ r. ⌜ Sees p (viewOf p (now (image .entry)) (now (pointers .entry))) state (now (addresses .entry)) g (placeOf p drive g 1) (placeOf p drive g 1 + p .S) seen r ⌝ }
+    ensures { λ r. ⌜ Sees p (viewOf p (now (image .entry)) (now (pointers .entry))) (stateOf (now (bytes .entry))) (now (addresses .entry)) g (placeOf p drive g 1) (placeOf p drive g 1 + p .S) seen r ⌝ }
 {
     let at = disk_shape::place_of(p, drive, g, 1).0 as usize;
     let mut found = seen;
     let mut o = 0;
     while o < p.S {
-        found = see_block(p, image, pointers, addresses, state, drive, g, at, o, found);
+        found = see_block(p, image, pointers, addresses, bytes, drive, g, at, o, found);
         o += 1;
     }
     found
@@ -384,13 +384,13 @@ fn see_segment(
     image: &[u8],
     pointers: &[u8],
     addresses: &[u8],
-    state: State,
+    bytes: &[u8],
     g: usize,
 ) -> Seen
     requires { ⌜ inRange p ≡ true ⌝ }
     requires { ⌜ Whole p (mkDisk (now image) (now pointers)) ⌝ }
-    requires { ⌜ (length (now addresses) ≡ addressesLen p) × (g < p .Z) ⌝ }
-    ensures { λ r. ⌜ Vouched p (viewOf p (now (image .entry)) (now (pointers .entry))) state (now (addresses .entry)) g (p .N * p .Z * capacity p) r ⌝ }
+    requires { ⌜ (length (now addresses) ≡ addressesLen p) × (g < p .Z) × (length (now bytes) ≡ stateLen) ⌝ }
+    ensures { λ r. ⌜ Vouched p (viewOf p (now (image .entry)) (now (pointers .entry))) (stateOf (now (bytes .entry))) (now (addresses .entry)) g (p .N * p .Z * capacity p) r ⌝ }
 {
     let mut found = Seen {
         live: 0,
@@ -398,7 +398,7 @@ fn see_segment(
     };
     let mut d = 0;
     while d < p.N {
-        found = see_zone(p, image, pointers, addresses, state, d, g, found);
+        found = see_zone(p, image, pointers, addresses, bytes, d, g, found);
         d += 1;
     }
     found
@@ -416,11 +416,11 @@ pub struct Told {
 
 // The sealed segment with fewest entries in the table, if each of its entries is a live block by its record, and the others have as many. Where
 // many records would have to be read it is not looked at.
-fn look_by_records(p: Params, image: &[u8], pointers: &[u8], addresses: &[u8], state: State) -> Told
+fn look_by_records(p: Params, image: &[u8], pointers: &[u8], addresses: &[u8], bytes: &[u8]) -> Told
     requires { ⌜ inRange p ≡ true ⌝ }
     requires { ⌜ Whole p (mkDisk (now image) (now pointers)) ⌝ }
-    requires { ⌜ length (now addresses) ≡ addressesLen p ⌝ }
-    ensures { λ r. ⌜ (r .sure ≡ true → Looked p (viewOf p (now (image .entry)) (now (pointers .entry))) (now (addresses .entry)) state (chosenOf r)) ⌝ }
+    requires { ⌜ (length (now addresses) ≡ addressesLen p) × (length (now bytes) ≡ stateLen) ⌝ }
+    ensures { λ r. ⌜ (r .sure ≡ true → Looked p (viewOf p (now (image .entry)) (now (pointers .entry))) (now (addresses .entry)) (stateOf (now (bytes .entry))) (chosenOf r)) ⌝ }
 {
     let none = Place::NEVER;
     let mut used = [0usize; 1024];
@@ -454,7 +454,7 @@ fn look_by_records(p: Params, image: &[u8], pointers: &[u8], addresses: &[u8], s
             outside: outside != 0,
         };
     }
-    let seen = see_segment(p, image, pointers, addresses, state, g);
+    let seen = see_segment(p, image, pointers, addresses, bytes, g);
     let first = seen.first;
     if seen.live != n {
         return Told {
@@ -476,36 +476,36 @@ fn look_by_records(p: Params, image: &[u8], pointers: &[u8], addresses: &[u8], s
 }
 
 // With marks for 65,536 places.
-fn look_small(p: Params, image: &[u8], pointers: &[u8], addresses: &[u8], state: State) -> Chosen
+fn look_small(p: Params, image: &[u8], pointers: &[u8], addresses: &[u8], bytes: &[u8]) -> Chosen
     requires { ⌜ inRange p ≡ true ⌝ }
     requires { ⌜ Whole p (mkDisk (now image) (now pointers)) ⌝ }
-    requires { ⌜ length (now addresses) ≡ addressesLen p ⌝ }
-    ensures { λ r. ⌜ Looked p (viewOf p (now (image .entry)) (now (pointers .entry))) (now (addresses .entry)) state r ⌝ }
+    requires { ⌜ (length (now addresses) ≡ addressesLen p) × (length (now bytes) ≡ stateLen) ⌝ }
+    ensures { λ r. ⌜ Looked p (viewOf p (now (image .entry)) (now (pointers .entry))) (now (addresses .entry)) (stateOf (now (bytes .entry))) r ⌝ }
 {
     let mut marks = [0u8; 8192];
-    look_with(p, image, pointers, addresses, &mut marks, state)
+    look_with(p, image, pointers, addresses, &mut marks, bytes)
 }
 
 // With marks for 524,288 places.
-fn look_large(p: Params, image: &[u8], pointers: &[u8], addresses: &[u8], state: State) -> Chosen
+fn look_large(p: Params, image: &[u8], pointers: &[u8], addresses: &[u8], bytes: &[u8]) -> Chosen
     requires { ⌜ inRange p ≡ true ⌝ }
     requires { ⌜ Whole p (mkDisk (now image) (now pointers)) ⌝ }
-    requires { ⌜ length (now addresses) ≡ addressesLen p ⌝ }
-    ensures { λ r. ⌜ Looked p (viewOf p (now (image .entry)) (now (pointers .entry))) (now (addresses .entry)) state r ⌝ }
+    requires { ⌜ (length (now addresses) ≡ addressesLen p) × (length (now bytes) ≡ stateLen) ⌝ }
+    ensures { λ r. ⌜ Looked p (viewOf p (now (image .entry)) (now (pointers .entry))) (now (addresses .entry)) (stateOf (now (bytes .entry))) r ⌝ }
 {
     let mut marks = [0u8; 65536];
-    look_with(p, image, pointers, addresses, &mut marks, state)
+    look_with(p, image, pointers, addresses, &mut marks, bytes)
 }
 
 // With marks for 2,097,152 places.
-fn look_huge(p: Params, image: &[u8], pointers: &[u8], addresses: &[u8], state: State) -> Chosen
+fn look_huge(p: Params, image: &[u8], pointers: &[u8], addresses: &[u8], bytes: &[u8]) -> Chosen
     requires { ⌜ inRange p ≡ true ⌝ }
     requires { ⌜ Whole p (mkDisk (now image) (now pointers)) ⌝ }
-    requires { ⌜ length (now addresses) ≡ addressesLen p ⌝ }
-    ensures { λ r. ⌜ Looked p (viewOf p (now (image .entry)) (now (pointers .entry))) (now (addresses .entry)) state r ⌝ }
+    requires { ⌜ (length (now addresses) ≡ addressesLen p) × (length (now bytes) ≡ stateLen) ⌝ }
+    ensures { λ r. ⌜ Looked p (viewOf p (now (image .entry)) (now (pointers .entry))) (now (addresses .entry)) (stateOf (now (bytes .entry))) r ⌝ }
 {
     let mut marks = [0u8; 262144];
-    look_with(p, image, pointers, addresses, &mut marks, state)
+    look_with(p, image, pointers, addresses, &mut marks, bytes)
 }
 
 // Whether some segment is sealed.
@@ -526,11 +526,11 @@ fn any_sealed(p: Params, pointers: &[u8]) -> bool
 
 // 01, Reclaim: the sealed segment with fewest live blocks, lowest zone on a tie, and its first live block not in flight. Where none is sealed
 // the table is not looked at.
-pub fn look(p: Params, image: &[u8], pointers: &[u8], addresses: &[u8], state: State) -> Chosen
+pub fn look(p: Params, image: &[u8], pointers: &[u8], addresses: &[u8], bytes: &[u8]) -> Chosen
     requires { ⌜ inRange p ≡ true ⌝ }
     requires { ⌜ Whole p (mkDisk (now image) (now pointers)) ⌝ }
-    requires { ⌜ length (now addresses) ≡ addressesLen p ⌝ }
-    ensures { λ r. ⌜ Looked p (viewOf p (now (image .entry)) (now (pointers .entry))) (now (addresses .entry)) state r ⌝ }
+    requires { ⌜ (length (now addresses) ≡ addressesLen p) × (length (now bytes) ≡ stateLen) ⌝ }
+    ensures { λ r. ⌜ Looked p (viewOf p (now (image .entry)) (now (pointers .entry))) (now (addresses .entry)) (stateOf (now (bytes .entry))) r ⌝ }
 {
     if !any_sealed(p, pointers) {
         return Chosen {
@@ -543,17 +543,17 @@ pub fn look(p: Params, image: &[u8], pointers: &[u8], addresses: &[u8], state: S
     }
     let n = call_reclaim_live::places(p);
     if n <= 65536 {
-        return look_small(p, image, pointers, addresses, state);
+        return look_small(p, image, pointers, addresses, bytes);
     }
     if n <= 524288 {
-        return look_large(p, image, pointers, addresses, state);
+        return look_large(p, image, pointers, addresses, bytes);
     }
     if n <= 2097152 {
-        return look_huge(p, image, pointers, addresses, state);
+        return look_huge(p, image, pointers, addresses, bytes);
     }
-    let told = look_by_records(p, image, pointers, addresses, state);
+    let told = look_by_records(p, image, pointers, addresses, bytes);
     if !told.sure {
-        return look_huge(p, image, pointers, addresses, state);
+        return look_huge(p, image, pointers, addresses, bytes);
     }
     let first = told.first;
     Chosen {

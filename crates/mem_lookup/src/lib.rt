@@ -34,7 +34,7 @@ pub fn lookup(p: Params, gone: u8, addresses: &[u8], a: usize) -> Found
     ensures { λ r. ⌜ foundOf r ≡ lookup p gone (now (addresses .entry)) a ⌝ }
 {
     let q = mem_tables::place_at(addresses, a);
-    if q.0 == 0xffff_ffff {
+    if q.0 == Place::NEVER.0 {
         return Found::Nowhere;
     }
     if bits_masks::has_drive(gone, disk_shape::place_drive(p, q)) {

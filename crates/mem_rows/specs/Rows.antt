@@ -5,9 +5,7 @@ use mathlib.Core.Path.{_≡_, refl, sym, ap, ap₂, _∙_}
 use Prim.Native.Nat.{ℕ, suc, _+_, _*_, _≤_, _<_}
 use lib.Dec.{ltb}
 use lib.ListN.{length, getD, take, drop, set, replicate, length-set}
-use lib.Seq.{take-all, take-suc-set, set-split, set-getD, set-set, getD-set-same}
-use native.Mathlib.Nat.{add-zero}
-use native.Mathlib.Numerals.{add-one}
+use lib.Seq.{set-split, set-getD, set-set, getD-set-same}
 use native.Mathlib.Omega.{arith}
 use borrow.Author.Tests.{lt-ltb}
 use Rattle.mem_rows.specs.declared.Row.{Row}
@@ -21,7 +19,6 @@ use Rattle.spec.specs.Calls.{After, mkAfter}
 use Rattle.spec.specs.Drives.{Disk, mkDisk}
 use Rattle.spec.specs.Memory.{mkMemory, mkState, slotCount, cell, zeroState, stripeIn, filledIn, landedIn}
 use Rattle.law_basic.specs.Splice.{length-part, length-splice, part-splice, splice-part, splice-inner, splice-again}
-use Rattle.law_basic.specs.Turns.{part-more}
 
 -- 01, Write: eighth i of the state
 unfoldable pub rowOf : State → ℕ → Row
@@ -105,17 +102,6 @@ pub record RowSized (r : Row) : Type 0 where
 pub eighth-fits : (i : ℕ) (l : List ℕ) → i < 8 → length l ≡ 64 → cell i 0 + 8 ≤ length l
 unfolding cell
 eighth-fits i l h e = omega arith
-
--- one more element of an eighth taken
-pub row-step : (a m : List ℕ) (b k v : ℕ) → k < length a → b + k < length m → take k a ≡ part b k m → v ≡ getD m (b + k) 0 → take (k + 1) (set a k v) ≡ part b (k + 1) m
-row-step a m b k v h g e f =
-    ap (λ (x : ℕ). take x (set a k v)) (add-one k) ∙ take-suc-set a k v h ∙ ap₂ (λ (x : List ℕ) (y : ℕ). x ++ (y ∷ [])) e f ∙ part-more m b k g
-
--- all eight
-pub row-taken : (a m : List ℕ) (i k : ℕ) → k ≡ 8 → length a ≡ 8 → take k a ≡ part (8 * i) k m → a ≡ part (cell i 0) 8 m
-unfolding cell
-row-taken a m i k h e f =
-    sym (take-all k a (omega arith)) ∙ f ∙ ap₂ (λ (x n : ℕ). part x n m) (sym (add-zero (8 * i))) h
 
 -- ---- one number
 

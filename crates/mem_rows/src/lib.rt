@@ -1,7 +1,6 @@
 // A stripe in flight by value, and what a call changes in the state: the numbers in front of its arrays, and one eighth of them (01, Write; Landing).
 ghost use mathlib.Core.Path.{_≡_};
-ghost use Prim.Native.Nat.{_<_};
-ghost use Rattle.mem_rows.specs.Rows.{rowOf, noRow, frontOf, keptAs};
+ghost use Rattle.mem_rows.specs.Rows.{noRow, frontOf, keptAs};
 use spec::Answer;
 use spec::Serial;
 use spec::Stamp;
@@ -55,33 +54,6 @@ pub fn front_of(state: State) -> Front
         next: state.next,
         numbers,
         filled,
-    }
-}
-
-// Eighth i of a state.
-pub fn row_of(state: State, i: usize) -> Row
-    requires { ⌜ i < 8 ⌝ }
-    ensures { λ r. ⌜ r ≡ rowOf state i ⌝ }
-{
-    let mut addresses = [0u64; 8];
-    let mut stamps = [0u64; 8];
-    let mut offsets = [0u32; 8];
-    let at = 8 * i;
-    let mut k = 0;
-    while k < 8 {
-        addresses[k] = state.addresses[at + k];
-        stamps[k] = state.stamps[at + k];
-        offsets[k] = state.offsets[at + k];
-        k += 1;
-    }
-    Row {
-        number: state.numbers[i],
-        filled: state.filled[i],
-        writes: state.writes[i],
-        landed: state.landed[i],
-        addresses,
-        stamps,
-        offsets,
     }
 }
 

@@ -1,16 +1,14 @@
-// The state between calls: questions, ranges, and changes of a part (01, Write; Landing; Refusals, 9). Each function equals the definition
-// that its contract names.
+// The state between calls: questions to it and to its bytes, and states with nothing in flight (01, Write; Landing; Reclaim). Each function
+// equals the definition that its contract names.
 ghost use mathlib.Core.Path.{_≡_};
 ghost use mathlib.Core.Bool.{not, _&&_};
-ghost use Prim.Native.Nat.{_^_, _<_};
-ghost use lib.Dec.{ltb, eqb};
+ghost use Prim.Native.Nat.{_<_};
+ghost use lib.Dec.{eqb};
 ghost use lib.ListN.{length};
-ghost use Rattle.spec.specs.Lists.{all};
-ghost use Rattle.spec.specs.Params.{dataCount};
-ghost use Rattle.spec.specs.Memory.{slots, stripeIn, openSegment, isFree, inFlight, holdsAt, holds, slotOk, stateOk, idleState, zeroState};
+ghost use Rattle.mem_state.specs.Flights.{hasAt, heldIn};
+ghost use Rattle.spec.specs.Memory.{stripeIn, openSegment, isFree, inFlight, holds, idleState, zeroState, stateLen, stateOf};
 ghost use Rattle.spec.specs.Landing.{slotOf};
 use spec::Address;
-use spec::Params;
 use spec::Serial;
 use spec::Stamp;
 use spec::State;
@@ -25,16 +23,6 @@ fn whole(n: u32) -> usize
     ensures { λ r. ⌜ r ≡ n ⌝ }
 {
     n as usize
-}
-
-// The data positions of a stripe.
-fn data_count(p: Params) -> usize
-    ensures { λ r. ⌜ r ≡ dataCount p ⌝ }
-{
-    if p.N == 0 {
-        return 0;
-    }
-    p.N - 1
 }
 
 // ---- questions about eighth i
@@ -97,38 +85,6 @@ pub fn slot_of(state: State, stripe: usize) -> usize
     8
 }
 
-// Cell j holds the address with the stamp.
-fn is_held(state: State, j: usize, address: Address, stamp: Stamp) -> bool
-    requires { ⌜ j < 64 ⌝ }
-    ensures { λ r. ⌜ r ≡ holdsAt state (address .0) (stamp .0) j ⌝ }
-{
-    let i = j / 8;
-    let f = wide(state.filled[i]);
-    if f <= j % 8 {
-        return false;
-    }
-    let a = state.addresses[j];
-    if a != address.0 {
-        return false;
-    }
-    let t = state.stamps[j];
-    t == stamp.0
-}
-
-// 01, Reclaim: a stripe in flight holds the address with the stamp.
-pub fn holds(state: State, address: Address, stamp: Stamp) -> bool
-    ensures { λ r. ⌜ r ≡ holds state (address .0) (stamp .0) ⌝ }
-{
-    let mut j = 0;
-    while j < 64 {
-        if is_held(state, j, address, stamp) {
-            return true;
-        }
-        j += 1;
-    }
-    false
-}
-
 // The open segment; 0 if there is none.
 pub fn open_segment(state: State) -> usize
     ensures { λ r. ⌜ r ≡ openSegment state ⌝ }
@@ -140,100 +96,56 @@ pub fn open_segment(state: State) -> usize
     g - 1
 }
 
-// ---- ranges (01, Refusals, 9)
+// ---- questions to the state's bytes
 
-fn below_power(n: u8, k: usize) -> bool
-    ensures { λ r. ⌜ r ≡ ltb n (2 ^ k) ⌝ }
+// Cell j has the address with the stamp.
+fn is_cell(bytes: &[u8], j: usize, address: Address, stamp: Stamp) -> bool
+    requires { ⌜ (length (now bytes) ≡ stateLen) × (j < 64) ⌝ }
+    ensures { λ r. ⌜ r ≡ hasAt (stateOf (now (bytes .entry))) (address .0) (stamp .0) j ⌝ }
 {
-    if 8 <= k {
-        return true;
+    let a = bits_le::read_le64(bytes, 82 + 8 * j);
+    if a != address.0 {
+        return false;
     }
-    (n as u32) < (1u32 << k)
+    let t = bits_le::read_le64(bytes, 594 + 8 * j);
+    t == stamp.0
 }
 
-fn slot_ok(p: Params, state: State, i: usize) -> bool
-    requires { ⌜ i < 8 ⌝ }
-    ensures { λ r. ⌜ r ≡ slotOk p state i ⌝ }
+// Eighth i holds the address with the stamp.
+fn is_held(bytes: &[u8], i: usize, address: Address, stamp: Stamp) -> bool
+    requires { ⌜ (length (now bytes) ≡ stateLen) × (i < 8) ⌝ }
+    ensures { λ r. ⌜ r ≡ heldIn (stateOf (now (bytes .entry))) (address .0) (stamp .0) i ⌝ }
 {
-    let n = data_count(p);
-    let numbers = state.numbers;
-    let s = whole(numbers[i]);
-    if p.S <= s {
-        return false;
+    let f = wide(bytes[58 + i]);
+    let mut k = 0;
+    while k < 8 {
+        if f <= k {
+            return false;
+        }
+        if is_cell(bytes, 8 * i + k, address, stamp) {
+            return true;
+        }
+        k += 1;
     }
-    let filled = state.filled;
-    let f = wide(filled[i]);
-    if n < f {
-        return false;
-    }
-    let writes = state.writes;
-    let w = writes[i];
-    if !below_power(w, n) {
-        return false;
-    }
-    let landed = state.landed;
-    let m = landed[i];
-    below_power(m, p.N)
+    false
 }
 
-fn slots_ok(p: Params, state: State) -> bool
-    ensures { λ r. ⌜ r ≡ all (slotOk p state) slots ⌝ }
+// 01, Reclaim: a stripe in flight holds the address with the stamp. Of an eighth only the positions filled are looked at.
+pub fn holds(bytes: &[u8], address: Address, stamp: Stamp) -> bool
+    requires { ⌜ length (now bytes) ≡ stateLen ⌝ }
+    ensures { λ r. ⌜ r ≡ holds (stateOf (now (bytes .entry))) (address .0) (stamp .0) ⌝ }
 {
     let mut i = 0;
     while i < 8 {
-        if !slot_ok(p, state, i) {
-            return false;
+        if is_held(bytes, i, address, stamp) {
+            return true;
         }
         i += 1;
     }
-    true
+    false
 }
 
-fn offsets_ok(p: Params, state: State) -> bool
-    ensures { λ r. ⌜ r ≡ all (λ o. ltb o (p .S)) (state .offsets) ⌝ }
-{
-    let offsets = state.offsets;
-    let mut j = 0;
-    while j < 64 {
-        let o = whole(offsets[j]);
-        if p.S <= o {
-            return false;
-        }
-        j += 1;
-    }
-    true
-}
-
-// Each number of the state is in its range.
-pub fn state_ok(p: Params, state: State) -> bool
-    ensures { λ r. ⌜ r ≡ stateOk p state ⌝ }
-{
-    if state.live != 1 {
-        return false;
-    }
-    let gone = state.missing;
-    if !below_power(gone, p.N) {
-        return false;
-    }
-    let lost = bits_masks::count(gone);
-    if 1 < lost {
-        return false;
-    }
-    let opened = whole(state.opened);
-    if p.Z < opened {
-        return false;
-    }
-    let next = whole(state.next);
-    if p.S < next {
-        return false;
-    }
-    if !slots_ok(p, state) {
-        return false;
-    }
-    offsets_ok(p, state)
-}
-
-// ---- the state with a part changed
+// ---- a state with nothing in flight
 
 // Nothing in flight.
 pub fn idle_state(

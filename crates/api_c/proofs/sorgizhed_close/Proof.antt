@@ -41,12 +41,14 @@ decode-requires : tie.Need-decode-requires
 decode-requires c κs = c .before .if1 .left ∙ c .before .before .state-len .ensures
 
 close-requires : tie.Need-close-requires
-close-requires c κs = search needs
+close-requires c κs =
+    let d = c .before .before in
+    (d .decode .ensures, d .before .before .if1 .left ∙ d .before .before .before .state-len .ensures)
 
 apply-requires : tie.Need-apply-requires
 apply-requires c κs =
-    let if1 = c .before .before .before .before .before .before .before .if1 in
-    let state-len = c .before .before .before .before .before .before .before .before .state-len in
+    let if1 = c .before .before .before .before .before .before .before .before .if1 in
+    let state-len = c .before .before .before .before .before .before .before .before .before .state-len in
     if1 .left ∙ state-len .ensures
 
 same-length : tie.Need-same-length
@@ -58,12 +60,12 @@ same-length-2 c = search needs
 returns-2 : tie.Need-returns-2
 unfolding lentDisk lentMemory
 returns-2 c n =
-    let a = c .before .before .before .before .before .before .before .before .before .before .before .before .before .before .before .before .before .before .args in
+    let a = c .before .before .before .before .before .before .before .before .before .before .before .before .before .before .before .before .before .before .before .args in
     let apply = c .before .before .apply in
     let close′ = c .before .before .before .before .before .before .close in
-    let decode = c .before .before .before .before .before .before .before .before .decode in
-    let if1 = c .before .before .before .before .before .before .before .before .before .before .if1 in
-    let state-len = c .before .before .before .before .before .before .before .before .before .before .before .state-len in
+    let decode = c .before .before .before .before .before .before .before .before .before .decode in
+    let if1 = c .before .before .before .before .before .before .before .before .before .before .before .if1 in
+    let state-len = c .before .before .before .before .before .before .before .before .before .before .before .before .state-len in
     let p : Params = mkParams (a .n) (a .b) (a .z) (a .s) (a .g) (a .l) in
     let l : Lent = lending (a .image .now) (a .pointers .now) (a .addresses .now) (a .compact .now) (a .inflight .now) (a .state .now) in
     let w = close′ .last in

@@ -41,12 +41,14 @@ decode-requires : tie.Need-decode-requires
 decode-requires c κs = c .before .if1 .left ∙ c .before .before .state-len .ensures
 
 reclaim-requires : tie.Need-reclaim-requires
-reclaim-requires c κs = search needs
+reclaim-requires c κs =
+    let d = c .before .before .before .before .before .before in
+    (d .decode .ensures, d .before .before .if1 .left ∙ d .before .before .before .state-len .ensures)
 
 apply-requires : tie.Need-apply-requires
 apply-requires c κs =
-    let if1 = c .before .before .before .before .before .before .before .before .before .before .before .before .before .before .before .before .before .before .before .if1 in
-    let state-len = c .before .before .before .before .before .before .before .before .before .before .before .before .before .before .before .before .before .before .before .before .state-len in
+    let if1 = c .before .before .before .before .before .before .before .before .before .before .before .before .before .before .before .before .before .before .before .before .if1 in
+    let state-len = c .before .before .before .before .before .before .before .before .before .before .before .before .before .before .before .before .before .before .before .before .before .state-len in
     if1 .left ∙ state-len .ensures
 
 same-length : tie.Need-same-length
@@ -73,14 +75,14 @@ returns-2 c =
     let apply = c .before .before .apply in
     let reclaim′ = c .before .before .before .before .before .before .before .before .before .before .before .before .before .before .reclaim in
     let at = c .before .before .before .before .before .before .before .before .before .before .before .before .before .before .before .before .before in
-    let decode = c .before .before .before .before .before .before .before .before .before .before .before .before .before .before .before .before .before .before .before .before .decode in
-    let if1 = c .before .before .before .before .before .before .before .before .before .before .before .before .before .before .before .before .before .before .before .before .before .before .if1 in
+    let decode = c .before .before .before .before .before .before .before .before .before .before .before .before .before .before .before .before .before .before .before .before .before .decode in
+    let if1 = c .before .before .before .before .before .before .before .before .before .before .before .before .before .before .before .before .before .before .before .before .before .before .before .if1 in
     let a =
     at
-    .before .before .before .before .before .before .before .before .before .before .before .before .before .args in
+    .before .before .before .before .before .before .before .before .before .before .before .before .before .before .args in
     let state-len =
     at
-    .before .before .before .before .before .before .state-len in
+    .before .before .before .before .before .before .before .state-len in
     let p : Params = mkParams (a .n) (a .b) (a .z) (a .s) (a .g) (a .l) in
     let l : Lent = lending (a .image .now) (a .pointers .now) (a .addresses .now) (a .compact .now) (a .inflight .now) (a .state .now) in
     let w = reclaim′ .last in

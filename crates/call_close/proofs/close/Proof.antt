@@ -1,6 +1,7 @@
--- `close`: the front and the filling stripe's eighth are the state's; then refused or done. Assumes nothing.
+-- `close`: the front and the filling stripe's eighth are the state's, which the bytes say; then refused or done. Assumes nothing.
 use Prim.Native.Nat.{_≤_}
 use Rattle.mem_calls.specs.Left.{checked}
+use Rattle.mem_codec.specs.Changes.{read-sized}
 use Rattle.call_close.specs.Ends.{close-refused, close-done}
 use Rattle.call_close.specs.Order.{refusal}
 use Rattle.call_close.specs.Ready.{ready, slot-low, slot-open}
@@ -8,29 +9,22 @@ use Rattle.spec.specs.Drives.{Disk, mkDisk}
 use Rattle.spec.specs.Lists.Opt.{none, some}
 use Rattle.spec.specs.Memory.{Memory, mkMemory, filledIn, fillingSlot}
 use Rattle.spec.specs.Params.{dataCount}
+use Rattle.spec.specs.declared.State.{State}
 use Rattle.call_filling.specs.Aims.{front-filling}
 use Rattle.call_filling.specs.Entries.{row-filled}
 use Rattle.law_basic.specs.Geometry.{ranged, data-count-high}
-use Rattle.mem_rows.specs.Rows.{Sized}
+use Rattle.mem_rows.specs.Rows.{Sized, rowOf}
 use Rattle.mem_rows.specs.declared.Change.{Change}
 use Rattle.mem_rows.specs.declared.Row.{Row}
 use borrow.Author.Needs.{needs}
-use mathlib.Core.Path.{_≡_, refl, sym, ap, _∙_}
+use mathlib.Core.Path.{_≡_, refl, sym, ap, _∙_, subst}
 use native.Mathlib.Omega.{arith}
 use Rattle.call_close.proofs.close.Statement.{statement}
 use Rattle.call_close.proofs.close.Tie as tie
 
 -- the arrays have their lengths
 sized : (c : tie.Start) → Sized (c .args .state)
-sized c = record {
-  numbers = search needs;
-  filled = search needs;
-  writes = search needs;
-  landed = search needs;
-  addresses = search needs;
-  stamps = search (needs, c .good .1 .1 .1 .1 .1 .1 .0 .1 .1 .1 .1 .1 .1 .1 .1 .1);
-  offsets = search (needs, c .good .1 .1 .1 .1 .1 .1 .0 .1 .1 .1 .1 .1 .1 .1 .1 .1);
-}
+sized c = subst Sized (sym (c .pre .0)) (read-sized (c .args .bytes .now))
 
 abbrev disk : (c : tie.Start) → Disk
 disk c = mkDisk (c .args .image .now) (c .args .pointers .now)
@@ -41,10 +35,10 @@ memory c = mkMemory (c .args .state) (c .args .addresses .now) (c .args .compact
 -- the eighth is the state's
 slot-of :
     (c : tie.After-filling-slot)
-    → c .filling-slot .result ≡ fillingSlot (c .before .before .before .before .before .before .before .args .p)
-    (c .before .before .before .before .before .before .before .args .state)
+    → c .filling-slot .result ≡ fillingSlot (c .before .before .before .before .before .before .before .before .args .p)
+    (c .before .before .before .before .before .before .before .before .args .state)
 slot-of c =
-    let args = c .before .before .before .before .before .before .before .args in
+    let args = c .before .before .before .before .before .before .before .before .args in
     c .filling-slot .ensures ∙ front-filling (args .p) (args .state) (c .before .front-of .result) (c .before .front-of .ensures)
 
 front-of-requires : tie.Need-front-of-requires
@@ -54,7 +48,22 @@ filling-slot-requires : tie.Need-filling-slot-requires
 filling-slot-requires c κs = search needs
 
 checks-requires : tie.Need-checks-requires
-checks-requires c κs = slot-of (c .before)
+checks-requires c κs =
+    let s = c .before .before .before .before .before .before .before .before .before in
+    let e = s .pre .0 in
+    (slot-of (c .before) ∙ ap (fillingSlot (s .args .p)) e, ap (λ (x : State). x .missing) e, s .pre .1)
+
+-- the refusal is that of the state
+abbrev start : tie.After-checks → tie.Start
+start c =
+    let at = c .before .before .before .before .before .before .before .before .before .before in
+    at
+
+checked-is : (c : tie.After-checks) → checked (c .checks .result) ≡ refusal (start c .args .p) (disk (start c)) (memory (start c))
+checked-is c =
+    let s = start c in
+    let a = s .args in
+    subst (λ (x : State). checked (c .checks .result) ≡ refusal (a .p) (disk s) (mkMemory x (a .addresses .now) (a .compact .now) (a .inflight .now))) (sym (s .pre .0)) (c .checks .ensures)
 
 enum-known-c : tie.Need-enum-known-c
 enum-known-c c = search needs
@@ -67,61 +76,65 @@ same-length c = search needs
 
 returns : tie.Need-returns
 returns c =
-    let s = c .before .before .before .before .before .before .before .before .before .before .before .before .before in
-    let checks = c .before .before .before .before .checks in
+    let s = c .before .before .before .before .before .before .before .before .before .before .before .before .before .before in
+    let at = c .before .before .before .before in
     let q = c .before .before .c .given in
-    λ n. close-refused (s .args .p) (disk s) (memory s) (c .kept .result) (sym (checks .ensures) ∙ ap checked (q .1) ∙ ap (λ (x : Change). some (x .answer)) (sym (c .kept .ensures))) n
+    λ n. close-refused (s .args .p) (disk s) (memory s) (c .kept .result) (sym (checked-is (at)) ∙ ap checked (q .1) ∙ ap (λ (x : Change). some (x .answer)) (sym (c .kept .ensures))) n
 
 enum-told : tie.Need-enum-told
 enum-told c = search needs
 
-row-of-requires : tie.Need-row-of-requires
-row-of-requires c κs =
-    let s = c .before .before .before .before .before .before .before .before .before .before .before in
-    let checks = c .before .before .checks in
+-- no check holds
+passed : (c : tie.After-enum-told) → refusal (c .before .before .before .before .before .before .before .before .before .before .before .before .args .p) (disk (c .before .before .before .before .before .before .before .before .before .before .before .before)) (memory (c .before .before .before .before .before .before .before .before .before .before .before .before)) ≡ none
+passed c =
+    let at = c .before .before in
+    sym (checked-is (at)) ∙ ap checked (c .enum-told .given .1)
+
+row-at-requires : tie.Need-row-at-requires
+row-at-requires c κs =
+    let s = c .before .before .before .before .before .before .before .before .before .before .before .before in
     let at = c .before .before .before .before in
-    let filling-slot = c .before .before .before .before .filling-slot in
-    let none! : refusal (s .args .p) (disk s) (memory s) ≡ none = sym (checks .ensures) ∙ ap checked (c .enum-told .given .1) in
-    slot-low (s .args .p) (s .args .state) (filling-slot .result) (slot-of (at)) (ready (s .args .p) (disk s) (memory s) none! .filling)
+    (s .pre .1, slot-low (s .args .p) (s .args .state) (at .filling-slot .result) (slot-of (at)) (ready (s .args .p) (disk s) (memory s) (passed c) .filling))
+
+-- the row is the state's
+row-is : (c : tie.After-row-at) → c .row-at .result ≡ rowOf (c .before .before .before .before .before .before .before .before .before .before .before .before .before .args .state) (c .before .before .before .before .before .filling-slot .result)
+row-is c =
+    let s = c .before .before .before .before .before .before .before .before .before .before .before .before .before in
+    let i = c .before .before .before .before .before .filling-slot .result in
+    c .row-at .ensures ∙ ap (λ (x : State). rowOf x i) (sym (s .pre .0))
 
 pad-all-requires : tie.Need-pad-all-requires
 pad-all-requires c κs =
-    let s = c .before .before .before .before .before .before .before .before .before .before .before .before .before in
-    let enum-told = c .before .before .enum-told in
-    let checks = c .before .before .before .before .checks in
+    let s = c .before .before .before .before .before .before .before .before .before .before .before .before .before .before in
     let at = c .before .before .before .before .before .before in
-    let filling-slot = c .before .before .before .before .before .before .filling-slot in
-    let none! : refusal (s .args .p) (disk s) (memory s) ≡ none = sym (checks .ensures) ∙ ap checked (enum-told .given .1) in
-    let r = ready (s .args .p) (disk s) (memory s) none! in
-    let i = filling-slot .result in
-    let e : c .before .row-of .result .filled ≡ filledIn (s .args .state) i = ap (λ (x : Row). x .filled) (c .before .row-of .ensures) ∙ row-filled (s .args .state) i in (
+    let r = ready (s .args .p) (disk s) (memory s) (passed (c .before .before)) in
+    let i = at .filling-slot .result in
+    let e : c .before .row-at .result .filled ≡ filledIn (s .args .state) i = ap (λ (x : Row). x .filled) (row-is (c .before)) ∙ row-filled (s .args .state) i in (
       r .ranged,
       (slot-low (s .args .p) (s .args .state) i (slot-of (at)) (r .filling), omega (arith, e, slot-open (s .args .p) (s .args .state) i (slot-of (at)) (r .filling)), r .inflight-long),
     )
 
-cast-t20 : tie.Need-cast-t20
-cast-t20 c = search needs
+cast-t21 : tie.Need-cast-t21
+cast-t21 c = search needs
 
 same-length-2 : tie.Need-same-length-2
 same-length-2 c = search needs
 
 returns-2 : tie.Need-returns-2
 returns-2 c =
-    let s = c .before .before .before .before .before .before .before .before .before .before .before .before .before .before .before .before .before .before .before in
+    let s = c .before .before .before .before .before .before .before .before .before .before .before .before .before .before .before .before .before .before .before .before in
     let q = c .before .before .before .before .before .pad-all in
-    let row-of = c .before .before .before .before .before .before .before .row-of in
-    let enum-told = c .before .before .before .before .before .before .before .before .enum-told in
-    let checks = c .before .before .before .before .before .before .before .before .before .before .checks in
-    let at′ = c .before .before .before .before .before .before .before .before .before .before .before .before in
-    let g = c .before .before .before .before .before .before .before .before .before .before .before .before .filling-slot in
+    let at-7 = c .before .before .before .before .before .before .before in
+    let at-8 = c .before .before .before .before .before .before .before .before in
+    let at-12 = c .before .before .before .before .before .before .before .before .before .before .before .before in
     let f = c .before .before .before .before .before .before .before .before .before .before .before .before .before .front-of in
     let a = s .args in
-    let none! : refusal (a .p) (disk s) (memory s) ≡ none = sym (checks .ensures) ∙ ap checked (enum-told .given .1) in
+    let none! = passed (at-8) in
     let r = ready (a .p) (disk s) (memory s) none! in
     let at = fillingSlot (a .p) (a .state) in
     let few : dataCount (a .p) ≤ 8 = omega (arith, data-count-high (a .p) (ranged (a .p) (r .ranged))) in
     λ n. close-done (a .p) (disk s) (memory s) none! (sized s) (slot-low (a .p) (a .state) at refl (r .filling)) few (slot-open (a .p) (a .state) at refl (r .filling)) (f .result) (f .ensures)
-    (g .result) (slot-of (at′)) (row-of .result) (row-of .ensures) (q .result) (q .last .1 .0) (q .ensures .0) (q .ensures .1) n
+    (at-12 .filling-slot .result) (slot-of (at-12)) (at-7 .row-at .result) (row-is (at-7)) (q .result) (q .last .1 .0) (q .ensures .0) (q .ensures .1) n
 
 pub close-spec : {M : Type 1} → statement M
 close-spec =
@@ -135,8 +148,8 @@ close-spec =
     same-length
     returns
     enum-told
-    row-of-requires
+    row-at-requires
     pad-all-requires
-    cast-t20
+    cast-t21
     same-length-2
     returns-2)

@@ -24,19 +24,19 @@ place-at-requires c κs =
 
 returns-2 : tie.Need-returns-2
 returns-2 c im e h q =
-    let a = c .before .before .before .before .before .before .before .args in
+    let a = c .before .before .before .before .before .before .before .before .args in
     let tb = a .addresses .now in
-    let f : placeAt tb (e .address) ≡ neverPlace = ap (placeAt tb) q ∙ sym (c .before .before .place-at .ensures) ∙ c .if2 .taken in
-    entry-never (a .p) (viewOf (a .p) im (a .pointers .now)) tb e (omega (arith, c .before .before .before .if1 .left, q)) f
+    let f : placeAt tb (e .address) ≡ neverPlace = ap (placeAt tb) q ∙ sym (c .before .before .before .place-at .ensures) ∙ c .if2 .taken in
+    entry-never (a .p) (viewOf (a .p) im (a .pointers .now)) tb e (omega (arith, c .before .before .before .before .if1 .left, q)) f
 
 place-fault-requires : tie.Need-place-fault-requires
 place-fault-requires c κs = search needs
 
 returns-3 : tie.Need-returns-3
 returns-3 c im e h q =
-    let a = c .before .before .before .before .before .before .before .before .args in
-    let place-at = c .before .before .before .place-at in
-    let if1 = c .before .before .before .before .if1 in
+    let a = c .before .before .before .before .before .before .before .before .before .args in
+    let place-at = c .before .before .before .before .place-at in
+    let if1 = c .before .before .before .before .before .if1 in
     let tb = a .addresses .now in
     let v : View = viewOf (a .p) im (a .pointers .now) in
     let f : placeAt tb (e .address) ≡ place-at .result .0 = ap (placeAt tb) q ∙ sym (place-at .ensures) in

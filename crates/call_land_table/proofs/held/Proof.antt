@@ -25,24 +25,24 @@ place-at-requires c κs =
 returns : tie.Need-returns
 unfolding held
 returns c =
-    let a = c .before .before .before .before .before .before .args in
+    let a = c .before .before .before .before .before .before .before .args in
     let v : View = viewOf (a .p) (a .image .now) (a .pointers .now) in
     let q = placeAt (a .addresses .now) (a .address .0) in
-    let e : q ≡ neverPlace = sym (c .before .before .place-at .ensures) ∙ c .if1 .taken in
+    let e : q ≡ neverPlace = sym (c .before .before .before .place-at .ensures) ∙ c .if1 .taken in
     ap (λ (x : Bool). cond {A = Opt Cand} x none (some (heldCand (a .p) v (a .address .0) q))) (sym (eq-eqb q neverPlace e))
 
 held-cand-requires : tie.Need-held-cand-requires
 held-cand-requires c κs =
-    let a = c .before .before .before .before .before .before .args in
-    let q = c .before .before .before .before .before .before .pre in
-    let place-at = c .before .before .place-at in
+    let a = c .before .before .before .before .before .before .before .args in
+    let q = c .before .before .before .before .before .before .before .pre in
+    let place-at = c .before .before .before .place-at in
     (q .0, (q .1 .0, subst (λ (x : ℕ). IsData (a .p) x) (sym (place-at .ensures)) (q .1 .1 .2 (λ e. c .if1 .left (place-at .ensures ∙ e)))))
 
 returns-2 : tie.Need-returns-2
 unfolding held
 returns-2 c =
-    let a = c .before .before .before .before .before .before .before .args in
-    let place-at = c .before .before .before .place-at in
+    let a = c .before .before .before .before .before .before .before .before .args in
+    let place-at = c .before .before .before .before .place-at in
     let v : View = viewOf (a .p) (a .image .now) (a .pointers .now) in
     let q = placeAt (a .addresses .now) (a .address .0) in
     ap some (c .held-cand .ensures ∙ ap (heldCand (a .p) v (a .address .0)) (place-at .ensures))

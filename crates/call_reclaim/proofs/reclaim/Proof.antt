@@ -1,25 +1,72 @@
--- `reclaim`: the choice says the rest: refused is `reclaim-refused`, no live block `reclaim-clear`, one to copy `reclaim-copy`. Assumes nothing.
-use Rattle.spec.specs.Drives.{viewOf, Disk, mkDisk}
+-- `reclaim`: front and aim are those of the state, which the bytes say. The choice says the rest: refused is `reclaim-refused`, no live block
+-- `reclaim-clear`, one to copy `reclaim-copy`. Assumes nothing.
+use Rattle.spec.specs.Calls.{outcome}
+use Rattle.spec.specs.Calls.Verdict.{due}
+use Rattle.spec.specs.Drives.{View, viewOf, Disk, mkDisk, storeDisk}
 use Rattle.spec.specs.Lists.Opt.{some}
-use Rattle.spec.specs.Memory.{Memory, mkMemory}
-use Rattle.spec.specs.Reclaim.{victim}
+use Rattle.spec.specs.Memory.{Memory, mkMemory, stateOf}
+use Rattle.spec.specs.Reclaim.{victim, copyPlan}
+use Rattle.spec.specs.declared.State.{State}
+use Rattle.call_copy.specs.Copying.{CopyReady}
+use Rattle.call_filling.specs.Aims.{aimOf, front-aim}
 use Rattle.call_reclaim.specs.Choosing.{refusal, Chose}
 use Rattle.call_reclaim.specs.Ends.{lent, copy-ready, reclaim-refused, reclaim-clear, reclaim-copy}
 use Rattle.call_reclaim.specs.declared.Choice.{Choice}
+use Rattle.mem_rows.specs.Rows.{frontOf, afterChange}
 use Rattle.mem_rows.specs.declared.Change.{Change}
-use mathlib.Core.Path.{sym, ap, _∙_, subst}
+use mathlib.Core.List.{[]}
+use mathlib.Core.Path.{_≡_, sym, ap, _∙_, subst}
 use borrow.Author.Needs.{needs}
 use Rattle.call_reclaim.proofs.reclaim.Statement.{statement}
 use Rattle.call_reclaim.proofs.reclaim.Tie as tie
 
-choose-requires : tie.Need-choose-requires
-choose-requires c κs = search needs
+abbrev disk : (c : tie.Start) → Disk
+disk c = mkDisk (c .args .image .now) (c .args .pointers .now)
 
-enum-known-c : tie.Need-enum-known-c
-enum-known-c c = search needs
+abbrev view : (c : tie.Start) → View
+view c = viewOf (c .args .p) (c .args .image .now) (c .args .pointers .now)
+
+-- the memory with a state in it
+abbrev memory : (c : tie.Start) → State → Memory
+memory c st = mkMemory st (c .args .addresses .now) (c .args .compact .now) (c .args .inflight .now)
+
+-- the aim is the state's
+aimed : (c : tie.After-aim-of) → c .aim-of .result ≡ aimOf (c .before .before .before .before .before .before .before .before .args .p) (c .before .before .before .before .before .before .before .before .args .state)
+aimed c =
+    let a = c .before .before .before .before .before .before .before .before .args in
+    c .aim-of .ensures ∙ front-aim (a .p) (a .state) (c .before .front-of .result) (c .before .front-of .ensures)
 
 front-of-requires : tie.Need-front-of-requires
 front-of-requires c κs = search needs
+
+aim-of-requires : tie.Need-aim-of-requires
+aim-of-requires c κs = search needs
+
+choose-requires : tie.Need-choose-requires
+choose-requires c κs =
+    let s = c .before .before .before .before .before .before .before .before .before .before .before .before .before in
+    let at = c .before .before .before .before .before in
+    let e = s .pre .0 in
+    (at .before .front-of .ensures ∙ ap frontOf e, aimed (at) ∙ ap (aimOf (s .args .p)) e, ap (λ (x : State). x .missing) e, s .pre .1)
+
+-- what is chosen, of the state
+abbrev start : tie.After-choose → tie.Start
+start c =
+    let at = c .before .before .before .before .before .before .before .before .before .before .before .before .before .before in
+    at
+
+chosen : (c : tie.After-choose) (x : Choice) → c .choose .result ≡ x
+    → Chose (start c .args .p) (view (start c)) (start c .args .state) (victim (start c .args .p) (view (start c)) (start c .args .addresses .now))
+    (refusal (start c .args .p) (disk (start c)) (memory (start c) (start c .args .state))) x
+chosen c x q =
+    let s = start c in
+    let a = s .args in
+    let w = victim (a .p) (view s) (a .addresses .now) in
+    subst (λ (st : State). Chose (a .p) (view s) st w (refusal (a .p) (disk s) (memory s st)) x) (sym (s .pre .0))
+    (subst (Chose (a .p) (view s) (stateOf (a .bytes .now)) w (refusal (a .p) (disk s) (memory s (stateOf (a .bytes .now))))) q (c .choose .ensures))
+
+enum-known-c : tie.Need-enum-known-c
+enum-known-c c = search needs
 
 kept-requires : tie.Need-kept-requires
 kept-requires c κs = search needs
@@ -29,15 +76,11 @@ enum-known-c-2 c = search needs
 
 reset-segment-requires : tie.Need-reset-segment-requires
 reset-segment-requires c κs =
-    let a = c .before .before .before .before .before .before .before .before .before .before .before .before .before .before .before .before .before .args in
-    let c2 = c .before .before .before .before .c2 in
-    let choose = c .before .before .before .before .before .before .choose in
-    let k : Disk = mkDisk (a .image .now) (a .pointers .now) in
-    let m : Memory = mkMemory (a .state) (a .addresses .now) (a .compact .now) (a .inflight .now) in
-    let v = viewOf (a .p) (a .image .now) (a .pointers .now) in
-    let q = c2 .given in
-    let h = subst (λ (x : Choice). Chose (a .p) v (a .state) (victim (a .p) v (a .addresses .now)) (refusal (a .p) k m) x) (q .1) (choose .ensures) in
-    let l = lent (a .p) k m (h .0) in
+    let s = c .before .before .before .before .before .before .before .before .before .before .before .before .before .before .before .before .before .before .before .before in
+    let q = c .before .before .before .before .c2 .given in
+    let at = c .before .before .before .before .before .before in
+    let h = chosen (at) _ (q .1) in
+    let l = lent (s .args .p) (disk s) (memory s (s .args .state)) (h .0) in
     (l .in-range, (l .whole .pointers-long, l .addresses-long, l .compact-long, h .3))
 
 enum-known-c-3 : tie.Need-enum-known-c-3
@@ -45,15 +88,16 @@ enum-known-c-3 c = search needs
 
 copy-block-requires : tie.Need-copy-block-requires
 copy-block-requires c κs =
-    let a = c .before .before .before .before .before .before .before .before .before .before .before .before .before .before .before .before .before .before .before .args in
-    let c3 = c .before .before .before .before .before .before .c3 in
-    let choose = c .before .before .before .before .before .before .before .before .choose in
-    let k : Disk = mkDisk (a .image .now) (a .pointers .now) in
-    let m : Memory = mkMemory (a .state) (a .addresses .now) (a .compact .now) (a .inflight .now) in
-    let v = viewOf (a .p) (a .image .now) (a .pointers .now) in
-    let q = c3 .given in
-    let h = subst (λ (x : Choice). Chose (a .p) v (a .state) (victim (a .p) v (a .addresses .now)) (refusal (a .p) k m) x) (q .1) (choose .ensures) in
-    (copy-ready (a .p) k m (h .0) (h .1), (h .3, h .4))
+    let s = c .before .before .before .before .before .before .before .before .before .before .before .before .before .before .before .before .before .before .before .before .before .before in
+    let q = c .before .before .before .before .before .before .c3 .given in
+    let at-8 = c .before .before .before .before .before .before .before .before in
+    let at-14 = c .before .before .before .before .before .before .before .before .before .before .before .before .before .before in
+    let front-of = c .before .before .before .before .before .before .before .before .before .before .before .before .before .before .before .front-of in
+    let a = s .args in
+    let e = s .pre .0 in
+    let h = chosen (at-8) _ (q .1) in
+    let r = subst (λ (x : State). CopyReady (a .p) (disk s) (memory s x)) e (copy-ready (a .p) (disk s) (memory s (a .state)) (h .0) (h .1)) in
+    (r, ((front-of .ensures ∙ ap frontOf e, aimed (at-14) ∙ ap (aimOf (a .p)) e, s .pre .1), (h .3, h .4)))
 
 same-length : tie.Need-same-length
 same-length c = search needs
@@ -72,15 +116,11 @@ same-length-5 c = search needs
 
 returns : tie.Need-returns
 returns c =
-    let a = c .before .before .before .before .before .before .before .before .before .before .before .before .before .before .before .before .args in
-    let choose = c .before .before .before .before .before .choose in
-    let k : Disk = mkDisk (a .image .now) (a .pointers .now) in
-    let m : Memory = mkMemory (a .state) (a .addresses .now) (a .compact .now) (a .inflight .now) in
-    let v = viewOf (a .p) (a .image .now) (a .pointers .now) in
-    let q = c .before .before .before .c .given in
-    reclaim-refused (a .p) k m (a .count) (c .kept .result)
-    (subst (λ (x : Choice). Chose (a .p) v (a .state) (victim (a .p) v (a .addresses .now)) (refusal (a .p) k m) x) (q .1) (choose .ensures)
-    ∙ ap (λ (x : Change). some (x .answer)) (sym (c .kept .ensures)))
+    let s = c .before .before .before .before .before .before .before .before .before .before .before .before .before .before .before .before .before .before in
+    let a = s .args in
+    let at = c .before .before .before .before in
+    let q = c .before .before .c .given in
+    reclaim-refused (a .p) (disk s) (memory s (a .state)) (a .count) (c .kept .result) (chosen (at) _ (q .1) ∙ ap (λ (x : Change). some (x .answer)) (sym (c .kept .ensures)))
 
 same-length-6 : tie.Need-same-length-6
 same-length-6 c = search needs
@@ -99,19 +139,17 @@ same-length-10 c = search needs
 
 returns-2 : tie.Need-returns-2
 returns-2 c =
-    let reset-segment = c .before .before .before .before .before .before .reset-segment in
-    let c2 = c .before .before .before .before .before .before .before .before .before .before .before .c2 in
-    let choose = c .before .before .before .before .before .before .before .before .before .before .before .before .before .choose in
-    let at = c .before .before .before .before .before .before .before .before .before .before .before .before .before .before .before .before .before in
-    let a =
-    at
-    .before .before .before .before .before .before .before .args in
-    let k : Disk = mkDisk (a .image .now) (a .pointers .now) in
-    let m : Memory = mkMemory (a .state) (a .addresses .now) (a .compact .now) (a .inflight .now) in
-    let v = viewOf (a .p) (a .image .now) (a .pointers .now) in
-    let q = c2 .given in
-    let h = subst (λ (x : Choice). Chose (a .p) v (a .state) (victim (a .p) v (a .addresses .now)) (refusal (a .p) k m) x) (q .1) (choose .ensures) in
-    reset-segment .ensures (a .image .now) (a .inflight .now) ∙ reclaim-clear (a .p) k m (a .count) (q .0 .0) (h .0) (h .1) (h .2)
+    let r = c .before .before .before .before .before .before .reset-segment in
+    let q = c .before .before .before .before .before .before .before .before .before .before .before .c2 .given in
+    let at-13 = c .before .before .before .before .before .before .before .before .before .before .before .before .before in
+    let at-20 =
+    at-13
+    .before .before .before .before .before .before .before in
+    let s = start at-13 in
+    let a = s .args in
+    let h = chosen (at-13) _ (q .1) in
+    r .ensures (a .state) (a .image .now) (a .inflight .now) (at-20 .front-of .ensures)
+    ∙ reclaim-clear (a .p) (disk s) (memory s (a .state)) (a .count) (q .0 .0) (h .0) (h .1) (h .2)
 
 same-length-11 : tie.Need-same-length-11
 same-length-11 c = search needs
@@ -130,27 +168,27 @@ same-length-15 c = search needs
 
 returns-3 : tie.Need-returns-3
 returns-3 c =
-    let copy-block = c .before .before .before .before .before .before .before .before .before .before .copy-block in
-    let at = c .before .before .before .before .before .before .before .before .before .before .before .before .before .before .before .before .before in
-    let c3 = c .before .before .before .before .before .before .before .before .before .before .before .before .before .before .before .before .before .c3 in
-    let choose = c .before .before .before .before .before .before .before .before .before .before .before .before .before .before .before .before .before .before .before .choose in
-    let a =
-    at
-    .before .before .before .before .before .before .before .before .before .before .before .before .before .args in
-    let k : Disk = mkDisk (a .image .now) (a .pointers .now) in
-    let m : Memory = mkMemory (a .state) (a .addresses .now) (a .compact .now) (a .inflight .now) in
-    let v = viewOf (a .p) (a .image .now) (a .pointers .now) in
-    let q = c3 .given in
-    let h = subst (λ (x : Choice). Chose (a .p) v (a .state) (victim (a .p) v (a .addresses .now)) (refusal (a .p) k m) x) (q .1) (choose .ensures) in
-    copy-block .ensures ∙ reclaim-copy (a .p) k m (a .count) (q .0 .0 .0) (h .0) (h .1) (h .2)
+    let r = c .before .before .before .before .before .before .before .before .before .before .copy-block in
+    let q = c .before .before .before .before .before .before .before .before .before .before .before .before .before .before .before .before .before .c3 .given in
+    let at = c .before .before .before .before .before .before .before .before .before .before .before .before .before .before .before .before .before .before .before in
+    let s = start at in
+    let a = s .args in
+    let h = chosen (at) _ (q .1) in
+    let l = r .last in
+    let place = q .0 .0 .0 in
+    subst (λ (st : State).
+    afterChange st (r .result) (l .1 .0) (l .1 .1 .0) (l .1 .1 .1 .0) (l .1 .1 .1 .1 .0) (l .1 .1 .1 .1 .1 .0) []
+    ≡ outcome (a .p) (storeDisk (a .p)) (a .count) (disk s) (memory s st) [] (due (copyPlan (a .p) (view s) (memory s st) place))) (sym (s .pre .0)) (r .ensures)
+    ∙ reclaim-copy (a .p) (disk s) (memory s (a .state)) (a .count) place (h .0) (h .1) (h .2)
 
 pub reclaim-spec : {M : Type 1} → statement M
 reclaim-spec =
     tie.close
     (tie.spec
+    front-of-requires
+    aim-of-requires
     choose-requires
     enum-known-c
-    front-of-requires
     kept-requires
     enum-known-c-2
     reset-segment-requires

@@ -10,9 +10,6 @@ use borrow.Author.Needs.{needs}
 use Rattle.call_reclaim.proofs.reset_segment.Statement.{statement}
 use Rattle.call_reclaim.proofs.reset_segment.Tie as tie
 
-front-of-requires : tie.Need-front-of-requires
-front-of-requires c κs = search needs
-
 reset-stores-requires : tie.Need-reset-stores-requires
 reset-stores-requires c κs = search needs
 
@@ -30,13 +27,13 @@ same-length-3 c = search needs
 
 returns : tie.Need-returns
 returns c =
-    let s = c .before .before .before .before .before .before .before .before .before .before .before .before .before .before .before .before in
+    let s = c .before .before .before .before .before .before .before .before .before .before .before .before .before .before .before in
     let o = c .before .before .before .before .cut in
     let if1 = c .before .before .before .before .before .before .before .if1 in
     let r = c .before .before .before .before .before .before .before .before .before .before .reset-stores in
     let a = s .args in
-    λ im fl. reset-cut (a .p) (a .count) (a .g) (mkDisk im (a .pointers .now)) (mkDisk im (r .last .1 .0))
-    (mkMemory (a .state) (a .addresses .now) (a .compact .now) fl) (r .result) (r .ensures im) (s .pre .1 .1) (s .pre .1 .2) (if1 .taken)
+    λ st im fl e. reset-cut (a .p) (a .count) (a .g) (mkDisk im (a .pointers .now)) (mkDisk im (r .last .1 .0))
+    (mkMemory st (a .addresses .now) (a .compact .now) fl) (r .result) (r .ensures im) (s .pre .1 .1) (s .pre .1 .2) (if1 .taken)
     (o .result) (o .last .0) (o .last .1 .0) (ap (λ (x : Change). x .answer) (o .ensures .0)) (o .ensures .1 .0) (o .ensures .1 .1)
 
 clear-rows-requires : tie.Need-clear-rows-requires
@@ -53,20 +50,18 @@ same-length-5 c = search needs
 
 returns-2 : tie.Need-returns-2
 returns-2 c =
-    let a = c .before .before .before .before .before .before .before .before .before .before .before .before .before .before .args in
+    let a = c .before .before .before .before .before .before .before .before .before .before .before .before .before .args in
     let r = c .before .before .before .before .before .before .before .before .reset-stores in
     let clear-rows = c .before .before .before .clear-rows in
     let if1 = c .before .before .before .before .before .if1 in
-    let front-of = c .before .before .before .before .before .before .before .before .before .before .front-of in
-    λ im fl. reset-done (a .p) (a .count) (a .g) (mkDisk im (a .pointers .now)) (mkDisk im (r .last .1 .0))
-    (mkMemory (a .state) (a .addresses .now) (a .compact .now) fl) (r .result) (r .ensures im) (if1 .left)
-    (c .kept .result) (c .kept .ensures ∙ ap (keptAs (Reset (a .g))) (front-of .ensures)) (clear-rows .last .1 .0) (clear-rows .ensures)
+    λ st im fl e. reset-done (a .p) (a .count) (a .g) (mkDisk im (a .pointers .now)) (mkDisk im (r .last .1 .0))
+    (mkMemory st (a .addresses .now) (a .compact .now) fl) (r .result) (r .ensures im) (if1 .left)
+    (c .kept .result) (c .kept .ensures ∙ ap (keptAs (Reset (a .g))) e) (clear-rows .last .1 .0) (clear-rows .ensures)
 
 pub reset-segment-spec : {M : Type 1} → statement M
 reset-segment-spec =
     tie.close
     (tie.spec
-    front-of-requires
     reset-stores-requires
     cut-requires
     same-length

@@ -1,4 +1,5 @@
 -- `idle_of`: marks of fewer places leave it to `idle_windows`; else they are of all, and `idle_zones` goes over them from nothing found. Assumes nothing.
+use Rattle.spec.specs.Memory.{stateOf}
 use Prim.Native.Nat.{_*_, _≤_}
 use Rattle.spec.specs.Drives.{viewOf}
 use Rattle.spec.specs.Params.{capacity}
@@ -28,27 +29,27 @@ returns c = search needs
 
 idle-zones-requires : tie.Need-idle-zones-requires
 idle-zones-requires c κs =
-    let pre = c .before .before .before .before .before .before .before .pre in
+    let pre = c .before .before .before .before .before .before .before .before .pre in
     let s = c .before .before .places .ensures .0 in
-    (pre .0, (pre .1 .0, (omega arith, omega (arith, c .before .if1 .left), omega (arith, s))))
+    (pre .0, (pre .1 .0, (omega arith, omega (arith, c .before .if1 .left), omega (arith, s), pre .1 .1 .0 .3)))
 
 same-length-2 : tie.Need-same-length-2
 same-length-2 c = search needs
 
 returns-2 : tie.Need-returns-2
 returns-2 c =
-    let a = c .before .before .before .before .before .before .before .before .args in
+    let a = c .before .before .before .before .before .before .before .before .before .args in
     let if1 = c .before .before .if1 in
     let places = c .before .before .before .places in
-    let pre = c .before .before .before .before .before .before .before .before .pre in
+    let pre = c .before .before .before .before .before .before .before .before .before .pre in
     let p = a .p in
     let v = viewOf p (a .image .now) (a .pointers .now) in
     let tb = a .addresses .now in
     let n = places .result in
     let s = places .ensures .0 in
     let h : p .N * p .Z * capacity p ≤ 8 * length (a .marks .now) = omega (arith, s, if1 .left) in
-    waiting-at p v (a .state) tb (a .g) n (p .N * p .Z * capacity p) (c .idle-zones .result) s
-    (c .idle-zones .ensures tb (λ q x y. pre .1 .1 .1 h q x (omega (arith, y, s))) (waiting-none p v (a .state) tb (a .g) (record { first = record { 0 = 4294967295 }; odd = false }) refl refl))
+    waiting-at p v (stateOf (a .bytes .now)) tb (a .g) n (p .N * p .Z * capacity p) (c .idle-zones .result) s
+    (c .idle-zones .ensures tb (λ q x y. pre .1 .1 .1 h q x (omega (arith, y, s))) (waiting-none p v (stateOf (a .bytes .now)) tb (a .g) (record { first = record { 0 = 4294967295 }; odd = false }) refl refl))
 
 pub idle-of-spec : {M : Type 1} → statement M
 idle-of-spec =

@@ -1,4 +1,5 @@
 -- `idle_run`: found is right below q; a turn skips to the next mark (`run-skip`) and takes it (`run-step`); `run-other` if not mine. Assumes nothing.
+use Rattle.spec.specs.Memory.{stateOf}
 use Prim.Native.Nat.{ℕ, _+_, _-_, _≤_, _<_}
 use Rattle.call_reclaim_live.specs.Live.{places-high}
 use Rattle.spec.specs.Drives.{viewOf}
@@ -16,24 +17,24 @@ use Rattle.call_reclaim_victim.proofs.idle_run.Statement.{statement}
 use Rattle.call_reclaim_victim.proofs.idle_run.Tie as tie
 
 abbrev Inv-loop : tie.InvT-loop
-Inv-loop p image pointers marks state first lo hi mine found₀ q₀ found q =
+Inv-loop p image pointers marks bytes first lo hi mine found₀ q₀ found q =
     (lo ≤ q)
     × (q ≤ hi)
     × ((tb : List ℕ) (g : ℕ)
     → Marks tb (p .L) marks first hi
     → ((x : ℕ) → lo ≤ x → x < hi → eqb (placeZone p x) g ≡ mine)
-    → Waiting p (viewOf p image pointers) state tb g lo found₀
-    → Waiting p (viewOf p image pointers) state tb g q found)
+    → Waiting p (viewOf p image pointers) (stateOf bytes) tb g lo found₀
+    → Waiting p (viewOf p image pointers) (stateOf bytes) tb g q found)
 
 abbrev μ-loop : tie.MeasureT-loop
-μ-loop p image pointers marks state first lo hi mine found₀ q₀ found q = hi - q
+μ-loop p image pointers marks bytes first lo hi mine found₀ q₀ found q = hi - q
 
 returns : tie.Need-returns Inv-loop μ-loop
 returns c =
-    let a = c .before .before .before .before .args in
-    let pre = c .before .before .before .before .pre in
+    let a = c .before .before .before .before .before .args in
+    let pre = c .before .before .before .before .before .pre in
     let v = viewOf (a .p) (a .image .now) (a .pointers .now) in
-    λ tb g told same w. run-other (a .p) v (a .state) tb g (a .lo) (a .hi) (a .idle) (pre .1 .1 .1) (λ q x y. same q x y ∙ not-true (a .mine) (c .if1 .taken)) w
+    λ tb g told same w. run-other (a .p) v (stateOf (a .bytes .now)) tb g (a .lo) (a .hi) (a .idle) (pre .1 .1 .1) (λ q x y. same q x y ∙ not-true (a .mine) (c .if1 .taken)) w
 
 loop-holds : tie.Need-loop-holds Inv-loop μ-loop
 loop-holds c = (omega arith, omega arith, λ tb g told same w. w)
@@ -46,39 +47,39 @@ sub-next-marked-2 c = omega arith
 
 next-marked-requires : tie.Need-next-marked-requires Inv-loop μ-loop
 next-marked-requires c κs =
-    let a = c .before .before .before .before .before .before .args in
-    let pre = c .before .before .before .before .before .before .pre in
+    let a = c .before .before .before .before .before .before .before .args in
+    let pre = c .before .before .before .before .before .before .before .pre in
     let h = pre .1 .1 in
     let i = c .before .loop .inv in
     (omega (arith, h, i .0, i .1), omega (arith, h), omega (arith, h .3, places-high (a .p) (ranged (a .p) (pre .0))))
 
 add-next : tie.Need-add-next Inv-loop μ-loop
 add-next c =
-    let a = c .before .before .before .before .before .before .before .args in
-    let pre = c .before .before .before .before .before .before .before .pre in
+    let a = c .before .before .before .before .before .before .before .before .args in
+    let pre = c .before .before .before .before .before .before .before .before .pre in
     omega (arith, c .next-marked .ensures .1, pre .1 .1 .3, places-high (a .p) (ranged (a .p) (pre .0)))
 
 returns-2 : tie.Need-returns-2 Inv-loop μ-loop
 returns-2 c =
-    let a = c .before .before .before .before .before .before .before .before .args in
-    let pre = c .before .before .before .before .before .before .before .before .pre in
+    let a = c .before .before .before .before .before .before .before .before .before .args in
+    let pre = c .before .before .before .before .before .before .before .before .before .pre in
     let v = viewOf (a .p) (a .image .now) (a .pointers .now) in
     let l = c .before .before .before .loop in
     let h = pre .1 .1 in
     let n = c .before .next-marked .ensures in
-    λ tb g told same w. run-skip (a .p) v (a .state) tb g (a .marks .now) (a .first) (a .hi) told (l .q) (a .hi) (l .found) (omega (arith, h .0, l .inv .0)) (l .inv .1) (omega arith)
+    λ tb g told same w. run-skip (a .p) v (stateOf (a .bytes .now)) tb g (a .marks .now) (a .first) (a .hi) told (l .q) (a .hi) (l .found) (omega (arith, h .0, l .inv .0)) (l .inv .1) (omega arith)
     (λ j x y. n .2 j x (omega (arith, y, c .if2 .taken))) (l .inv .2 tb g told same w)
 
 cast-t19 : tie.Need-cast-t19 Inv-loop μ-loop
 cast-t19 c =
-    let a = c .before .before .before .before .before .before .before .before .args in
-    let pre = c .before .before .before .before .before .before .before .before .pre in
+    let a = c .before .before .before .before .before .before .before .before .before .args in
+    let pre = c .before .before .before .before .before .before .before .before .before .pre in
     omega (arith, c .if2 .left, pre .1 .1 .3, places-high (a .p) (ranged (a .p) (pre .0)))
 
 idle-step-requires : tie.Need-idle-step-requires Inv-loop μ-loop
 idle-step-requires c κs =
-    let pre = c .before .before .before .before .before .before .before .before .pre in
-    (pre .0, (pre .1 .0, omega (arith, c .if2 .left, pre .1 .1 .3)))
+    let pre = c .before .before .before .before .before .before .before .before .before .pre in
+    (pre .0, (pre .1 .0, (omega (arith, c .if2 .left, pre .1 .1 .3), pre .1 .1 .4)))
 
 add-q : tie.Need-add-q Inv-loop μ-loop
 add-q c = omega arith
@@ -88,11 +89,11 @@ loop-less c = omega (arith, c .before .if2 .left, c .before .before .next-marked
 
 loop-again : tie.Need-loop-again Inv-loop μ-loop
 loop-again c =
-    let a = c .before .before .before .before .before .before .before .before .before .args in
+    let a = c .before .before .before .before .before .before .before .before .before .before .args in
     let next-marked = c .before .before .next-marked in
     let l = c .before .before .before .before .loop in
     let if1 = c .before .before .before .before .before .if1 in
-    let pre = c .before .before .before .before .before .before .before .before .before .pre in
+    let pre = c .before .before .before .before .before .before .before .before .before .before .pre in
     let v = viewOf (a .p) (a .image .now) (a .pointers .now) in
     let h = pre .1 .1 in
     let n = next-marked .ensures in
@@ -103,19 +104,19 @@ loop-again c =
       omega (arith, low, l .inv .0),
       omega (arith, f),
       λ tb g told same w.
-          run-step (a .p) v (a .state) tb g (a .marks .now) (a .first) (a .hi) told (a .first + k) (l .found) (c .idle-step .result) (omega arith) (omega (arith, f))
+          run-step (a .p) v (stateOf (a .bytes .now)) tb g (a .marks .now) (a .first) (a .hi) told (a .first + k) (l .found) (c .idle-step .result) (omega arith) (omega (arith, f))
           (same (a .first + k) (omega (arith, low, l .inv .0)) (omega (arith, f)) ∙ not-false (a .mine) (if1 .left))
           (ap (marked (a .marks .now)) s ∙ n .3 (omega (arith, f))) (omega (arith, f, h .3, places-high (a .p) (ranged (a .p) (pre .0))))
-          (run-skip (a .p) v (a .state) tb g (a .marks .now) (a .first) (a .hi) told (l .q) (a .first + k) (l .found) (omega (arith, h .0, l .inv .0)) low (omega (arith, f))
+          (run-skip (a .p) v (stateOf (a .bytes .now)) tb g (a .marks .now) (a .first) (a .hi) told (l .q) (a .first + k) (l .found) (omega (arith, h .0, l .inv .0)) low (omega (arith, f))
           (λ j x y. n .2 j x (omega (arith, y, s))) (l .inv .2 tb g told same w)) (c .idle-step .ensures),
     )
 
 returns-3 : tie.Need-returns-3 Inv-loop μ-loop
 returns-3 c =
-    let a = c .before .before .before .before .before .before .args in
+    let a = c .before .before .before .before .before .before .before .args in
     let v = viewOf (a .p) (a .image .now) (a .pointers .now) in
     let l = c .before .loop in
-    λ tb g told same w. waiting-at (a .p) v (a .state) tb g (l .q) (a .hi) (l .found) (omega (arith, l .inv .1, c .loop-test .left)) (l .inv .2 tb g told same w)
+    λ tb g told same w. waiting-at (a .p) v (stateOf (a .bytes .now)) tb g (l .q) (a .hi) (l .found) (omega (arith, l .inv .1, c .loop-test .left)) (l .inv .2 tb g told same w)
 
 pub idle-run-spec : {M : Type 1} → statement M
 idle-run-spec =

@@ -1,4 +1,5 @@
 -- `idle_windows`: found is right for the live blocks below first; a turn marks the next window and goes over its zones. Assumes nothing.
+use Rattle.spec.specs.Memory.{stateOf}
 use Prim.Native.Nat.{_-_, _*_, _≤_}
 use Rattle.call_reclaim_live.specs.Live.{window-nearer}
 use Rattle.spec.specs.Drives.{viewOf}
@@ -14,15 +15,15 @@ use Rattle.call_reclaim_victim.proofs.idle_windows.Statement.{statement
 use Rattle.call_reclaim_victim.proofs.idle_windows.Tie as tie
 
 abbrev Inv-loop : tie.InvT-loop
-Inv-loop p image pointers addresses marks₀ state g all step found₀ first₀ marks found first =
-    (first ≤ all) × (length marks ≡ length marks₀) × Waiting p (viewOf p image pointers) state addresses g first found
+Inv-loop p image pointers addresses marks₀ bytes g all step found₀ first₀ marks found first =
+    (first ≤ all) × (length marks ≡ length marks₀) × Waiting p (viewOf p image pointers) (stateOf bytes) addresses g first found
 
 abbrev μ-loop : tie.MeasureT-loop
-μ-loop p image pointers addresses marks₀ state g all step found₀ first₀ marks found first = all - first
+μ-loop p image pointers addresses marks₀ bytes g all step found₀ first₀ marks found first = all - first
 
 places-requires : tie.Need-places-requires Inv-loop μ-loop
 places-requires c κs =
-    let pre = c .before .before .before .before .pre in
+    let pre = c .before .before .before .before .before .pre in
     pre .0
 
 mul-step : tie.Need-mul-step Inv-loop μ-loop
@@ -30,10 +31,10 @@ mul-step c = omega arith
 
 loop-holds : tie.Need-loop-holds Inv-loop μ-loop
 loop-holds c =
-    let a = c .before .before .before .before .before .args in (
+    let a = c .before .before .before .before .before .before .args in (
       omega arith,
       refl,
-      waiting-none (a .p) (viewOf (a .p) (a .image .now) (a .pointers .now)) (a .state) (a .addresses .now) (a .g)
+      waiting-none (a .p) (viewOf (a .p) (a .image .now) (a .pointers .now)) (stateOf (a .bytes .now)) (a .addresses .now) (a .g)
           (record { first = record { 0 = 4294967295 }; odd = false }) refl refl,
     )
 
@@ -46,7 +47,7 @@ clip-requires c κs = omega arith
 mark-window-requires : tie.Need-mark-window-requires Inv-loop μ-loop
 unfolding addressesLen
 mark-window-requires c κs =
-    let pre′ = c .before .before .before .before .before .before .before .before .before .pre in
+    let pre′ = c .before .before .before .before .before .before .before .before .before .before .pre in
     let pre = pre′ .1 .1 in
     let e = c .before .clip .ensures in
     let l = c .before .before .before .loop in
@@ -58,12 +59,12 @@ idle-zones-requires c κs =
     let mark-window = c .before .before .before .mark-window in
     let clip = c .before .before .before .before .before .clip in
     let places = c .before .before .before .before .before .before .before .before .places in
-    let pre = c .before .before .before .before .before .before .before .before .before .before .before .before .before .pre in
+    let pre = c .before .before .before .before .before .before .before .before .before .before .before .before .before .before .pre in
     let i = l .inv in
     let e = clip .ensures in
     let k = mark-window .kept .1 .1 .0 in
     let s = places .ensures in
-    (pre .0, (pre .1 .0, (omega (arith, e, i .0), omega (arith, e, k, i .1), omega (arith, e, s .0))))
+    (pre .0, (pre .1 .0, (omega (arith, e, i .0), omega (arith, e, k, i .1), omega (arith, e, s .0), pre .1 .1 .3)))
 
 loop-less : tie.Need-loop-less Inv-loop μ-loop
 loop-less c =
@@ -71,14 +72,14 @@ loop-less c =
     let loop-test = c .before .before .before .before .before .before .before .loop-test in
     let loop = c .before .before .before .before .before .before .before .before .loop in
     let places = c .before .before .before .before .before .before .before .before .before .places in
-    let entry = c .before .before .before .before .before .before .before .before .before .before .before .before .before .before in
+    let entry = c .before .before .before .before .before .before .before .before .before .before .before .before .before .before .before in
     let args = entry .args in
     let pre = entry .pre in
     window-nearer (loop .first) (clip .result) (places .result) (8 * length (args .marks .now)) (loop-test .taken) (omega (arith, pre .1 .1 .1)) (clip .ensures)
 
 loop-again : tie.Need-loop-again Inv-loop μ-loop
 loop-again c =
-    let a = c .before .before .before .before .before .before .before .before .before .before .before .before .before .before .args in
+    let a = c .before .before .before .before .before .before .before .before .before .before .before .before .before .before .before .args in
     let m = c .before .before .before .before .mark-window in
     let clip = c .before .before .before .before .before .before .clip in
     let loop = c .before .before .before .before .before .before .before .before .loop in
@@ -90,12 +91,12 @@ same-length c = c .before .loop .inv .1
 
 returns : tie.Need-returns Inv-loop μ-loop
 returns c =
-    let a = c .before .before .before .before .before .before .before .args in
+    let a = c .before .before .before .before .before .before .before .before .args in
     let l = c .before .loop in
     let places = c .before .before .places in
     let s = places .ensures .0 in
     let f : l .first ≡ places .result = omega (arith, l .inv .0, c .loop-test .left) in
-    waiting-at (a .p) (viewOf (a .p) (a .image .now) (a .pointers .now)) (a .state) (a .addresses .now) (a .g) (l .first) (a .p .N * a .p .Z * capacity (a .p)) (l .found) (f ∙ s) (l .inv .2)
+    waiting-at (a .p) (viewOf (a .p) (a .image .now) (a .pointers .now)) (stateOf (a .bytes .now)) (a .addresses .now) (a .g) (l .first) (a .p .N * a .p .Z * capacity (a .p)) (l .found) (f ∙ s) (l .inv .2)
 
 pub idle-windows-spec : {M : Type 1} → statement M
 idle-windows-spec =

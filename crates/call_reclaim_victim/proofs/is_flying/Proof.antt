@@ -1,6 +1,6 @@
 -- `is_flying`: the record's address and stamp are looked for in the stripes in flight, which for a data block is `flying` (`flying-is`). Assumes nothing.
 use Rattle.spec.specs.Drives.{viewOf}
-use Rattle.spec.specs.Memory.{holds}
+use Rattle.spec.specs.Memory.{holds, stateOf}
 use Rattle.disk_records.specs.Record.{recOf}
 use Rattle.call_reclaim_victim.specs.Waiting.{flying-is}
 use borrow.Author.Needs.{needs}
@@ -9,18 +9,20 @@ use Rattle.call_reclaim_victim.proofs.is_flying.Statement.{statement}
 use Rattle.call_reclaim_victim.proofs.is_flying.Tie as tie
 
 record-of-requires : tie.Need-record-of-requires
-record-of-requires c κs = c .before .before .pre
+record-of-requires c κs =
+    let pre = c .before .before .before .pre in
+    (pre .0, (pre .1 .0, (pre .1 .1 .0, pre .1 .1 .1)))
 
 holds-requires : tie.Need-holds-requires
 holds-requires c κs = search needs
 
 returns : tie.Need-returns
 returns c =
-    let a = c .before .before .before .before .before .before .args in
+    let a = c .before .before .before .before .before .before .before .args in
     let record-of = c .before .before .before .record-of in
-    let pre = c .before .before .before .before .before .before .pre in
+    let pre = c .before .before .before .before .before .before .before .pre in
     let v = viewOf (a .p) (a .image .now) (a .pointers .now) in
-    c .holds .ensures ∙ flying-is (a .p) v (a .state) (a .place .0) (recOf (record-of .result)) (pre .1 .1 .1) (record-of .ensures)
+    c .holds .ensures ∙ flying-is (a .p) v (stateOf (a .bytes .now)) (a .place .0) (recOf (record-of .result)) (pre .1 .1 .1) (record-of .ensures)
 
 pub is-flying-spec : {M : Type 1} → statement M
 is-flying-spec = tie.close (tie.spec record-of-requires holds-requires returns)

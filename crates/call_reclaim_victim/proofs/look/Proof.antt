@@ -1,4 +1,5 @@
 -- `look`: with none sealed there is no victim (`looked-none`); else it is looked for with marks, or by records where that is sure. Assumes nothing.
+use Rattle.spec.specs.Memory.{stateOf}
 use borrow.Author.Tests.{not-true, not-false}
 use Rattle.spec.specs.Drives.{viewOf}
 use Rattle.call_reclaim_victim.specs.Looked.{looked-none, unsealed}
@@ -14,14 +15,14 @@ any-sealed-requires c κs = search needs
 
 returns : tie.Need-returns
 returns c =
-    let a = c .before .before .before .before .before .args in
-    let pre = c .before .before .before .before .before .pre in
+    let a = c .before .before .before .before .before .before .args in
+    let pre = c .before .before .before .before .before .before .pre in
     let p = a .p in
     let tb = a .addresses .now in
     let w = pre .1 .0 in
     let v = viewOf p (a .image .now) (a .pointers .now) in
     let no = sym (c .before .any-sealed .ensures (a .image .now) (w .image-long)) ∙ not-true (c .before .any-sealed .result) (c .if1 .taken) in
-    looked-none p v tb (a .state) (p .Z) (unsealed p v tb no) (omega arith)
+    looked-none p v tb (stateOf (a .bytes .now)) (p .Z) (unsealed p v tb no) (omega arith)
     (record { segment = p .Z; live = 0; first = record { 0 = 4294967295 }; odd = false; outside = false }) refl refl refl refl
 
 places-requires : tie.Need-places-requires

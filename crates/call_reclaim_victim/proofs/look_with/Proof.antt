@@ -1,4 +1,5 @@
 -- `look_with`: Z is at most 1024, so all segments have a count, 0 at first; none sealed is `looked-none`, g with its idle block `looked-some`. Assumes nothing.
+use Rattle.spec.specs.Memory.{stateOf}
 use Prim.Native.Nat.{ℕ, _≤_, _<_}
 use Rattle.call_reclaim_live.specs.Live.{counted-none}
 use Rattle.spec.specs.Drives.{viewOf}
@@ -20,8 +21,8 @@ slice-aggregate-count-windows c = search needs
 
 count-windows-requires : tie.Need-count-windows-requires
 count-windows-requires c κs =
-    let a = c .before .before .before .before .before .before .args in
-    let pre = c .before .before .before .before .before .before .pre in
+    let a = c .before .before .before .before .before .before .before .args in
+    let pre = c .before .before .before .before .before .before .before .pre in
     let r = ranged (a .p) (pre .0) in
     let h = pre .1 .1 in
     let n : length {A = ℕ} (replicate 1024 0) ≡ 1024 = length-replicate {A = ℕ} 1024 0 in (
@@ -37,9 +38,9 @@ slice-aggregate-fewest c = search needs
 
 fewest-requires : tie.Need-fewest-requires
 fewest-requires c κs =
-    let a = c .before .before .before .before .before .before .before .before .before .before .before .args in
+    let a = c .before .before .before .before .before .before .before .before .before .before .before .before .args in
     let count-windows = c .before .before .before .before .count-windows in
-    let pre = c .before .before .before .before .before .before .before .before .before .before .before .pre in
+    let pre = c .before .before .before .before .before .before .before .before .before .before .before .before .pre in
     let r = ranged (a .p) (pre .0) in
     let n : length {A = ℕ} (replicate 1024 0) ≡ 1024 = length-replicate {A = ℕ} 1024 0 in
     (pre .0, (pre .1 .0 .pointers-long, subst (λ (x : ℕ). a .p .Z ≤ x) (sym (count-windows .kept .1 .1 .1 .0 ∙ n)) (r .zones-high)))
@@ -49,44 +50,44 @@ same-length c = search needs
 
 returns : tie.Need-returns
 returns c =
-    let a = c .before .before .before .before .before .before .before .before .before .before .before .before .before .before .args in
+    let a = c .before .before .before .before .before .before .before .before .before .before .before .before .before .before .before .args in
     let fewest′ = c .before .before .fewest in
     let count-windows = c .before .before .before .before .before .before .before .count-windows in
-    let pre = c .before .before .before .before .before .before .before .before .before .before .before .before .before .before .pre in
+    let pre = c .before .before .before .before .before .before .before .before .before .before .before .before .before .before .before .pre in
     let p = a .p in
     let tb = a .addresses .now in
     let w = pre .1 .0 in
-    looked-none p (viewOf p (a .image .now) (a .pointers .now)) tb (a .state) (fewest′ .result) (fewest′ .ensures .0 (a .image .now) tb (w .image-long) (count-windows .ensures .0)) (c .if1 .taken)
+    looked-none p (viewOf p (a .image .now) (a .pointers .now)) tb (stateOf (a .bytes .now)) (fewest′ .result) (fewest′ .ensures .0 (a .image .now) tb (w .image-long) (count-windows .ensures .0)) (c .if1 .taken)
     (record { segment = fewest′ .result; live = 0; first = record { 0 = 4294967295 }; odd = false; outside = false }) refl refl refl refl
 
 mul-n : tie.Need-mul-n
 mul-n c =
-    let entry = c .before .before .before .before .before .before .before .before .before .before .before .before .before .before in
+    let entry = c .before .before .before .before .before .before .before .before .before .before .before .before .before .before .before in
     let args = entry .args in
     let pre = entry .pre in
     omega (arith, c .if1 .left, ranged (args .p) (pre .0) .zones-high)
 
 array-read-n : tie.Need-array-read-n
 array-read-n c =
-    let entry = c .before .before .before .before .before .before .before .before .before .before .before .before .before .before in
+    let entry = c .before .before .before .before .before .before .before .before .before .before .before .before .before .before .before in
     let args = entry .args in
     let pre = entry .pre in
     omega (arith, c .if1 .left, ranged (args .p) (pre .0) .zones-high)
 
 idle-of-requires : tie.Need-idle-of-requires
 idle-of-requires c κs =
-    let o = c .before .before .before .before .before .before .before .before .before .before .before .before .before .before .before in
+    let o = c .before .before .before .before .before .before .before .before .before .before .before .before .before .before .before .before in
     let w = c .before .before .before .before .before .before .before .before .count-windows in
     let h = o .pre .1 .1 in
     let k = w .kept .1 .1 .0 in
-    (o .pre .0, (o .pre .1 .0, ((h .0, omega (arith, h .1, k), omega (arith, h .2, k)), λ x. w .ensures .1 .0 (omega (arith, x, k)))))
+    (o .pre .0, (o .pre .1 .0, ((h .0, omega (arith, h .1, k), omega (arith, h .2, k), h .3), λ x. w .ensures .1 .0 (omega (arith, x, k)))))
 
 same-length-2 : tie.Need-same-length-2
 same-length-2 c = search needs
 
 returns-2 : tie.Need-returns-2
 returns-2 c =
-    let o = c .before .before .before .before .before .before .before .before .before .before .before .before .before .before .before .before .before .before .before in
+    let o = c .before .before .before .before .before .before .before .before .before .before .before .before .before .before .before .before .before .before .before .before in
     let idle-of = c .before .before .before .idle-of in
     let if1 = c .before .before .before .before .before .if1 in
     let f = c .before .before .before .before .before .before .before .fewest in
@@ -101,7 +102,7 @@ returns-2 c =
     let h : g < p .Z = omega (arith, if1 .left) in
     let n = getD (w .last .1 .1 .1 .0) g 0 in
     let taken = f .ensures .0 (a .image .now) tb (o .pre .1 .0 .image-long) so in
-    looked-some p v tb (a .state) g taken (ranged p (o .pre .0)) h n (sym (so g h)) i (idle-of .ensures)
+    looked-some p v tb (stateOf (a .bytes .now)) g taken (ranged p (o .pre .0)) h n (sym (so g h)) i (idle-of .ensures)
     (record { segment = g; live = n; first = i .first; odd = i .odd; outside = not (eqb (w .result) 0) }) refl refl refl refl (outside-is p tb (w .result) (w .ensures .1 .1))
 
 pub look-with-spec : {M : Type 1} → statement M

@@ -1,4 +1,5 @@
 -- `see_block`: a place that the table has is live and not odd (`data-live`, `data-even`), so one more (`vouched-step`); any other is skipped. Assumes nothing.
+use Rattle.spec.specs.Memory.{stateOf}
 use Prim.Native.Nat.{ℕ, _+_, _<_}
 use Rattle.call_reclaim_live.specs.Live.{places-high}
 use Rattle.spec.specs.Drives.{viewOf}
@@ -24,43 +25,43 @@ record-in-requires c κs = search needs
 
 clipped-requires : tie.Need-clipped-requires
 clipped-requires c κs =
-    let o = c .before .before .before .before .before in
+    let o = c .before .before .before .before .before .before in
     omega (arith, ranged (o .args .p) (o .pre .0) .addresses-low)
 
 add-t19 : tie.Need-add-t19
 add-t19 c =
-    let o = c .before .before .before .before .before .before in
+    let o = c .before .before .before .before .before .before .before in
     omega (arith, in-image (o))
 
 cast-t20 : tie.Need-cast-t20
 cast-t20 c =
-    let o = c .before .before .before .before .before .before in
+    let o = c .before .before .before .before .before .before .before in
     omega (arith, in-image (o))
 
 place-at-requires : tie.Need-place-at-requires
 unfolding addressesLen
 place-at-requires c κs =
-    let o = c .before .before .before .before .before .before in
+    let o = c .before .before .before .before .before .before .before in
     omega (arith, c .clipped .ensures, o .pre .1 .1 .0)
 
 returns : tie.Need-returns
 returns c =
-    let o = c .before .before .before .before .before .before .before .before .before .before in
+    let o = c .before .before .before .before .before .before .before .before .before .before .before in
     let a = o .args in
     let v = viewOf (a .p) (a .image .now) (a .pointers .now) in
-    (omega arith, vouched-skip (a .p) v (a .state) (a .addresses .now) (a .g) (a .at + a .o) (a .at + a .o + 1) (a .seen) (omega arith))
+    (omega arith, vouched-skip (a .p) v (stateOf (a .bytes .now)) (a .addresses .now) (a .g) (a .at + a .o) (a .at + a .o + 1) (a .seen) (omega arith))
 
 idle-step-requires : tie.Need-idle-step-requires
 idle-step-requires c κs =
-    let o = c .before .before .before .before .before .before .before .before .before .before .before in
+    let o = c .before .before .before .before .before .before .before .before .before .before .before .before in
     let a = o .args in
     let r = ranged (a .p) (o .pre .0) in
     let h = o .pre .1 .1 in
-    (o .pre .0, (o .pre .1 .0, data-low (a .p) r (a .drive) (a .g) (a .o) (a .at + a .o) (h .1) (h .2) (h .4) (ap (λ (x : ℕ). x + a .o) (h .3))))
+    (o .pre .0, (o .pre .1 .0, (data-low (a .p) r (a .drive) (a .g) (a .o) (a .at + a .o) (h .1) (h .2) (h .4) (ap (λ (x : ℕ). x + a .o) (h .3)), h .6)))
 
 add-t19-2 : tie.Need-add-t19-2
 add-t19-2 c =
-    let o = c .before .before .before .before .before .before .before .before .before .before .before .before .before .before in
+    let o = c .before .before .before .before .before .before .before .before .before .before .before .before .before .before .before in
     omega (arith, o .pre .1 .1 .5)
 
 returns-2 : tie.Need-returns-2
@@ -68,7 +69,7 @@ returns-2 c =
     let c4 = c .before .before .before .before in
     let c7 = c .before .before .before .before .before .before .before in
     let c8 = c .before .before .before .before .before .before .before .before in
-    let o = c .before .before .before .before .before .before .before .before .before .before .before .before .before .before in
+    let o = c .before .before .before .before .before .before .before .before .before .before .before .before .before .before .before in
     let idle-step = c .before .before .idle-step in
     let a = o .args in
     let p = a .p in
@@ -82,7 +83,7 @@ returns-2 c =
     let even = data-even p r (a .drive) (a .g) (a .o) q (h .1) (h .2) (h .4) e in
     let s = idle-step .result in
     let low : q < 4294967295 = omega (arith, in-image (o)) in
-    (omega arith, vouched-step p v (a .state) tb (a .g) q (a .seen) (record { live = a .seen .live + 1; first = s .first }) s live even low (idle-step .ensures) refl refl)
+    (omega arith, vouched-step p v (stateOf (a .bytes .now)) tb (a .g) q (a .seen) (record { live = a .seen .live + 1; first = s .first }) s live even low (idle-step .ensures) refl refl)
 
 pub see-block-spec : {M : Type 1} → statement M
 see-block-spec =

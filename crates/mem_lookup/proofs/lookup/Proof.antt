@@ -11,8 +11,8 @@ place-at-requires c κs = entry-within (c .before .args .p) (c .before .args .ad
 
 returns : tie.Need-returns
 returns c =
-    let a = c .before .before .before .before .args in
-    let place-at = c .before .before .place-at in
+    let a = c .before .before .before .before .before .args in
+    let place-at = c .before .before .before .place-at in
     found-nowhere (a .p) (a .gone) (a .addresses .now) (a .a) (place-at .result .0) (place-at .ensures) (c .if1 .taken)
 
 place-drive-requires : tie.Need-place-drive-requires
@@ -23,19 +23,19 @@ has-drive-requires c κs = search needs
 
 returns-2 : tie.Need-returns-2
 returns-2 c =
-    let a = c .before .before .before .before .before .before .before .args in
+    let a = c .before .before .before .before .before .before .before .before .args in
     let place-drive = c .before .before .place-drive in
     let if1 = c .before .before .before .if1 in
-    let place-at = c .before .before .before .before .before .place-at in
+    let place-at = c .before .before .before .before .before .before .place-at in
     found-away (a .p) (a .gone) (a .addresses .now) (a .a) (place-at .result .0) (place-at .ensures) (if1 .left)
     (ap (isIn (a .gone)) (sym (place-drive .ensures .0)) ∙ sym (c .before .has-drive .ensures) ∙ c .if2 .taken)
 
 returns-3 : tie.Need-returns-3
 returns-3 c =
-    let a = c .before .before .before .before .before .before .before .args in
+    let a = c .before .before .before .before .before .before .before .before .args in
     let place-drive = c .before .before .place-drive in
     let if1 = c .before .before .before .if1 in
-    let place-at = c .before .before .before .before .before .place-at in
+    let place-at = c .before .before .before .before .before .before .place-at in
     found-here (a .p) (a .gone) (a .addresses .now) (a .a) (place-at .result .0) (place-at .ensures) (if1 .left)
     (ap (isIn (a .gone)) (sym (place-drive .ensures .0)) ∙ sym (c .before .has-drive .ensures) ∙ c .if2 .left)
 
