@@ -11,14 +11,13 @@ ghost use Rattle.spec.specs.Drives.{View, viewOf, mkDisk};
 ghost use Rattle.spec.specs.Engine.{lentOk, callDisk};
 ghost use Rattle.spec.specs.Engine.Call.{restart};
 ghost use Rattle.spec.specs.Faults.{pointerFaults};
-ghost use Rattle.spec.specs.Lists.{any};
+ghost use Rattle.spec.specs.Lists.Opt.{none};
 ghost use Rattle.spec.specs.Memory.{mkMemory};
 ghost use Rattle.spec.specs.Params.{inRange, addressesLen, compactLen};
-ghost use Rattle.spec.specs.Restart.{namesDrive, restartStores, restartMemory};
-ghost use Rattle.recover_groups.specs.Groups.{recsFault};
+ghost use Rattle.spec.specs.Restart.{namesDrive, restartStores, rewrites};
 ghost use Rattle.spec.specs.Segments.{segments};
 ghost use Rattle.spec.specs.declared.State.{State as StateOf};
-ghost use Rattle.recover_stores.specs.Refit.{Sane};
+ghost use Rattle.recover_stores.specs.Refit.{Sane, Marks};
 ghost use Rattle.recover_segments.specs.Remains.{Keeps, Serials};
 ghost use Rattle.call_restart.specs.Ends.{recovered, Settles};
 ghost use Rattle.recover_check.specs.Faults.{Examined, raggedBy};
@@ -128,14 +127,57 @@ fn rest_checks(p: Params, gone: u8, kept: &[bool], serials: &[u64], e: Exam) -> 
     Check::Pass
 }
 
-// 01, Restart, 4 and 5: the stores of a restart, under a store count.
+// 01, Restart, 4: the stores of a restart that rewrites a segment. The arrays say what is so behind them: the old segment is dropped, the new one remains,
+// under the serial behind the greatest.
+fn move_stores(
+    p: Params,
+    image: &mut [u8],
+    pointers: &mut [u8],
+    kept: &mut [bool],
+    serials: &mut [u64],
+    whole: bool,
+    count: u64,
+) -> Made
+    requires { ⌜ inRange p ≡ true ⌝ }
+    requires { ⌜ Whole p (mkDisk (now image) (now pointers)) ⌝ }
+    requires { ⌜ Keeps p (viewOf p (now image) (now pointers)) 0 (now kept) × Serials p (viewOf p (now image) (now pointers)) 0 (now serials) ⌝ }
+    requires { ⌜ Sane p (viewOf p (now image) (now pointers)) × (rewrites p 0 (segments p (viewOf p (now image) (now pointers)) 0) ≡ true) ⌝ }
+    requires { ⌜ Marks p (segments p (viewOf p (now image) (now pointers)) 0) whole true ⌝ }
+    ensures { λ r. ⌜
+        Storing p count (restartStores p 0 (segments p (viewOf p (now (image .entry)) (now (pointers .entry))) 0))
+        (mkDisk (now (image .entry)) (now (pointers .entry))) r (mkDisk (now (image .exit)) (now (pointers .exit))) ⌝ }
+    ensures { λ r. ⌜
+        (r .cut ≡ false
+        → Keeps p (viewOf p (now (image .exit)) (now (pointers .exit))) 0 (now (kept .exit))
+        × Serials p (viewOf p (now (image .exit)) (now (pointers .exit))) 0 (now (serials .exit))) ⌝ }
+{
+    let seg = recover_segments::first_unsealed(p, pointers, 0, kept);
+    let to = recover_segments::lowest_free(p, kept);
+    let most = recover_segments::greatest_serial(p, kept, serials);
+    let made = recover_stores::healthy_stores(
+        p,
+        image,
+        pointers,
+        kept,
+        serials,
+        whole,
+        true,
+        count,
+    );
+    kept[seg] = false;
+    kept[to] = true;
+    serials[to] = most.0 + 1;
+    made
+}
+
+// 01, Restart, 4 and 5: the stores of a restart, under a store count. The arrays say what is so behind them.
 fn stores(
     p: Params,
     image: &mut [u8],
     pointers: &mut [u8],
     gone: u8,
-    kept: &[bool],
-    serials: &[u64],
+    kept: &mut [bool],
+    serials: &mut [u64],
     e: Exam,
     count: u64,
 ) -> Made
@@ -146,6 +188,10 @@ fn stores(
     ensures { λ r. ⌜
         Storing p count (restartStores p gone (segments p (viewOf p (now (image .entry)) (now (pointers .entry))) gone))
         (mkDisk (now (image .entry)) (now (pointers .entry))) r (mkDisk (now (image .exit)) (now (pointers .exit))) ⌝ }
+    ensures { λ r. ⌜
+        (r .cut ≡ false
+        → Keeps p (viewOf p (now (image .exit)) (now (pointers .exit))) gone (now (kept .exit))
+        × Serials p (viewOf p (now (image .exit)) (now (pointers .exit))) gone (now (serials .exit))) ⌝ }
 {
     if gone != 0 {
         return Made {
@@ -154,18 +200,20 @@ fn stores(
         };
     }
     let whole = e.counted == p.S;
-    let ragged = is_ragged(p, e);
-    recover_stores::healthy_stores(p, image, pointers, kept, serials, whole, ragged, count)
+    if is_ragged(p, e) {
+        return move_stores(p, image, pointers, kept, serials, whole, count);
+    }
+    recover_stores::healthy_stores(p, image, pointers, kept, serials, whole, false, count)
 }
 
-// 01, Restart: the checks behind the pointers of 9, then the stores.
+// 01, Restart: the checks behind the pointers of 9, then the stores. The arrays say what is so behind them.
 fn settle(
     p: Params,
     image: &mut [u8],
     pointers: &mut [u8],
     gone: u8,
-    kept: &[bool],
-    serials: &[u64],
+    kept: &mut [bool],
+    serials: &mut [u64],
     count: u64,
 ) -> Taken
     requires { ⌜ inRange p ≡ true ⌝ }
@@ -173,6 +221,11 @@ fn settle(
     requires { ⌜ pointerFaults p (viewOf p (now image) (now pointers)) gone ≡ [] ⌝ }
     requires { ⌜ Keeps p (viewOf p (now image) (now pointers)) gone (now kept) × Serials p (viewOf p (now image) (now pointers)) gone (now serials) ⌝ }
     ensures { λ r. ⌜ Settles p gone count (mkDisk (now (image .entry)) (now (pointers .entry))) r (mkDisk (now (image .exit)) (now (pointers .exit))) ⌝ }
+    ensures { λ r. ⌜
+        (checked (r .check) ≡ none
+        → r .cut ≡ false
+        → Keeps p (viewOf p (now (image .exit)) (now (pointers .exit))) gone (now (kept .exit))
+        × Serials p (viewOf p (now (image .exit)) (now (pointers .exit))) gone (now (serials .exit))) ⌝ }
 {
     let e = recover_check::examine(p, image, pointers, gone, kept, serials);
     let c = rest_checks(p, gone, kept, serials, e);
@@ -189,29 +242,6 @@ fn settle(
         cut: made.cut,
         loose: e.loose,
     }
-}
-
-// 01, Restart: the memory that the drives say, once the stores are made: serials and the segments that remain are read anew, into lent arrays.
-fn reload(
-    p: Params,
-    image: &[u8],
-    pointers: &[u8],
-    addresses: &mut [u8],
-    compact: &mut [u8],
-    gone: u8,
-    serials: &mut [u64],
-    flags: &mut [bool],
-    kept: &mut [bool],
-) -> State
-    requires { ⌜ inRange p ≡ true ⌝ }
-    requires { ⌜ Whole p (mkDisk (now image) (now pointers)) ⌝ }
-    requires { ⌜ (length (now addresses) ≡ addressesLen p) × (length (now compact) ≡ compactLen p) ⌝ }
-    requires { ⌜ any (recsFault p gone) (segments p (viewOf p (now image) (now pointers)) gone) ≡ false ⌝ }
-    requires { ⌜ (p .Z ≤ length (now serials)) × (p .Z ≤ length (now flags)) × (p .Z ≤ length (now kept)) ⌝ }
-    ensures { λ r. ⌜ ((fl : List ℕ) → mkMemory r (now (addresses .exit)) (now (compact .exit)) fl ≡ restartMemory p (viewOf p (now (image .entry)) (now (pointers .entry))) gone fl) ⌝ }
-{
-    recover_segments::look(p, image, pointers, gone, serials, flags, kept);
-    recover_tables::load(p, image, pointers, addresses, compact, gone, serials, kept)
 }
 
 // 01, Restart: checks and stores, then the memory that the drives say; the arrays are room for the segments.
@@ -246,17 +276,7 @@ fn recover_in(
         return mem_calls::cut(addresses, compact);
     }
     let report = Report { uncounted: t.loose };
-    let next = reload(
-        p,
-        image,
-        pointers,
-        addresses,
-        compact,
-        gone,
-        serials,
-        flags,
-        kept,
-    );
+    let next = recover_tables::load(p, image, pointers, addresses, compact, gone, serials, kept);
     Done {
         answer: Answer::Restarted(report),
         state: next,

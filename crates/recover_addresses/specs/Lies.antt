@@ -1,19 +1,21 @@
 -- Where the record of a counted stripe lies, and that its stamp is read there (01, Restart, 3; Read). Assumes nothing.
 use mathlib.Core.Path.{_≡_, refl, sym, ap, ap₂, _∙_, subst}
 use mathlib.Core.List.{List, [], _∷_, _++_, map, append-nil}
-use mathlib.Core.Bool.{Bool, true, false, cond, not, _||_}
-use Prim.Native.Nat.{ℕ, _+_, _-_, _≤_, _<_}
+use mathlib.Core.Bool.{Bool, true, false, cond, not, _&&_, _||_}
+use Prim.Native.Nat.{ℕ, _+_, _-_, _*_, _≤_, _<_}
 use native.Mathlib.Nat.{zero-add}
+use borrow.Author.Tests.{ltb-true}
 use native.Mathlib.Omega.{arith}
+use lib.Dec.{ltb, eqb}
 use lib.ListN.{length, getD}
 use lib.Bits.{bitXor}
 use Rattle.spec.specs.declared.Params.{Params}
 use Rattle.spec.specs.Bytes.{xorAll}
-use Rattle.spec.specs.Drives.{View, zoneAt, viewOf, mkDisk, zoneOn, sealedIn, dataStored, recordIn}
+use Rattle.spec.specs.Drives.{View, zoneAt, pointerAt, viewOf, mkDisk, zoneOn, sealedIn, dataStored, recordIn}
 use Rattle.spec.specs.Faults.{outside, twice, storedBad}
-use Rattle.spec.specs.Layout.{dataDrive, inGroupOf, headerSerial, Rec, mkRec}
-use Rattle.spec.specs.Lists.{below, any, consIf, keep, firstOr, isIn}
-use Rattle.spec.specs.Memory.{shownAt}
+use Rattle.spec.specs.Layout.{dataDrive, group, inGroupOf, groupOffsets, compactEntry, headerSerial, Rec, mkRec}
+use Rattle.spec.specs.Lists.{upFrom, below, any, consIf, keep, firstOr, isIn}
+use Rattle.spec.specs.Memory.{compactAt, shownAt}
 use Rattle.spec.specs.Params.{inRange, compactLen, placeBlock, placeZone, placeDrive, drivesOf, present}
 use Rattle.spec.specs.Parity.{parityRec}
 use Rattle.spec.specs.Rank.{Cand}
@@ -24,39 +26,41 @@ use Rattle.law_basic.specs.Ranges.Test.{yes!, no! }
 use Rattle.law_basic.specs.Xor.{xorAll-none, xorAll-snoc}
 use Rattle.law_views.specs.Views.{Whole}
 use Rattle.law_drives.specs.Accept.{outside-in}
+use Rattle.recover_compact.specs.Compacts.{Shows}
 use Rattle.recover_groups.specs.Groups.{recsBad, recsFault}
 use Rattle.recover_segments.specs.Remains.{serialOf}
-use Rattle.law_drives.specs.Members.{In, in-map, none-in, first-any}
+use Rattle.law_drives.specs.Members.{In, in-map, none-in, keep-in, keep-cong, first-any}
 use Rattle.law_drives.specs.Segs.{in-present, remaining-low, length-records, record-at, data-low, recs-here, serial-is, chunk-at, CandAt}
 use Rattle.law_drives.specs.Spots.{cand-zone, counts-in, spot-of, spot-block, spot-drive, InGroups, shown-first}
-use Rattle.law_drives.specs.Tables.{length-compact}
+use Rattle.law_drives.specs.Tables.{compact-at}
 use Rattle.law_drives.specs.Tests.{or-left, cond-true, cond-false}
 
--- what the walk over the records rests on: buffers of their lengths, records in order, and the compact table that the drives say
+-- what the walk over the records rests on: buffers of their lengths, and records in order
 pub record Ground (p : Params) (im ps : List ℕ) (gone : ℕ) (cs : List ℕ) : Type 0 where
   pub in-range : inRange p ≡ true
   pub whole : Whole p (mkDisk im ps)
   pub clean : any (recsFault p gone) (segments p (viewOf p im ps) gone) ≡ false
-  pub compact : cs ≡ compactTable p (segments p (viewOf p im ps) gone)
+  pub compact-long : length cs ≡ compactLen p
 
--- a counted stripe of a remaining segment
-pub record Counted (p : Params) (v : View) (gone g s : ℕ) : Type 0 where
+-- a counted stripe of a remaining segment, whose rows of the compact table are as the drives say
+pub record Counted (p : Params) (v : View) (gone : ℕ) (cs : List ℕ) (g s : ℕ) : Type 0 where
   pub remains : In g (remaining p v gone)
   pub stripe-low : s < p .S
   pub it-counts : counts p gone (segmentOf p v gone g) s ≡ true
+  pub shown : Shows p v gone g cs
 
 -- its record on a drive stands at data offset o
-pub record Lies (p : Params) (v : View) (gone d g o s : ℕ) : Type 0 where
+pub record Lies (p : Params) (v : View) (gone : ℕ) (cs : List ℕ) (d g o s : ℕ) : Type 0 where
   pub drive-low : d < p .N
-  pub counted : Counted p v gone g s
+  pub counted : Counted p v gone cs g s
   pub offset-is : o ≡ offsetOf gone (segmentOf p v gone g) s d
 
 -- the record of some counted stripe stands there
-abbrev pub Somewhere : Params → View → ℕ → ℕ → ℕ → ℕ → Type 0
-Somewhere p v gone d g o = (s : ℕ) × Lies p v gone d g o s
+abbrev pub Somewhere : Params → View → ℕ → List ℕ → ℕ → ℕ → ℕ → Type 0
+Somewhere p v gone cs d g o = (s : ℕ) × Lies p v gone cs d g o s
 
-pub counted-low : (p : Params) (v : View) (gone g s : ℕ) → Counted p v gone g s → g < p .Z
-counted-low p v gone g s k = remaining-low p v gone g (k .remains)
+pub counted-low : (p : Params) (v : View) (gone : ℕ) (cs : List ℕ) (g s : ℕ) → Counted p v gone cs g s → g < p .Z
+counted-low p v gone cs g s k = remaining-low p v gone g (k .remains)
 
 -- ---- every chunk of what remains sits at an offset of its group
 
@@ -82,17 +86,27 @@ in-groups p v gone q g d o m hd pr h =
 
 -- ---- the stamp of a chunk that the table shows
 
-module _ (p : Params) (r : Ranged p) (v : View) (gone g s : ℕ) (clean : any (recsFault p gone) (segments p v gone) ≡ false) (k : Counted p v gone g s) (d : ℕ) (hd : d < p .N)
+module _ (p : Params) (r : Ranged p) (v : View) (gone : ℕ) (cs : List ℕ) (g s : ℕ) (clean : any (recsFault p gone) (segments p v gone) ≡ false) (k : Counted p v gone cs g s) (d : ℕ) (hd : d < p .N)
     (pr : isIn gone d ≡ false) where
   has-it : hasChunk (segmentOf p v gone g) s d ≡ true
   has-it = counts-in p gone (segmentOf p v gone g) s d (k .it-counts) hd pr
 
+  -- the table shows the stripe where the whole one would
+  shown-same : shownAt p v cs d g s ≡ shownAt p v (compactTable p (segments p v gone)) d g s
+  unfolding shownAt groupOffsets
+  shown-same = keep-cong (λ o. ltb (1 + o) (pointerAt v d g) && eqb (getD cs (compactAt p d g o) 0) (compactEntry p s))
+      (λ o. ltb (1 + o) (pointerAt v d g) && eqb (getD (compactTable p (segments p v gone)) (compactAt p d g o) 0) (compactEntry p s))
+      (keep (λ o. ltb o (p .S)) (upFrom (group p s * p .G) (p .G)))
+      (λ o m.
+      let l = ltb-true o (p .S) (keep-in (λ o. ltb o (p .S)) (upFrom (group p s * p .G) (p .G)) o m .1) in
+      let e = k .shown d o hd l ∙ sym (compact-at p v gone d g o hd (counted-low p v gone cs g s k) l) in
+      ap (λ (x : ℕ). ltb (1 + o) (pointerAt v d g) && eqb x (compactEntry p s)) e)
+
   -- the offset that the compact table shows
-  pub shown-there : (cs : List ℕ) (o : ℕ) → cs ≡ compactTable p (segments p v gone) → o ≡ firstOr (p .S) (shownAt p v cs d g s) → o ≡ offsetOn (segmentOf p v gone g) d s
-  shown-there cs o ec eo =
+  pub shown-there : (o : ℕ) → o ≡ firstOr (p .S) (shownAt p v cs d g s) → o ≡ offsetOn (segmentOf p v gone g) d s
+  shown-there o eo =
       let q = shown-first p r v gone (in-groups p v gone clean) g d s (k .remains) hd pr has-it in
-      eo ∙ ap (λ (x : List ℕ). firstOr (p .S) (shownAt p v x d g s)) ec
-      ∙ first-any (p .S) 0 (shownAt p v (compactTable p (segments p v gone)) d g s) (q .1) ∙ q .0
+      eo ∙ ap (firstOr (p .S)) shown-same ∙ first-any (p .S) 0 (shownAt p v (compactTable p (segments p v gone)) d g s) (q .1) ∙ q .0
 
   pub offset-low : offsetOn (segmentOf p v gone g) d s < p .S
   offset-low = data-low p (zoneAt v d g) (offsetOn (segmentOf p v gone g) d s) (chunk-at p v gone g d s hd pr has-it .stored-there) .0
@@ -128,7 +142,7 @@ stamps-all f p gone = refl
 
 -- ---- the stamp at a place
 
-module _ (p : Params) (r : Ranged p) (v : View) (gone d g o s : ℕ) (k : Lies p v gone d g o s) where
+module _ (p : Params) (r : Ranged p) (v : View) (gone : ℕ) (cs : List ℕ) (d g o s : ℕ) (k : Lies p v gone cs d g o s) where
   pub lies-away : isIn gone d ≡ true → o ≡ s
   unfolding offsetOf
   lies-away e = k .offset-is ∙ cond-true (isIn gone d) s (offsetOn (segmentOf p v gone g) d s) e
@@ -149,8 +163,8 @@ module _ (p : Params) (r : Ranged p) (v : View) (gone d g o s : ℕ) (k : Lies p
   stamp-here e q f =
       ap (λ (x : Rec). x .stamp) (f ∙ sym (cond-false (isIn gone d) (parityRec s (map (storedRec (segmentOf p v gone g) s) (present p gone))) (storedRec (segmentOf p v gone g) s d) e))
 
-  pub away-counted : isIn gone d ≡ true → Counted p v gone g o
-  away-counted e = subst (λ (x : ℕ). Counted p v gone g x) (sym (lies-away e)) (k .counted)
+  pub away-counted : isIn gone d ≡ true → Counted p v gone cs g o
+  away-counted e = subst (λ (x : ℕ). Counted p v gone cs g x) (sym (lies-away e)) (k .counted)
 
 -- ---- a candidate by its place
 
@@ -171,20 +185,20 @@ module _ (p : Params) (r : Ranged p) (v : View) (gone : ℕ) (h : Cand) (k : Can
   unfolding candOf
   its-drive = ap (λ (x : Cand). x .drive) (k .it-is)
 
-  its-lie : Lies p v gone (h .drive) (k .of) (h .offset) (k .stripe)
+  its-lie : (cs : List ℕ) → Shows p v gone (k .of) cs → Lies p v gone cs (h .drive) (k .of) (h .offset) (k .stripe)
   unfolding candOf
-  its-lie = record {
+  its-lie cs sh = record {
     drive-low = spot-of p r v gone h k .drive-low;
-    counted = record { remains = k .remains; stripe-low = k .stripe-low; it-counts = k .it-counts };
+    counted = record { remains = k .remains; stripe-low = k .stripe-low; it-counts = k .it-counts; shown = sh };
     offset-is = ap (λ (x : Cand). x .offset) (k .it-is) ∙ ap (offsetOf gone (segmentOf p v gone (k .of)) (k .stripe)) (sym its-drive);
   }
 
   -- the place says drive, segment and offset
-  pub place-lies : (q : ℕ) → h .place ≡ q → Lies p v gone (placeDrive p q) (placeZone p q) (placeBlock p q - 1) (k .stripe)
-  place-lies q e = subst (λ (x : ℕ). Lies p v gone (placeDrive p x) (placeZone p x) (placeBlock p x - 1) (k .stripe)) e
-      (subst (λ (x : ℕ). Lies p v gone x (placeZone p (h .place)) (placeBlock p (h .place) - 1) (k .stripe)) (sym is-drive)
-      (subst (λ (x : ℕ). Lies p v gone (h .drive) x (placeBlock p (h .place) - 1) (k .stripe)) (sym is-zone)
-      (subst (λ (x : ℕ). Lies p v gone (h .drive) (k .of) x (k .stripe)) (sym is-offset) its-lie)))
+  pub place-lies : (cs : List ℕ) → Shows p v gone (k .of) cs → (q : ℕ) → h .place ≡ q → Lies p v gone cs (placeDrive p q) (placeZone p q) (placeBlock p q - 1) (k .stripe)
+  place-lies cs sh q e = subst (λ (x : ℕ). Lies p v gone cs (placeDrive p x) (placeZone p x) (placeBlock p x - 1) (k .stripe)) e
+      (subst (λ (x : ℕ). Lies p v gone cs x (placeZone p (h .place)) (placeBlock p (h .place) - 1) (k .stripe)) (sym is-drive)
+      (subst (λ (x : ℕ). Lies p v gone cs (h .drive) x (placeBlock p (h .place) - 1) (k .stripe)) (sym is-zone)
+      (subst (λ (x : ℕ). Lies p v gone cs (h .drive) (k .of) x (k .stripe)) (sym is-offset) (its-lie cs sh))))
 
   -- the record found there is the candidate
   pub it-is-found : (q a t n d o : ℕ) → h .place ≡ q → h .address ≡ a → d ≡ placeDrive p q → o ≡ placeBlock p q - 1
@@ -212,9 +226,6 @@ add-away b t x e = sym (cond-true b t (bitXor t x) e)
 pub add-here : (b : Bool) (t x y : ℕ) → b ≡ false → y ≡ x → bitXor t y ≡ cond b t (bitXor t x)
 add-here b t x y e q = ap (bitXor t) q ∙ sym (cond-false b t (bitXor t x) e)
 
-pub ground-long : (p : Params) (im ps : List ℕ) (gone : ℕ) (cs : List ℕ) → Ground p im ps gone cs → length cs ≡ compactLen p
-ground-long p im ps gone cs k = ap length (k .compact) ∙ length-compact p (viewOf p im ps) gone
-
-pub lies-same : (p : Params) (v : View) (gone d g o s e h i : ℕ) → e ≡ d → h ≡ g → i ≡ o → Lies p v gone d g o s → Lies p v gone e h i s
-lies-same p v gone d g o s e h i ed eg eo k =
-    subst (λ (x : ℕ). Lies p v gone x h i s) (sym ed) (subst (λ (x : ℕ). Lies p v gone d x i s) (sym eg) (subst (λ (x : ℕ). Lies p v gone d g x s) (sym eo) k))
+pub lies-same : (p : Params) (v : View) (gone : ℕ) (cs : List ℕ) (d g o s e h i : ℕ) → e ≡ d → h ≡ g → i ≡ o → Lies p v gone cs d g o s → Lies p v gone cs e h i s
+lies-same p v gone cs d g o s e h i ed eg eo k =
+    subst (λ (x : ℕ). Lies p v gone cs x h i s) (sym ed) (subst (λ (x : ℕ). Lies p v gone cs d x i s) (sym eg) (subst (λ (x : ℕ). Lies p v gone cs d g x s) (sym eo) k))

@@ -20,6 +20,7 @@ use Rattle.spec.specs.Rank.{Cand, beats, better, best, placeOr, candsOf}
 use Rattle.spec.specs.Segments.{addressTable}
 use Rattle.law_basic.specs.Geometry.{Ranged}
 use Rattle.law_basic.specs.Splice.{length-part, getD-part}
+use Rattle.recover_compact.specs.Compacts.{Shows}
 use Rattle.law_drives.specs.Best.{best-in}
 use Rattle.law_drives.specs.Members.{In, in-append}
 use Rattle.law_drives.specs.Segs.{CandAt}
@@ -28,30 +29,34 @@ use Rattle.law_drives.specs.Tables.{length-addresses, place-at, addresses-ext}
 use Rattle.law_drives.specs.Tests.{cond-true, cond-false}
 use Rattle.recover_addresses.specs.Offers.{offer-high, offer-kept, offer-set}
 
+-- a candidate of a segment whose rows of the compact table are as the drives say
+abbrev pub Near : Params → View → ℕ → List ℕ → Cand → Type 0
+Near p v gone co c = (k : CandAt p v gone c) × Shows p v gone (k .of) co
+
 -- candidates of the drives, and the table of them
-pub record Told (p : Params) (v : View) (gone : ℕ) (tb : List ℕ) (cs : List Cand) : Type 0 where
+pub record Told (p : Params) (v : View) (gone : ℕ) (co tb : List ℕ) (cs : List Cand) : Type 0 where
   pub table : tb ≡ addressTable p cs
-  pub said : (c : Cand) → In c cs → CandAt p v gone c
+  pub said : (c : Cand) → In c cs → Near p v gone co c
 
 -- the table is that of some candidates of the drives
-abbrev pub Known : Params → View → ℕ → List ℕ → Type 0
-Known p v gone tb = (cs : List Cand) × Told p v gone tb cs
+abbrev pub Known : Params → View → ℕ → List ℕ → List ℕ → Type 0
+Known p v gone co tb = (cs : List Cand) × Told p v gone co tb cs
 
 -- the candidates that the table tells are followed by new ones
-abbrev pub Tells : Params → View → ℕ → List ℕ → List ℕ → List Cand → Type 0
-Tells p v gone tb tb′ new = (cs : List Cand) → Told p v gone tb cs → Told p v gone tb′ (cs ++ new)
+abbrev pub Tells : Params → View → ℕ → List ℕ → List ℕ → List ℕ → List Cand → Type 0
+Tells p v gone co tb tb′ new = (cs : List Cand) → Told p v gone co tb cs → Told p v gone co tb′ (cs ++ new)
 
-pub told-long : (p : Params) (v : View) (gone : ℕ) (tb : List ℕ) (cs : List Cand) → Told p v gone tb cs → length tb ≡ addressesLen p
-told-long p v gone tb cs t = ap length (t .table) ∙ length-addresses p cs
+pub told-long : (p : Params) (v : View) (gone : ℕ) (co tb : List ℕ) (cs : List Cand) → Told p v gone co tb cs → length tb ≡ addressesLen p
+told-long p v gone co tb cs t = ap length (t .table) ∙ length-addresses p cs
 
-pub told-fits : (p : Params) (v : View) (gone : ℕ) (tb : List ℕ) (cs : List Cand) → Told p v gone tb cs → (a : ℕ) → a < p .L → 4 * a + 4 ≤ length tb
+pub told-fits : (p : Params) (v : View) (gone : ℕ) (co tb : List ℕ) (cs : List Cand) → Told p v gone co tb cs → (a : ℕ) → a < p .L → 4 * a + 4 ≤ length tb
 unfolding addressesLen
-told-fits p v gone tb cs t a h = let e : length tb ≡ 4 * p .L = told-long p v gone tb cs t in omega arith
+told-fits p v gone co tb cs t a h = let e : length tb ≡ 4 * p .L = told-long p v gone co tb cs t in omega arith
 
 -- ---- no candidate yet: every address is never written
 
-pub nothing-told : (p : Params) (v : View) (gone : ℕ) (tb : List ℕ) → tb ≡ replicate (addressesLen p) 255 → Told p v gone tb []
-nothing-told p v gone tb e = record {
+pub nothing-told : (p : Params) (v : View) (gone : ℕ) (co tb : List ℕ) → tb ≡ replicate (addressesLen p) 255 → Told p v gone co tb []
+nothing-told p v gone co tb e = record {
   table = e ∙ addresses-ext p (replicate (addressesLen p) 255) [] (length-replicate {A = ℕ} (addressesLen p) 255) (λ a h. row a h);
   said = λ c m. absurd m;
 }
@@ -74,58 +79,58 @@ nothing-told p v gone tb e = record {
 
 -- ---- what the table holds of an address
 
-pub data Holding (p : Params) (v : View) (gone : ℕ) (tb : List ℕ) (cs : List Cand) (a : ℕ) : Type 0 where
-  holds-none : best none (candsOf a cs) ≡ none → placeAt tb a ≡ neverPlace → Holding p v gone tb cs a
-  holds-one : (h : Cand) → best none (candsOf a cs) ≡ some h → CandAt p v gone h → h .address ≡ a → placeAt tb a ≡ h .place → h .place < neverPlace → Holding p v gone tb cs a
+pub data Holding (p : Params) (v : View) (gone : ℕ) (co tb : List ℕ) (cs : List Cand) (a : ℕ) : Type 0 where
+  holds-none : best none (candsOf a cs) ≡ none → placeAt tb a ≡ neverPlace → Holding p v gone co tb cs a
+  holds-one : (h : Cand) → best none (candsOf a cs) ≡ some h → Near p v gone co h → h .address ≡ a → placeAt tb a ≡ h .place → h .place < neverPlace → Holding p v gone co tb cs a
 
 -- a candidate at a place
-abbrev pub Placed : Params → View → ℕ → ℕ → ℕ → Type 0
-Placed p v gone a q = (h : Cand) × CandAt p v gone h × (h .place ≡ q) × (h .address ≡ a)
+abbrev pub Placed : Params → View → ℕ → List ℕ → ℕ → ℕ → Type 0
+Placed p v gone co a q = (h : Cand) × Near p v gone co h × (h .place ≡ q) × (h .address ≡ a)
 
 -- the candidate at the place is x
-abbrev pub Found : Params → View → ℕ → ℕ → ℕ → Cand → Type 0
-Found p v gone a q x = (h : Cand) → CandAt p v gone h → h .place ≡ q → h .address ≡ a → x ≡ h
+abbrev pub Found : Params → View → ℕ → List ℕ → ℕ → ℕ → Cand → Type 0
+Found p v gone co a q x = (h : Cand) → Near p v gone co h → h .place ≡ q → h .address ≡ a → x ≡ h
 
-module _ (p : Params) (r : Ranged p) (v : View) (gone : ℕ) (tb : List ℕ) (cs : List Cand) (t : Told p v gone tb cs) where
-  pub holding : (a : ℕ) → a < p .L → Holding p v gone tb cs a
+module _ (p : Params) (r : Ranged p) (v : View) (gone : ℕ) (co tb : List ℕ) (cs : List Cand) (t : Told p v gone co tb cs) where
+  pub holding : (a : ℕ) → a < p .L → Holding p v gone co tb cs a
   holding a h = go (best none (candsOf a cs)) refl
     where
-      go : (o : Opt Cand) → best none (candsOf a cs) ≡ o → Holding p v gone tb cs a
+      go : (o : Opt Cand) → best none (candsOf a cs) ≡ o → Holding p v gone co tb cs a
       go none e =
           let q : placeOr (best none (candsOf a cs)) ≡ neverPlace = ap placeOr e ∙ (unfold placeOr in refl) in
           holds-none e (ap (λ (x : List ℕ). placeAt x a) (t .table) ∙ place-at p cs a h (subst (λ (x : ℕ). x < 256 ^ 4) (sym q) (lit< tt)) ∙ q)
       go (some c) e =
           let i = best-in a cs c e in
           let k = t .said c (i .0) in
-          let l = spot-low p r v gone c (spot-of p r v gone c k) in
+          let l = spot-low p r v gone c (spot-of p r v gone c (k .0)) in
           let q : placeOr (best none (candsOf a cs)) ≡ c .place = ap placeOr e ∙ (unfold placeOr in refl) in
           holds-one c e k (i .1) (ap (λ (x : List ℕ). placeAt x a) (t .table) ∙ place-at p cs a h (subst (λ (x : ℕ). x < 256 ^ 4) (sym q) (let z : c .place < 256 ^ 4 = omega arith in z)) ∙ q) l
 
-  pub placed : (a : ℕ) → a < p .L → (placeAt tb a ≡ neverPlace → ⊥) → Placed p v gone a (placeAt tb a)
+  pub placed : (a : ℕ) → a < p .L → (placeAt tb a ≡ neverPlace → ⊥) → Placed p v gone co a (placeAt tb a)
   placed a h n = go (holding a h)
     where
-      go : Holding p v gone tb cs a → Placed p v gone a (placeAt tb a)
+      go : Holding p v gone co tb cs a → Placed p v gone co a (placeAt tb a)
       go (holds-none e q) = absurd (n q)
       go (holds-one x e k i q l) = (x, k, sym q, i)
 
-  and-one : (c : Cand) → CandAt p v gone c → (x : Cand) → In x (cs ++ (c ∷ [])) → CandAt p v gone x
+  and-one : (c : Cand) → Near p v gone co c → (x : Cand) → In x (cs ++ (c ∷ [])) → Near p v gone co x
   and-one c k x m = go (in-append x cs (c ∷ []) m)
     where
-      go : In x cs ⊎ In x (c ∷ []) → CandAt p v gone x
+      go : In x cs ⊎ In x (c ∷ []) → Near p v gone co x
       go (inl i) = t .said x i
-      go (inr (inl e)) = subst (λ (y : Cand). CandAt p v gone y) (sym e) k
+      go (inr (inl e)) = subst (λ (y : Cand). Near p v gone co y) (sym e) k
       go (inr (inr i)) = absurd i
 
-  module _ (c : Cand) (k : CandAt p v gone c) where
+  module _ (c : Cand) (k : Near p v gone co c) where
     -- an address that no table has
-    pub told-high : p .L ≤ c .address → Told p v gone tb (cs ++ (c ∷ []))
+    pub told-high : p .L ≤ c .address → Told p v gone co tb (cs ++ (c ∷ []))
     told-high h = record { table = t .table ∙ offer-high p cs c h; said = and-one c k }
 
     -- the first of its address
-    pub told-fresh : c .address < p .L → placeAt tb (c .address) ≡ neverPlace → Told p v gone (setPlace tb (c .address) (c .place)) (cs ++ (c ∷ []))
+    pub told-fresh : c .address < p .L → placeAt tb (c .address) ≡ neverPlace → Told p v gone co (setPlace tb (c .address) (c .place)) (cs ++ (c ∷ []))
     told-fresh h n = go (holding (c .address) h)
       where
-        go : Holding p v gone tb cs (c .address) → Told p v gone (setPlace tb (c .address) (c .place)) (cs ++ (c ∷ []))
+        go : Holding p v gone co tb cs (c .address) → Told p v gone co (setPlace tb (c .address) (c .place)) (cs ++ (c ∷ []))
         go (holds-none e q) = record {
           table = ap (λ (x : List ℕ). setPlace x (c .address) (c .place)) (t .table)
               ∙ offer-set p cs c h (ap (λ (o : Opt Cand). better o c) e ∙ (unfold better in refl));
@@ -133,16 +138,16 @@ module _ (p : Params) (r : Ranged p) (v : View) (gone : ℕ) (tb : List ℕ) (cs
         }
         go (holds-one x e i y q l) = absurd (let z : ⊥ = omega (arith, n, q, l) in z)
 
-    module _ (h : c .address < p .L) (n : placeAt tb (c .address) ≡ neverPlace → ⊥) (x : Cand) (f : Found p v gone (c .address) (placeAt tb (c .address)) x) where
+    module _ (h : c .address < p .L) (n : placeAt tb (c .address) ≡ neverPlace → ⊥) (x : Cand) (f : Found p v gone co (c .address) (placeAt tb (c .address)) x) where
       holds-it : best none (candsOf (c .address) cs) ≡ some x
       holds-it = go (holding (c .address) h)
         where
-          go : Holding p v gone tb cs (c .address) → best none (candsOf (c .address) cs) ≡ some x
+          go : Holding p v gone co tb cs (c .address) → best none (candsOf (c .address) cs) ≡ some x
           go (holds-none e q) = absurd (n q)
           go (holds-one y e i a q l) = e ∙ ap some (sym (f y i (sym q) a))
 
       -- it beats the one held
-      pub told-won : beats c x ≡ true → Told p v gone (setPlace tb (c .address) (c .place)) (cs ++ (c ∷ []))
+      pub told-won : beats c x ≡ true → Told p v gone co (setPlace tb (c .address) (c .place)) (cs ++ (c ∷ []))
       told-won b = record {
         table = ap (λ (x : List ℕ). setPlace x (c .address) (c .place)) (t .table)
             ∙ offer-set p cs c h (ap (λ (o : Opt Cand). better o c) holds-it ∙ won);
@@ -153,7 +158,7 @@ module _ (p : Params) (r : Ranged p) (v : View) (gone : ℕ) (tb : List ℕ) (cs
           won = unfold better in ap some (cond-true (beats c x) c x b)
 
       -- it does not
-      pub told-lost : beats c x ≡ false → Told p v gone tb (cs ++ (c ∷ []))
+      pub told-lost : beats c x ≡ false → Told p v gone co tb (cs ++ (c ∷ []))
       told-lost b = record {
         table = t .table ∙ offer-kept p cs c (ap (λ (o : Opt Cand). better o c) holds-it ∙ lost ∙ sym holds-it);
         said = and-one c k;

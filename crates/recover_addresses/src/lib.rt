@@ -11,9 +11,8 @@ ghost use Rattle.spec.specs.Params.{present};
 ghost use Rattle.spec.specs.Segments.{segmentOf, storedRec, recOf};
 ghost use Rattle.disk_rank.specs.Ranked.{ranked};
 ghost use Rattle.recover_segments.specs.Remains.{Serials};
-ghost use Rattle.law_drives.specs.Segs.{CandAt};
 ghost use Rattle.recover_addresses.specs.Lies.{Ground, Counted, Lies, Somewhere};
-ghost use Rattle.recover_addresses.specs.Told.{Known, Tells, Placed, Found};
+ghost use Rattle.recover_addresses.specs.Told.{Near, Known, Tells, Placed, Found};
 use disk_rank::Cand;
 use spec::Address;
 use spec::Params;
@@ -35,7 +34,7 @@ fn add_stamp(
     t: Stamp,
 ) -> Stamp
     requires { ⌜ Ground p (now image) (now pointers) gone (now compact) ⌝ }
-    requires { ⌜ (drive < p .N) × Counted p (viewOf p (now image) (now pointers)) gone segment s × (full ≡ sealedIn p (viewOf p (now image) (now pointers)) gone segment) ⌝ }
+    requires { ⌜ (drive < p .N) × Counted p (viewOf p (now image) (now pointers)) gone (now compact) segment s × (full ≡ sealedIn p (viewOf p (now image) (now pointers)) gone segment) ⌝ }
     ensures { λ r. ⌜ r .0 ≡ cond (isIn gone drive) (t .0) (bitXor (t .0) (storedRec (segmentOf p (viewOf p (now (image .entry)) (now (pointers .entry))) gone segment) s drive .stamp)) ⌝ }
 {
     if bits_masks::has_drive(gone, drive) {
@@ -59,7 +58,7 @@ fn lost_stamp(
     s: usize,
 ) -> Stamp
     requires { ⌜ Ground p (now image) (now pointers) gone (now compact) ⌝ }
-    requires { ⌜ Counted p (viewOf p (now image) (now pointers)) gone segment s × (full ≡ sealedIn p (viewOf p (now image) (now pointers)) gone segment) ⌝ }
+    requires { ⌜ Counted p (viewOf p (now image) (now pointers)) gone (now compact) segment s × (full ≡ sealedIn p (viewOf p (now image) (now pointers)) gone segment) ⌝ }
     ensures { λ r. ⌜ r .0 ≡ xorAll (map (λ d. storedRec (segmentOf p (viewOf p (now (image .entry)) (now (pointers .entry))) gone segment) s d .stamp) (present p gone)) ⌝ }
 {
     let mut t = Stamp(0);
@@ -83,10 +82,10 @@ fn stamp_at(
     offset: usize,
 ) -> Stamp
     requires { ⌜ Ground p (now image) (now pointers) gone (now compact) ⌝ }
-    requires { ⌜ Somewhere p (viewOf p (now image) (now pointers)) gone drive segment offset ⌝ }
+    requires { ⌜ Somewhere p (viewOf p (now image) (now pointers)) gone (now compact) drive segment offset ⌝ }
     ensures { λ r. ⌜
         ((s : ℕ)
-        → Lies p (viewOf p (now (image .entry)) (now (pointers .entry))) gone drive segment offset s
+        → Lies p (viewOf p (now (image .entry)) (now (pointers .entry))) gone (now (compact .entry)) drive segment offset s
         → r .0 ≡ recOf p gone (segmentOf p (viewOf p (now (image .entry)) (now (pointers .entry))) gone segment) s drive .stamp) ⌝ }
 {
     let full = disk_zones::is_sealed(p, pointers, gone, segment);
@@ -111,8 +110,8 @@ fn cand_at(
 ) -> Cand
     requires { ⌜ Ground p (now image) (now pointers) gone (now compact) ⌝ }
     requires { ⌜ Serials p (viewOf p (now image) (now pointers)) gone (now serials) ⌝ }
-    requires { ⌜ Placed p (viewOf p (now image) (now pointers)) gone (address .0) (place .0) ⌝ }
-    ensures { λ r. ⌜ Found p (viewOf p (now (image .entry)) (now (pointers .entry))) gone (address .0) (place .0) (ranked r) ⌝ }
+    requires { ⌜ Placed p (viewOf p (now image) (now pointers)) gone (now compact) (address .0) (place .0) ⌝ }
+    ensures { λ r. ⌜ Found p (viewOf p (now (image .entry)) (now (pointers .entry))) gone (now (compact .entry)) (address .0) (place .0) (ranked r) ⌝ }
 {
     let drive = disk_shape::place_drive(p, place);
     let segment = disk_shape::place_zone(p, place);
@@ -141,9 +140,9 @@ pub fn offer(
 )
     requires { ⌜ Ground p (now image) (now pointers) gone (now compact) ⌝ }
     requires { ⌜ Serials p (viewOf p (now image) (now pointers)) gone (now serials) ⌝ }
-    requires { ⌜ CandAt p (viewOf p (now image) (now pointers)) gone (ranked c) ⌝ }
-    requires { ⌜ Known p (viewOf p (now image) (now pointers)) gone (now addresses) ⌝ }
-    ensures { λ _. ⌜ Tells p (viewOf p (now (image .entry)) (now (pointers .entry))) gone (now (addresses .entry)) (now (addresses .exit)) (ranked c ∷ []) ⌝ }
+    requires { ⌜ Near p (viewOf p (now image) (now pointers)) gone (now compact) (ranked c) ⌝ }
+    requires { ⌜ Known p (viewOf p (now image) (now pointers)) gone (now compact) (now addresses) ⌝ }
+    ensures { λ _. ⌜ Tells p (viewOf p (now (image .entry)) (now (pointers .entry))) gone (now (compact .entry)) (now (addresses .entry)) (now (addresses .exit)) (ranked c ∷ []) ⌝ }
 {
     let address = c.address;
     let better = c.place;

@@ -92,7 +92,7 @@ fn exam_good(e: Exam, full: bool, t: Tally) -> Exam
     }
 }
 
-// One segment; one that doesn't remain is not looked at.
+// One segment; one that doesn't remain is not looked at; at is room for the index of a group.
 fn exam_segment(
     p: Params,
     image: &[u8],
@@ -102,13 +102,14 @@ fn exam_segment(
     serials: &[u64],
     g: usize,
     many: bool,
+    at: &mut [u16],
     e: Exam,
 ) -> Exam
     requires { ⌜ inRange p ≡ true ⌝ }
     requires { ⌜ Whole p (mkDisk (now image) (now pointers)) ⌝ }
     requires { ⌜ Keeps p (viewOf p (now image) (now pointers)) gone (now kept) ⌝ }
     requires { ⌜ Serials p (viewOf p (now image) (now pointers)) gone (now serials) ⌝ }
-    requires { ⌜ (g < p .Z) × (many ≡ leb 2 (length (unsealed (segments p (viewOf p (now image) (now pointers)) gone)))) × Seen p (viewOf p (now image) (now pointers)) gone (now kept) g e ⌝ }
+    requires { ⌜ (g < p .Z) × (many ≡ leb 2 (length (unsealed (segments p (viewOf p (now image) (now pointers)) gone)))) × Seen p (viewOf p (now image) (now pointers)) gone (now kept) g e × (length (now at) ≡ 2048) ⌝ }
     ensures { λ r. ⌜ (faulty p (viewOf p (now (image .entry)) (now (pointers .entry))) gone g ≡ true → r .zone ≡ g) ⌝ }
     ensures { λ r. ⌜
         (faulty p (viewOf p (now (image .entry)) (now (pointers .entry))) gone g ≡ false
@@ -121,7 +122,7 @@ fn exam_segment(
     if segment_fault(p, image, pointers, gone, kept, serials, g, full, many) {
         return exam_bad(e, g);
     }
-    let t = recover_survey::survey(p, image, pointers, gone, g, full);
+    let t = recover_survey::survey(p, image, pointers, gone, g, full, at);
     if t.bad {
         return exam_bad(e, g);
     }
@@ -137,12 +138,13 @@ fn exam_segments(
     kept: &[bool],
     serials: &[u64],
     many: bool,
+    at: &mut [u16],
 ) -> Exam
     requires { ⌜ inRange p ≡ true ⌝ }
     requires { ⌜ Whole p (mkDisk (now image) (now pointers)) ⌝ }
     requires { ⌜ Keeps p (viewOf p (now image) (now pointers)) gone (now kept) ⌝ }
     requires { ⌜ Serials p (viewOf p (now image) (now pointers)) gone (now serials) ⌝ }
-    requires { ⌜ many ≡ leb 2 (length (unsealed (segments p (viewOf p (now image) (now pointers)) gone))) ⌝ }
+    requires { ⌜ (many ≡ leb 2 (length (unsealed (segments p (viewOf p (now image) (now pointers)) gone)))) × (length (now at) ≡ 2048) ⌝ }
     ensures { λ r. ⌜ Examined p gone (segments p (viewOf p (now (image .entry)) (now (pointers .entry))) gone) r ⌝ }
 {
     let mut e = Exam {
@@ -154,7 +156,7 @@ fn exam_segments(
     };
     let mut g = 0;
     while g < p.Z {
-        e = exam_segment(p, image, pointers, gone, kept, serials, g, many, e);
+        e = exam_segment(p, image, pointers, gone, kept, serials, g, many, at, e);
         if e.zone < p.Z {
             return e;
         }
@@ -163,7 +165,7 @@ fn exam_segments(
     e
 }
 
-// 01, Refusals, 9: the lowest remaining segment with a fault, with what is counted on the way.
+// 01, Refusals, 9: the lowest remaining segment with a fault, with what is counted on the way. The room for the index of a group is cleared once.
 pub fn examine(
     p: Params,
     image: &[u8],
@@ -178,5 +180,6 @@ pub fn examine(
     ensures { λ r. ⌜ Examined p gone (segments p (viewOf p (now (image .entry)) (now (pointers .entry))) gone) r ⌝ }
 {
     let many = 2 <= recover_segments::unsealed_count(p, pointers, gone, kept);
-    exam_segments(p, image, pointers, gone, kept, serials, many)
+    let mut at = [0u16; 2048];
+    exam_segments(p, image, pointers, gone, kept, serials, many, &mut at)
 }

@@ -1,25 +1,27 @@
--- The compact table, row by row (01, What a zone holds). Assumes nothing.
+-- The rows of a segment in the compact table (01, What a zone holds). Assumes nothing.
 use mathlib.Core.Path.{_≡_, refl, sym, ap, ap₂, _∙_}
 use mathlib.Core.List.{List, [], _++_, map}
 use mathlib.Core.Bool.{Bool, true, false, cond}
+use mathlib.Core.Logic.{_⊎_, inl, inr}
 use Prim.Native.Nat.{ℕ, _+_, _-_, _*_, _/_, _%_, _≤_, _<_}
-use native.Mathlib.Nat.{add-zero, zero-add, mul-assoc, add-mul, sub-zero, div-add-mod', zero-mod, mod-eq-of-lt, mul-add-mod-self-right}
+use native.Mathlib.Nat.{add-zero, sub-zero, div-add-mod', zero-mod, mod-eq-of-lt, mul-add-mod-self-right}
+use native.Mathlib.Decide.{decLt, ℕ-discrete}
 use native.Mathlib.Omega.{arith}
-use lib.ListN.{length, set, replicate, length-replicate, length-map}
+use lib.Arith.{digits-mod}
+use lib.ListN.{length, getD, set, replicate, length-replicate, length-map}
 use Rattle.spec.specs.declared.Params.{Params}
 use Rattle.spec.specs.Bytes.{splice}
 use Rattle.spec.specs.Drives.{Zone, View, zoneAt, sealedIn, dataStored, recordIn}
 use Rattle.spec.specs.Layout.{compactEntry, Rec}
-use Rattle.spec.specs.Lists.{below, flat, padTo, isIn}
+use Rattle.spec.specs.Lists.{below, padTo, isIn}
 use Rattle.spec.specs.Memory.{compactAt}
 use Rattle.spec.specs.Params.{compactLen}
-use Rattle.spec.specs.Segments.{recordsIn, segmentOf, segments, recsOn, compactRow, compactTable}
+use Rattle.spec.specs.Segments.{recordsIn, segmentOf, recsOn, compactRow}
 use Rattle.law_basic.specs.Geometry.{item, row-fits}
-use Rattle.law_basic.specs.Ranges.{below-none, length-below, map-below-snoc, map-map, flat-below-snoc}
-use Rattle.law_basic.specs.Splice.{splice-nil, splice-all, wrote-one, splice-next}
-use Rattle.recover_segments.specs.Remains.{remains as Remain, isLeft}
+use Rattle.law_basic.specs.Ranges.{below-none, length-below, map-below-snoc, map-map}
+use Rattle.law_basic.specs.Splice.{splice-nil, wrote-one, splice-next, getD-splice-below, getD-splice-in, getD-splice-past}
 use Rattle.law_drives.specs.Segs.{recs-here, recs-gone}
-use Rattle.law_drives.specs.Tables.{remains, long-flat, gridOf, rowAt, compact-is, compact-row-long, length-compact}
+use Rattle.law_drives.specs.Tables.{remains, rowAt, compact-row-long}
 use Rattle.law_drives.specs.Tests.{cond-true, cond-false}
 
 -- 01, What a zone holds: the entry of a data offset
@@ -34,8 +36,8 @@ rowBytes p v gone w d z = compactRow p (cond w (recsOn (segmentOf p v gone z) d)
 unfoldable pub rowSaid : Params → View → ℕ → ℕ → ℕ → List ℕ
 rowSaid p v gone d z = compactRow p (rowAt p v gone d z)
 
-pub row-of : (p : Params) (v : View) (gone d z : ℕ) (w : Bool) → w ≡ Remain p v gone z → rowBytes p v gone w d z ≡ rowSaid p v gone d z
-unfolding rowBytes rowSaid rowAt remains Remain isLeft
+pub row-of : (p : Params) (v : View) (gone d z : ℕ) (w : Bool) → w ≡ remains p v gone z → rowBytes p v gone w d z ≡ rowSaid p v gone d z
+unfolding rowBytes rowSaid rowAt
 row-of p v gone d z w e = ap (λ (b : Bool). compactRow p (cond b (recsOn (segmentOf p v gone z) d) [])) e
 
 -- ---- a row
@@ -68,77 +70,89 @@ pub length-row : (p : Params) (v : View) (gone d z : ℕ) → d < p .N → z < p
 unfolding rowSaid
 length-row p v gone d z hd hz = compact-row-long p v gone d z hd hz
 
--- ---- all rows
+-- ---- the rows of a segment
 
-pub length-rows : (p : Params) (v : View) (gone d n : ℕ) → d < p .N → n ≤ p .Z → length (flat (rowSaid p v gone d) (below n)) ≡ n * p .S
-length-rows p v gone d n hd hn = long-flat (rowSaid p v gone d) (p .S) n (λ z h. length-row p v gone d z hd (omega arith))
+-- they are as the drives say them
+abbrev pub Shows : Params → View → ℕ → ℕ → List ℕ → Type 0
+Shows p v gone g l = (d o : ℕ) → d < p .N → o < p .S → getD l (compactAt p d g o) 0 ≡ getD (compactRow p (rowAt p v gone d g)) o 0
 
-pub row-start : (p : Params) (d z : ℕ) → compactAt p d z 0 ≡ compactAt p d 0 0 + z * p .S
-unfolding compactAt
-row-start p d z = let e : (d * p .Z + z) * p .S ≡ d * p .Z * p .S + z * p .S = add-mul (d * p .Z) z (p .S) in
-    let f : (d * p .Z + 0) * p .S ≡ d * p .Z * p .S = ap (λ (x : ℕ). x * p .S) (add-zero (d * p .Z)) in omega arith
+-- nothing else changes
+abbrev pub Else : Params → ℕ → List ℕ → List ℕ → Type 0
+Else p g l l′ = (d z o : ℕ) → d < p .N → z < p .Z → o < p .S → (z ≡ g → ⊥) → getD l′ (compactAt p d z o) 0 ≡ getD l (compactAt p d z o) 0
 
-pub rows-none : (f : ℕ → List ℕ) (l : List ℕ) (at : ℕ) → l ≡ splice l at (flat f (below 0))
-unfolding flat
-rows-none f l at = sym (ap (λ (x : List ℕ). splice l at (flat f x)) below-none ∙ splice-nil l at)
+-- those of the drives below n are said, and nothing else changes
+pub record Rows (p : Params) (v : View) (gone g n : ℕ) (l l′ : List ℕ) : Type 0 where
+  pub same-long : length l′ ≡ length l
+  pub said : (d o : ℕ) → d < n → d < p .N → o < p .S → getD l′ (compactAt p d g o) 0 ≡ getD (compactRow p (rowAt p v gone d g)) o 0
+  pub others : Else p g l l′
 
--- one row more of a drive
-pub rows-turn : (p : Params) (v : View) (gone d z : ℕ) (l l′ l″ : List ℕ) → d < p .N → z < p .Z → length l ≡ compactLen p
-    → l′ ≡ splice l (compactAt p d 0 0) (flat (rowSaid p v gone d) (below z)) → l″ ≡ splice l′ (compactAt p d z 0) (rowSaid p v gone d z)
-    → l″ ≡ splice l (compactAt p d 0 0) (flat (rowSaid p v gone d) (below (z + 1)))
-rows-turn p v gone d z l l′ l″ hd hz long e f =
-    let s = flat (rowSaid p v gone d) (below z) in
-    let t = rowSaid p v gone d z in
-    let n : length s ≡ z * p .S = length-rows p v gone d z hd (omega arith) in
-    let m : length t ≡ p .S = length-row p v gone d z hd hz in
-    let b : compactAt p d z 0 ≡ compactAt p d 0 0 + length s = row-start p d z ∙ ap (λ (x : ℕ). compactAt p d 0 0 + x) (sym n) in
-    f ∙ ap₂ (λ (x : List ℕ) (a : ℕ). splice x a t) e b
-    ∙ splice-next l (compactAt p d 0 0) s t (omega (arith, row-fits p d z hd hz))
-    ∙ ap (splice l (compactAt p d 0 0)) (sym (flat-below-snoc (rowSaid p v gone d) z))
+pub rows-start : (p : Params) (v : View) (gone g : ℕ) (l : List ℕ) → Rows p v gone g 0 l l
+rows-start p v gone g l = record {
+  same-long = refl;
+  said = λ d o h. absurd (let bad : ⊥ = omega arith in bad);
+  others = λ d z o hd hz ho n. refl;
+}
 
--- the rows of a drive as the drives say them
-unfoldable pub driveSaid : Params → View → ℕ → ℕ → List ℕ
-driveSaid p v gone d = flat (rowSaid p v gone d) (below (p .Z))
+pub rows-shown : (p : Params) (v : View) (gone g n : ℕ) (l l′ : List ℕ) → p .N ≤ n → Rows p v gone g n l l′ → Shows p v gone g l′ × Else p g l l′
+rows-shown p v gone g n l l′ h r = ((λ d o hd ho. r .said d o (omega arith) hd ho), r .others)
 
-pub rows-all : (p : Params) (v : View) (gone d : ℕ) → flat (rowSaid p v gone d) (below (p .Z)) ≡ driveSaid p v gone d
-unfolding driveSaid
-rows-all p v gone d = refl
-
-pub length-drive : (p : Params) (v : View) (gone d : ℕ) → d < p .N → length (driveSaid p v gone d) ≡ p .Z * p .S
-unfolding driveSaid
-length-drive p v gone d hd = length-rows p v gone d (p .Z) hd (omega arith)
-
-pub drive-start : (p : Params) (d : ℕ) → compactAt p d 0 0 ≡ d * (p .Z * p .S)
-unfolding compactAt
-drive-start p d =
-    let f : (d * p .Z + 0) * p .S ≡ d * p .Z * p .S = ap (λ (x : ℕ). x * p .S) (add-zero (d * p .Z)) in
-    let g : d * p .Z * p .S ≡ d * (p .Z * p .S) = mul-assoc d (p .Z) (p .S) in
-    omega arith
-
-pub drives-turn : (p : Params) (v : View) (gone d : ℕ) (l l′ l″ : List ℕ) → d < p .N → length l ≡ compactLen p
-    → l′ ≡ splice l 0 (flat (driveSaid p v gone) (below d)) → l″ ≡ splice l′ (compactAt p d 0 0) (driveSaid p v gone d)
-    → l″ ≡ splice l 0 (flat (driveSaid p v gone) (below (d + 1)))
-drives-turn p v gone d l l′ l″ hd long e f =
-    let s = flat (driveSaid p v gone) (below d) in
-    let t = driveSaid p v gone d in
-    let n : length s ≡ d * (p .Z * p .S) = long-flat (driveSaid p v gone) (p .Z * p .S) d (λ x h. length-drive p v gone x (omega arith)) in
-    let m : length t ≡ p .Z * p .S = length-drive p v gone d hd in
-    let b : compactAt p d 0 0 ≡ 0 + length s = drive-start p d ∙ sym n ∙ sym (zero-add (length s)) in
-    let c : d * (p .Z * p .S) + p .Z * p .S ≤ p .N * (p .Z * p .S) = item d (p .N) (p .Z * p .S) hd in
-    let g : compactLen p ≡ p .N * (p .Z * p .S) = all-long p in
-    f ∙ ap₂ (λ (x : List ℕ) (a : ℕ). splice x a t) e b
-    ∙ splice-next l 0 s t (omega arith)
-    ∙ ap (splice l 0) (sym (flat-below-snoc (driveSaid p v gone) d))
+-- a place in another row lies below or behind a row
+row-apart : (s x y o : ℕ) → o < s → (x ≡ y → ⊥) → (x * s + o < y * s) ⊎ (y * s + s ≤ x * s + o)
+row-apart s x y o h n = go (decLt x y)
   where
-    all-long : (p : Params) → compactLen p ≡ p .N * (p .Z * p .S)
-    all-long p = unfold compactLen in mul-assoc (p .N) (p .Z) (p .S)
+    go : Dec (x < y) → (x * s + o < y * s) ⊎ (y * s + s ≤ x * s + o)
+    go (yes l) = inl (let a = item x y s l in omega arith)
+    go (no l) = inr (let a = item y x s (omega arith) in omega arith)
 
-pub table-said : (p : Params) (v : View) (gone : ℕ) (l l′ : List ℕ) → length l ≡ compactLen p
-    → l′ ≡ splice l 0 (flat (driveSaid p v gone) (below (p .N))) → l′ ≡ compactTable p (segments p v gone)
-unfolding driveSaid gridOf rowSaid
-table-said p v gone l l′ long e =
-    let g : gridOf p (λ d z. compactRow p (rowAt p v gone d z)) ≡ compactTable p (segments p v gone) = sym (compact-is p v gone) in
-    e ∙ splice-all l (gridOf p (λ d z. compactRow p (rowAt p v gone d z))) (ap length g ∙ length-compact p v gone ∙ sym long) ∙ g
+module _ (p : Params) (l l′ : List ℕ) (d z : ℕ) (t : List ℕ) (hd : d < p .N) (hz : z < p .Z) (long : length l ≡ compactLen p) (lt : length t ≡ p .S)
+    (e : l′ ≡ splice l (compactAt p d z 0) t) where
+  fits : compactAt p d z 0 + length t ≤ length l
+  fits = omega (arith, row-fits p d z hd hz)
+
+  first : (x y o : ℕ) → compactAt p x y o ≡ compactAt p x y 0 + o
+  unfolding compactAt
+  first x y o = let a = add-zero ((x * p .Z + y) * p .S) in omega arith
+
+  row-here : (o : ℕ) → o < p .S → getD l′ (compactAt p d z o) 0 ≡ getD t o 0
+  row-here o ho =
+      ap₂ (λ (x : List ℕ) (i : ℕ). getD x i 0) e (first d z o) ∙ getD-splice-in l (compactAt p d z 0) t fits o (omega arith)
+
+  row-else : (x y o : ℕ) → o < p .S → (x * p .Z + y ≡ d * p .Z + z → ⊥) → getD l′ (compactAt p x y o) 0 ≡ getD l (compactAt p x y o) 0
+  row-else x y o ho n = ap (λ (q : List ℕ). getD q (compactAt p x y o) 0) e ∙ go (as! (row-apart (p .S) (x * p .Z + y) (d * p .Z + z) o ho n))
+    where
+      as! :
+          ((x * p .Z + y) * p .S + o < (d * p .Z + z) * p .S) ⊎ ((d * p .Z + z) * p .S + p .S ≤ (x * p .Z + y) * p .S + o)
+          → (compactAt p x y o < compactAt p d z 0) ⊎ (compactAt p d z 0 + length t ≤ compactAt p x y o)
+      as! (inl a) = unfold compactAt in inl (let b = add-zero ((d * p .Z + z) * p .S) in omega arith)
+      as! (inr a) = unfold compactAt in inr (let b = add-zero ((d * p .Z + z) * p .S) in omega arith)
+
+      go : (compactAt p x y o < compactAt p d z 0) ⊎ (compactAt p d z 0 + length t ≤ compactAt p x y o) → getD (splice l (compactAt p d z 0) t) (compactAt p x y o) 0 ≡ getD l (compactAt p x y o) 0
+      go (inl a) = getD-splice-below l (compactAt p d z 0) t fits (compactAt p x y o) a
+      go (inr a) = getD-splice-past l (compactAt p d z 0) t fits (compactAt p x y o) a
+
+-- one drive more
+pub rows-turn : (p : Params) (v : View) (gone g d : ℕ) (l l′ l″ : List ℕ) → d < p .N → g < p .Z → length l ≡ compactLen p → Rows p v gone g d l l′
+    → l″ ≡ splice l′ (compactAt p d g 0) (rowSaid p v gone d g) → length l″ ≡ length l′ → Rows p v gone g (d + 1) l l″
+rows-turn p v gone g d l l′ l″ hd hg long r e n = record {
+  same-long = n ∙ r .same-long;
+  said = λ x o h hx ho. at x o h hx ho (ℕ-discrete x d);
+  others = λ x z o hx hz ho q. apart x z o ho (λ w. q (sym (digits-mod x hz) ∙ ap (λ (i : ℕ). i % p .Z) w ∙ digits-mod d hg)) ∙ r .others x z o hx hz ho q;
+}
+  where
+    lt : length (rowSaid p v gone d g) ≡ p .S
+    lt = length-row p v gone d g hd hg
+
+    apart : (x z o : ℕ) → o < p .S → (x * p .Z + z ≡ d * p .Z + g → ⊥) → getD l″ (compactAt p x z o) 0 ≡ getD l′ (compactAt p x z o) 0
+    apart x z o ho q = row-else p l′ l″ d g (rowSaid p v gone d g) hd hg (r .same-long ∙ long) lt e x z o ho q
+
+    named : (o : ℕ) → getD (rowSaid p v gone d g) o 0 ≡ getD (compactRow p (rowAt p v gone d g)) o 0
+    named o = unfold rowSaid in refl
+
+    at : (x o : ℕ) → x < d + 1 → x < p .N → o < p .S → Dec (x ≡ d) → getD l″ (compactAt p x g o) 0 ≡ getD (compactRow p (rowAt p v gone x g)) o 0
+    at x o h hx ho (yes q) =
+        ap (λ (i : ℕ). getD l″ (compactAt p i g o) 0) q ∙ row-here p l′ l″ d g (rowSaid p v gone d g) hd hg (r .same-long ∙ long) lt e o ho
+        ∙ named o ∙ ap (λ (i : ℕ). getD (compactRow p (rowAt p v gone i g)) o 0) (sym q)
+    at x o h hx ho (no q) = apart x g o ho (λ w. let a = item x d (p .Z) (omega arith) in let bad : ⊥ = omega arith in bad) ∙ r .said x o (omega arith) hx ho
 
 -- ---- the entries of a row
 

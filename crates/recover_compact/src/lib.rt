@@ -1,4 +1,4 @@
-// The compact table that the drives say (01, What a zone holds; Restart, 3).
+// The rows of a segment in the compact table, as the drives say them (01, What a zone holds; Restart, 3).
 ghost use mathlib.Core.Path.{_≡_};
 ghost use mathlib.Core.Bool.{Bool, true};
 ghost use mathlib.Core.List.{List, map};
@@ -7,13 +7,12 @@ ghost use lib.ListN.{length};
 ghost use Rattle.spec.specs.Bytes.{splice};
 ghost use Rattle.spec.specs.Drives.{viewOf, mkDisk, zoneAt, recordIn};
 ghost use Rattle.spec.specs.Layout.{compactEntry};
-ghost use Rattle.spec.specs.Lists.{below, flat};
+ghost use Rattle.spec.specs.Lists.{below};
 ghost use Rattle.spec.specs.Memory.{compactAt};
 ghost use Rattle.spec.specs.Params.{inRange, imageLen, pointersLen, compactLen};
-ghost use Rattle.spec.specs.Segments.{segments, compactTable};
-ghost use Rattle.recover_segments.specs.Remains.{Keeps};
+ghost use Rattle.law_drives.specs.Tables.{remains};
 ghost use Rattle.law_views.specs.Views.{Whole};
-ghost use Rattle.recover_compact.specs.Compacts.{entryOf, rowBytes, driveSaid};
+ghost use Rattle.recover_compact.specs.Compacts.{entryOf, rowBytes, Shows, Else};
 use spec::Params;
 
 // The first stripe of a group at or behind base, still at or below offset o.
@@ -104,47 +103,26 @@ fn row(
     disk_blocks::clear_part(compact, at + n, p.S - n);
 }
 
-// The rows of a drive.
-fn rows(
+// The rows of a segment, by drive, whatever they held; kept: the segment remains.
+pub fn rows(
     p: Params,
     image: &[u8],
     pointers: &[u8],
     compact: &mut [u8],
     gone: u8,
-    kept: &[bool],
-    drive: usize,
+    kept: bool,
+    seg: usize,
 )
     requires { ⌜ inRange p ≡ true ⌝ }
     requires { ⌜ Whole p (mkDisk (now image) (now pointers)) ⌝ }
-    requires { ⌜ (length (now compact) ≡ compactLen p) × (drive < p .N) ⌝ }
-    requires { ⌜ Keeps p (viewOf p (now image) (now pointers)) gone (now kept) ⌝ }
-    ensures { λ _. ⌜ now (compact .exit) ≡ splice (now (compact .entry)) (compactAt p drive 0 0) (driveSaid p (viewOf p (now (image .entry)) (now (pointers .entry))) gone drive) ⌝ }
-{
-    let mut z = 0;
-    while z < p.Z {
-        row(p, image, pointers, compact, gone, kept[z], drive, z);
-        z += 1;
-    }
-}
-
-// The compact table, whatever it held.
-pub fn compacts(
-    p: Params,
-    image: &[u8],
-    pointers: &[u8],
-    compact: &mut [u8],
-    gone: u8,
-    kept: &[bool],
-)
-    requires { ⌜ inRange p ≡ true ⌝ }
-    requires { ⌜ Whole p (mkDisk (now image) (now pointers)) ⌝ }
-    requires { ⌜ length (now compact) ≡ compactLen p ⌝ }
-    requires { ⌜ Keeps p (viewOf p (now image) (now pointers)) gone (now kept) ⌝ }
-    ensures { λ _. ⌜ now (compact .exit) ≡ compactTable p (segments p (viewOf p (now (image .entry)) (now (pointers .entry))) gone) ⌝ }
+    requires { ⌜ (length (now compact) ≡ compactLen p) × (seg < p .Z) ⌝ }
+    ensures { λ _. ⌜
+        (kept ≡ remains p (viewOf p (now (image .entry)) (now (pointers .entry))) gone seg
+        → Shows p (viewOf p (now (image .entry)) (now (pointers .entry))) gone seg (now (compact .exit)) × Else p seg (now (compact .entry)) (now (compact .exit))) ⌝ }
 {
     let mut d = 0;
     while d < p.N {
-        rows(p, image, pointers, compact, gone, kept, d);
+        row(p, image, pointers, compact, gone, kept, d, seg);
         d += 1;
     }
 }

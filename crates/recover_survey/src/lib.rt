@@ -206,8 +206,8 @@ fn survey_group(
     survey_stripes(p, image, w, at, t)
 }
 
-// All groups of a segment; at is room for the index of one.
-fn survey_groups(
+// 01, Refusals, 9, and Restart, 3: the records of a segment; full: it is sealed; at is room for the index of a group.
+pub fn survey(
     p: Params,
     image: &[u8],
     pointers: &[u8],
@@ -239,15 +239,4 @@ fn survey_groups(
         base += p.G;
     }
     t
-}
-
-// 01, Refusals, 9, and Restart, 3: the records of a segment; full: it is sealed.
-pub fn survey(p: Params, image: &[u8], pointers: &[u8], gone: u8, seg: usize, full: bool) -> Tally
-    requires { ⌜ inRange p ≡ true ⌝ }
-    requires { ⌜ Whole p (mkDisk (now image) (now pointers)) ⌝ }
-    requires { ⌜ (seg < p .Z) × (full ≡ sealedIn p (viewOf p (now image) (now pointers)) gone seg) ⌝ }
-    ensures { λ r. ⌜ Surveyed p gone (segmentOf p (viewOf p (now (image .entry)) (now (pointers .entry))) gone seg) r ⌝ }
-{
-    let mut at = [0u16; 2048];
-    survey_groups(p, image, pointers, gone, seg, full, &mut at)
 }

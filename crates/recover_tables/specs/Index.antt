@@ -20,7 +20,7 @@ use Rattle.spec.specs.Segments.{remaining, segmentOf, recsOn, compactRow}
 use Rattle.law_basic.specs.Geometry.{Ranged, compact-within}
 use Rattle.law_basic.specs.Ranges.{Test, test, not-both, and-left, and-right}
 use Rattle.law_basic.specs.Ranges.Test.{yes!, no! }
-use Rattle.recover_compact.specs.Compacts.{near}
+use Rattle.recover_compact.specs.Compacts.{near, Shows}
 use Rattle.recover_groups.specs.Bases.{group-len-le}
 use Rattle.recover_groups.specs.Entering.{Entering, isNew, entering-bad-data, entering-bad, entering-next, entering-end}
 use Rattle.recover_groups.specs.Faulty.{length-group, no-group-fault}
@@ -28,11 +28,12 @@ use Rattle.recover_groups.specs.Groups.{groupLen, groupRecs, recsBad, groupFaul
 use Rattle.recover_groups.specs.declared.Group.{Group}
 use Rattle.recover_addresses.specs.Lies.{Ground, seg-clean}
 use Rattle.law_drives.specs.Members.{In, none-in}
-use Rattle.law_drives.specs.Segs.{in-present, remaining-low}
-use Rattle.law_drives.specs.Tables.{remains, rowAt, row-at, compact-at, length-recs, remaining-in}
+use Rattle.law_drives.specs.Segs.{in-present}
+use Rattle.law_drives.specs.Tables.{remains, rowAt, row-at, length-recs, remaining-in}
 use Rattle.law_drives.specs.Tests.{cond-true}
 
 module _ (p : Params) (r : Ranged p) (im ps : List ℕ) (gone : ℕ) (cs : List ℕ) (G : Ground p im ps gone cs) (seg base d : ℕ) (m : In seg (remaining p (viewOf p im ps) gone))
+    (sh : Shows p (viewOf p im ps) gone seg cs)
     (hd : d < p .N) (hg : isIn gone d ≡ false) (hb : base < p .S) (hm : base % p .G ≡ 0) where
   abbrev v : View
   v = viewOf p im ps
@@ -75,8 +76,7 @@ module _ (p : Params) (r : Ranged p) (im ps : List ℕ) (gone : ℕ) (cs : List 
       let o : base + i < length all = omega (arith, n, h) in
       let s : base + i < p .S = omega (arith, o, length-recs p v gone seg d hd) in
       ap (λ (x : ℕ). getD cs x 0) (next i)
-      ∙ ap (λ (x : List ℕ). getD x (compactAt p d seg (base + i)) 0) (G .compact)
-      ∙ compact-at p v gone d seg (base + i) hd (remaining-low p v gone seg m) s
+      ∙ sh d (base + i) hd s
       ∙ ap (λ (x : List Rec). getD (compactRow p x) (base + i) 0) kept
       ∙ row-at p all (base + i) o
       ∙ ap (λ (x : Rec). compactEntry p (x .stripe)) (sym (of-group i h))
@@ -125,9 +125,10 @@ entry-within p d z b i hd hz h =
 
 -- the drive's row is that of its records, the lower ones are the same
 abbrev pub Rowed : Params → List ℕ → List ℕ → ℕ → List ℕ → ℕ → ℕ → ℕ → List ℕ → List ℕ → Type 0
-Rowed p im ps gone cs seg base d old at = Ground p im ps gone cs → In seg (remaining p (viewOf p im ps) gone)
+Rowed p im ps gone cs seg base d old at = Ground p im ps gone cs → In seg (remaining p (viewOf p im ps) gone) → Shows p (viewOf p im ps) gone seg cs
     → SameBelow d old at × Row p base (groupRecs p base (recsOn (segmentOf p (viewOf p im ps) gone seg) d)) d at
 
 -- the index of the group is right
 abbrev pub Grouped : Params → List ℕ → List ℕ → List ℕ → Group → List ℕ → Type 0
-Grouped p im ps cs w at = Ground p im ps (w .gone) cs → In (w .seg) (remaining p (viewOf p im ps) (w .gone)) → Indexed p (segmentIn p im ps w) (w .base) at
+Grouped p im ps cs w at = Ground p im ps (w .gone) cs → In (w .seg) (remaining p (viewOf p im ps) (w .gone)) → Shows p (viewOf p im ps) (w .gone) (w .seg) cs
+    → Indexed p (segmentIn p im ps w) (w .base) at

@@ -27,29 +27,35 @@ use Rattle.recover_groups.specs.Chunks.{counts-entered}
 use Rattle.recover_groups.specs.Groups.{groupLen, AllEntered, segmentIn, Reads}
 use Rattle.recover_segments.specs.Remains.{remains as Remain, isLeft, serialOf}
 use Rattle.recover_addresses.specs.Lies.{Counted}
-use Rattle.recover_addresses.specs.Told.{Tells}
+use Rattle.recover_addresses.specs.Told.{Near, Tells}
+use Rattle.recover_compact.specs.Compacts.{Shows}
 use Rattle.law_drives.specs.Members.{In}
-use Rattle.law_drives.specs.Segs.{remaining-low, serial-is, CandAt}
+use Rattle.law_drives.specs.Segs.{remaining-low, serial-is}
 use Rattle.law_drives.specs.Spots.{counts-in}
 use Rattle.law_drives.specs.Tables.{remains}
 use Rattle.law_drives.specs.Tests.{and-false-right, cond-true, cond-false}
 use Rattle.recover_tables.specs.Walk.{firstCands, most-append, most-one, tells-join, first-more}
 
+-- no group begins behind the most stripes of a segment and the most of a group
+abbrev pub lastBase : ℕ
+lastBase = 65535 + 256
+
 -- the index is that of the group, whose stripe k counts
 abbrev pub Reading : Params → List ℕ → Group → List ℕ → ℕ → Type 0
 Reading p im w at k = (ps : List ℕ) × Reads p im ps w at × (counts p (w .gone) (segmentIn p im ps w) (w .base + k) ≡ true)
 
--- the index is that of the group, of a remaining segment
-pub record Indexing (p : Params) (im ps : List ℕ) (w : Group) (at : List ℕ) (k : ℕ) : Type 0 where
+-- the index is that of the group, of a remaining segment, whose rows of the compact table are as the drives say
+pub record Indexing (p : Params) (im ps : List ℕ) (w : Group) (co at : List ℕ) (k : ℕ) : Type 0 where
   pub reads : Reads p im ps w at
   pub long : length at ≡ 2048
   pub base-low : w .base < p .S
   pub stripe-in : k < groupLen p (w .base)
   pub remains : In (w .seg) (remaining p (viewOf p im ps) (w .gone))
+  pub shown : Shows p (viewOf p im ps) (w .gone) (w .seg) co
 
 -- and stripe k counts
-pub record Standing (p : Params) (im ps : List ℕ) (w : Group) (at : List ℕ) (k : ℕ) : Type 0 where
-  pub index : Indexing p im ps w at k
+pub record Standing (p : Params) (im ps : List ℕ) (w : Group) (co at : List ℕ) (k : ℕ) : Type 0 where
+  pub index : Indexing p im ps w co at k
   pub it-counts : counts p (w .gone) (segmentIn p im ps w) (w .base + k) ≡ true
 
 module _ (p : Params) (im ps : List ℕ) (w : Group) (at : List ℕ) (k : ℕ) where
@@ -59,15 +65,16 @@ module _ (p : Params) (im ps : List ℕ) (w : Group) (at : List ℕ) (k : ℕ) w
   pub stripe-byte : Ranged p → k < groupLen p (w .base) → k < 256
   stripe-byte r l = omega (arith, group-len-le p (w .base), r .group-high)
 
-  pub standing-counted : Standing p im ps w at k → Counted p (viewOf p im ps) (w .gone) (w .seg) (w .base + k)
-  standing-counted s = record {
+  pub standing-counted : (co : List ℕ) → Standing p im ps w co at k → Counted p (viewOf p im ps) (w .gone) co (w .seg) (w .base + k)
+  standing-counted co s = record {
     remains = s .index .remains;
     stripe-low = stripe-below (s .index .base-low) (s .index .stripe-in);
     it-counts = s .it-counts;
+    shown = s .index .shown;
   }
 
-  pub standing-low : Standing p im ps w at k → w .seg < p .Z
-  standing-low s = remaining-low p (viewOf p im ps) (w .gone) (w .seg) (s .index .remains)
+  pub standing-low : (co : List ℕ) → Standing p im ps w co at k → w .seg < p .Z
+  standing-low co s = remaining-low p (viewOf p im ps) (w .gone) (w .seg) (s .index .remains)
 
   pub reading-entered : Reads p im ps w at → k < groupLen p (w .base) → counts p (w .gone) (segmentIn p im ps w) (w .base + k) ≡ true → AllEntered p (w .gone) (w .base) at k
   reading-entered q l c = counts-entered p (w .gone) (segmentIn p im ps w) (w .base) at k (q .indexed) l c
@@ -97,17 +104,21 @@ cand-is p v gone g s d r n o q er eo en eq =
     λ j. record { address = er j .address; stamp = er j .stamp; serial = en j; drive = d; offset = eo j; place = ep j }
 
 -- it is one of the drives' candidates
-pub cand-there : (p : Params) (v : View) (gone g s i : ℕ) (c : Cand) → Counted p v gone g s → i < dataCount p → c ≡ candOf p gone (segmentOf p v gone g) s (dataDrive p s i) → CandAt p v gone c
-cand-there p v gone g s i c k h e = record {
-  of = g;
-  stripe = s;
-  position = i;
-  remains = k .remains;
-  stripe-low = k .stripe-low;
-  it-counts = k .it-counts;
-  position-low = h;
-  it-is = e;
-}
+pub cand-there : (p : Params) (v : View) (gone : ℕ) (co : List ℕ) (g s i : ℕ) (c : Cand) → Counted p v gone co g s → i < dataCount p
+    → c ≡ candOf p gone (segmentOf p v gone g) s (dataDrive p s i) → Near p v gone co c
+cand-there p v gone co g s i c k h e = (
+  record {
+    of = g;
+    stripe = s;
+    position = i;
+    remains = k .remains;
+    stripe-low = k .stripe-low;
+    it-counts = k .it-counts;
+    position-low = h;
+    it-is = e;
+  },
+  k .shown,
+)
 
 pub serial-there : (p : Params) (v : View) (gone g n : ℕ) → n ≡ serialOf p v gone g → n ≡ segmentOf p v gone g .serial
 unfolding serialOf
@@ -149,14 +160,14 @@ fill-all l l′ i h e = e ∙ splice-all l (replicate i 255) (length-replicate {
 
 -- ---- one data position more of a stripe
 
-module _ (p : Params) (v : View) (gone g s i : ℕ) where
+module _ (p : Params) (v : View) (gone : ℕ) (co : List ℕ) (g s i : ℕ) where
   pub stripe-turn : (tb tb′ tb″ : List ℕ) (m m′ m″ : ℕ) (c : Cand) → c ≡ candOf p gone (segmentOf p v gone g) s (dataDrive p s i)
-      → Tells p v gone tb tb′ (firstCands p gone (segmentOf p v gone g) s i) → m′ ≡ max m (greatestStamp (firstCands p gone (segmentOf p v gone g) s i))
-      → Tells p v gone tb′ tb″ (c ∷ []) → m″ ≡ max m′ (c .stamp)
-      → Tells p v gone tb tb″ (firstCands p gone (segmentOf p v gone g) s (i + 1)) × (m″ ≡ max m (greatestStamp (firstCands p gone (segmentOf p v gone g) s (i + 1))))
+      → Tells p v gone co tb tb′ (firstCands p gone (segmentOf p v gone g) s i) → m′ ≡ max m (greatestStamp (firstCands p gone (segmentOf p v gone g) s i))
+      → Tells p v gone co tb′ tb″ (c ∷ []) → m″ ≡ max m′ (c .stamp)
+      → Tells p v gone co tb tb″ (firstCands p gone (segmentOf p v gone g) s (i + 1)) × (m″ ≡ max m (greatestStamp (firstCands p gone (segmentOf p v gone g) s (i + 1))))
   stripe-turn tb tb′ tb″ m m′ m″ c ec t em u en =
       let xs = firstCands p gone (segmentOf p v gone g) s i in
       let e : firstCands p gone (segmentOf p v gone g) s (i + 1) ≡ xs ++ (c ∷ []) = first-more p gone (segmentOf p v gone g) s i ∙ ap (λ (y : Cand). xs ++ (y ∷ [])) (sym ec) in (
-        subst (λ (y : List Cand). Tells p v gone tb tb″ y) (sym e) (tells-join p v gone tb tb′ tb″ xs (c ∷ []) t u),
+        subst (λ (y : List Cand). Tells p v gone co tb tb″ y) (sym e) (tells-join p v gone co tb tb′ tb″ xs (c ∷ []) t u),
         en ∙ ap (λ (y : ℕ). max y (c .stamp)) em ∙ most-one (max m (greatestStamp xs)) c ∙ sym (most-append m xs (c ∷ [])) ∙ ap (λ (y : List Cand). max m (greatestStamp y)) (sym e),
       )

@@ -2,8 +2,9 @@
 use mathlib.Core.Path.{_≡_, refl, sym, ap, _∙_, subst}
 use mathlib.Core.List.{List, [], _∷_, _++_, map, append-nil, append-assoc}
 use mathlib.Core.Bool.{true, false}
-use Prim.Native.Nat.{ℕ, _+_, max, _≤_}
+use Prim.Native.Nat.{ℕ, _+_, max, _≤_, _<_}
 use native.Mathlib.Nat.{add-assoc, add-zero, zero-add, zero-max, max-zero}
+use native.Mathlib.Decide.{ℕ-discrete}
 use native.Mathlib.Omega.{arith}
 use native.Mathlib.Numerals.{add-one}
 use lib.ListN.{length, replicate, length-append}
@@ -11,13 +12,15 @@ use Rattle.spec.specs.declared.Params.{Params}
 use Rattle.spec.specs.Drives.{View}
 use Rattle.spec.specs.Layout.{dataDrive, dataDrives}
 use Rattle.spec.specs.Lists.{upFrom, below, keep, flat, greatest}
-use Rattle.spec.specs.Params.{dataCount, addressesLen}
+use Rattle.spec.specs.Params.{dataCount, addressesLen, compactLen}
 use Rattle.spec.specs.Rank.{Cand}
-use Rattle.spec.specs.Segments.{remaining, Segment, segmentOf, segments, counts, counted, candOf, segmentCands, candidates, addressTable, greatestStamp}
+use Rattle.spec.specs.Segments.{remaining, Segment, segmentOf, segments, counts, counted, candOf, segmentCands, candidates, addressTable, compactRow, compactTable, greatestStamp}
 use Rattle.law_basic.specs.Ranges.{upFrom-snoc, below-snoc, map-append, map-below-snoc, keep-append, keep-hit, keep-miss, keep-none, length-keep, flat-append, greatest-append}
-use Rattle.law_drives.specs.Members.{flat-map}
-use Rattle.law_drives.specs.Tables.{remains, remaining-is}
+use Rattle.law_drives.specs.Members.{In, map-in, flat-in, flat-map, keep-in, below-in}
+use Rattle.law_drives.specs.Segs.{CandAt}
+use Rattle.law_drives.specs.Tables.{grid-ext, remains, remaining-is, in-remaining, rowAt, compact-is, compact-row-long}
 use Rattle.recover_addresses.specs.Told.{Told, Known, Tells, nothing-told}
+use Rattle.recover_compact.specs.Compacts.{Shows, Else}
 
 -- 01, The calls: the candidates of a stripe
 unfoldable pub stripeCands : Params → ℕ → Segment → ℕ → List Cand
@@ -52,14 +55,14 @@ most-one m c = ap (max m) (sym (max-zero (c .stamp)))
 
 -- ---- told, then told more
 
-module _ (p : Params) (v : View) (gone : ℕ) where
-  pub tells-none : (tb : List ℕ) (l : List Cand) → l ≡ [] → Tells p v gone tb tb l
-  tells-none tb l e cs t = subst (λ (x : List Cand). Told p v gone tb (cs ++ x)) (sym e) (subst (λ (x : List Cand). Told p v gone tb x) (sym (append-nil cs)) t)
+module _ (p : Params) (v : View) (gone : ℕ) (co : List ℕ) where
+  pub tells-none : (tb : List ℕ) (l : List Cand) → l ≡ [] → Tells p v gone co tb tb l
+  tells-none tb l e cs t = subst (λ (x : List Cand). Told p v gone co tb (cs ++ x)) (sym e) (subst (λ (x : List Cand). Told p v gone co tb x) (sym (append-nil cs)) t)
 
-  pub tells-join : (tb tb′ tb″ : List ℕ) (xs ys : List Cand) → Tells p v gone tb tb′ xs → Tells p v gone tb′ tb″ ys → Tells p v gone tb tb″ (xs ++ ys)
-  tells-join tb tb′ tb″ xs ys f g cs t = subst (λ (x : List Cand). Told p v gone tb″ x) (append-assoc cs xs ys) (g (cs ++ xs) (f cs t))
+  pub tells-join : (tb tb′ tb″ : List ℕ) (xs ys : List Cand) → Tells p v gone co tb tb′ xs → Tells p v gone co tb′ tb″ ys → Tells p v gone co tb tb″ (xs ++ ys)
+  tells-join tb tb′ tb″ xs ys f g cs t = subst (λ (x : List Cand). Told p v gone co tb″ x) (append-assoc cs xs ys) (g (cs ++ xs) (f cs t))
 
-  pub tells-known : (tb tb′ : List ℕ) (xs : List Cand) → Tells p v gone tb tb′ xs → Known p v gone tb → Known p v gone tb′
+  pub tells-known : (tb tb′ : List ℕ) (xs : List Cand) → Tells p v gone co tb tb′ xs → Known p v gone co tb → Known p v gone co tb′
   tells-known tb tb′ xs f (cs, t) = (cs ++ xs, f cs t)
 
 -- ---- a stripe, data position by data position
@@ -79,8 +82,8 @@ first-all p gone g s = refl
 
 -- ---- the stripes of a segment
 
-pub record Walked (p : Params) (v : View) (gone g : ℕ) (ss : List ℕ) (tb tb′ : List ℕ) (m m′ n n′ : ℕ) : Type 0 where
-  pub tells : Tells p v gone tb tb′ (walkCands p gone (segmentOf p v gone g) ss)
+pub record Walked (p : Params) (v : View) (gone : ℕ) (co : List ℕ) (g : ℕ) (ss : List ℕ) (tb tb′ : List ℕ) (m m′ n n′ : ℕ) : Type 0 where
+  pub tells : Tells p v gone co tb tb′ (walkCands p gone (segmentOf p v gone g) ss)
   pub most : m′ ≡ max m (greatestStamp (walkCands p gone (segmentOf p v gone g) ss))
   pub count : n′ ≡ n + length (keep (counts p gone (segmentOf p v gone g)) ss)
 
@@ -102,26 +105,26 @@ walk-none : (p : Params) (gone : ℕ) (g : Segment) → walkCands p gone g [] �
 unfolding walkCands flat keep
 walk-none p gone g = refl
 
-module _ (p : Params) (v : View) (gone g : ℕ) where
+module _ (p : Params) (v : View) (gone : ℕ) (co : List ℕ) (g : ℕ) where
   abbrev sg : Segment
   sg = segmentOf p v gone g
 
-  pub walked-none : (tb : List ℕ) (m n : ℕ) → Walked p v gone g [] tb tb m m n n
+  pub walked-none : (tb : List ℕ) (m n : ℕ) → Walked p v gone co g [] tb tb m m n n
   walked-none tb m n = record {
-    tells = tells-none p v gone tb (walkCands p gone sg []) (walk-none p gone sg);
+    tells = tells-none p v gone co tb (walkCands p gone sg []) (walk-none p gone sg);
     most = most-none m ∙ ap (λ (x : List Cand). max m (greatestStamp x)) (sym (walk-none p gone sg));
     count = sym (ap (λ (x : List ℕ). n + length x) (keep-none (counts p gone sg)) ∙ add-zero n);
   }
 
-  pub walked-start : (b : ℕ) (tb : List ℕ) (m n : ℕ) → Walked p v gone g (upFrom b 0) tb tb m m n n
+  pub walked-start : (b : ℕ) (tb : List ℕ) (m n : ℕ) → Walked p v gone co g (upFrom b 0) tb tb m m n n
   unfolding upFrom
   walked-start b tb m n = walked-none tb m n
 
-  pub walked-join : (ss ts tb tb′ tb″ : List ℕ) (m m′ m″ n n′ n″ : ℕ) → Walked p v gone g ss tb tb′ m m′ n n′ → Walked p v gone g ts tb′ tb″ m′ m″ n′ n″
-      → Walked p v gone g (ss ++ ts) tb tb″ m m″ n n″
+  pub walked-join : (ss ts tb tb′ tb″ : List ℕ) (m m′ m″ n n′ n″ : ℕ) → Walked p v gone co g ss tb tb′ m m′ n n′ → Walked p v gone co g ts tb′ tb″ m′ m″ n′ n″
+      → Walked p v gone co g (ss ++ ts) tb tb″ m m″ n n″
   walked-join ss ts tb tb′ tb″ m m′ m″ n n′ n″ a b = record {
-    tells = subst (λ (x : List Cand). Tells p v gone tb tb″ x) (sym (walk-append p gone sg ss ts))
-        (tells-join p v gone tb tb′ tb″ (walkCands p gone sg ss) (walkCands p gone sg ts) (a .tells) (b .tells));
+    tells = subst (λ (x : List Cand). Tells p v gone co tb tb″ x) (sym (walk-append p gone sg ss ts))
+        (tells-join p v gone co tb tb′ tb″ (walkCands p gone sg ss) (walkCands p gone sg ts) (a .tells) (b .tells));
     most = b .most ∙ ap (λ (x : ℕ). max x (greatestStamp (walkCands p gone sg ts))) (a .most)
         ∙ sym (most-append m (walkCands p gone sg ss) (walkCands p gone sg ts)) ∙ ap (λ (x : List Cand). max m (greatestStamp x)) (sym (walk-append p gone sg ss ts));
     count = b .count ∙ ap (λ (x : ℕ). x + length (keep (counts p gone sg) ts)) (a .count)
@@ -129,103 +132,156 @@ module _ (p : Params) (v : View) (gone g : ℕ) where
         ∙ ap (λ (x : ℕ). n + x) (sym (ap length (keep-append (counts p gone sg) ss ts) ∙ length-append (keep (counts p gone sg) ss) (keep (counts p gone sg) ts)));
   }
 
-  pub walked-hit : (s : ℕ) (tb tb′ : List ℕ) (m m′ n : ℕ) → counts p gone sg s ≡ true → Tells p v gone tb tb′ (stripeCands p gone sg s)
-      → m′ ≡ max m (greatestStamp (stripeCands p gone sg s)) → Walked p v gone g (s ∷ []) tb tb′ m m′ n (n + 1)
+  pub walked-hit : (s : ℕ) (tb tb′ : List ℕ) (m m′ n : ℕ) → counts p gone sg s ≡ true → Tells p v gone co tb tb′ (stripeCands p gone sg s)
+      → m′ ≡ max m (greatestStamp (stripeCands p gone sg s)) → Walked p v gone co g (s ∷ []) tb tb′ m m′ n (n + 1)
   walked-hit s tb tb′ m m′ n e f h = record {
-    tells = subst (λ (x : List Cand). Tells p v gone tb tb′ x) (sym (walk-hit p gone sg s e)) f;
+    tells = subst (λ (x : List Cand). Tells p v gone co tb tb′ x) (sym (walk-hit p gone sg s e)) f;
     most = h ∙ ap (λ (x : List Cand). max m (greatestStamp x)) (sym (walk-hit p gone sg s e));
     count = sym (ap (λ (x : List ℕ). n + length x) (keep-hit (counts p gone sg) s [] e ∙ ap (λ (l : List ℕ). s ∷ l) (keep-none (counts p gone sg))));
   }
 
-  pub walked-miss : (s : ℕ) (tb : List ℕ) (m n : ℕ) → counts p gone sg s ≡ false → Walked p v gone g (s ∷ []) tb tb m m n n
+  pub walked-miss : (s : ℕ) (tb : List ℕ) (m n : ℕ) → counts p gone sg s ≡ false → Walked p v gone co g (s ∷ []) tb tb m m n n
   walked-miss s tb m n e = record {
-    tells = tells-none p v gone tb (walkCands p gone sg (s ∷ [])) (walk-miss p gone sg s e);
+    tells = tells-none p v gone co tb (walkCands p gone sg (s ∷ [])) (walk-miss p gone sg s e);
     most = most-none m ∙ ap (λ (x : List Cand). max m (greatestStamp x)) (sym (walk-miss p gone sg s e));
     count = sym (ap (λ (x : List ℕ). n + length x) (keep-miss (counts p gone sg) s [] e ∙ keep-none (counts p gone sg)) ∙ add-zero n);
   }
 
-  pub walked-low : (ss tb tb′ : List ℕ) (m m′ n n′ : ℕ) → Walked p v gone g ss tb tb′ m m′ n n′ → n′ ≤ n + length ss
+  pub walked-low : (ss tb tb′ : List ℕ) (m m′ n n′ : ℕ) → Walked p v gone co g ss tb tb′ m m′ n n′ → n′ ≤ n + length ss
   walked-low ss tb tb′ m m′ n n′ a = omega (arith, a .count, length-keep (counts p gone sg) ss)
 
   -- one stripe more of a group
-  pub walked-turn : (b k : ℕ) (tb tb′ tb″ : List ℕ) (m m′ m″ n n′ n″ : ℕ) → Walked p v gone g (upFrom b k) tb tb′ m m′ n n′ → Walked p v gone g ((b + k) ∷ []) tb′ tb″ m′ m″ n′ n″
-      → Walked p v gone g (upFrom b (k + 1)) tb tb″ m m″ n n″
+  pub walked-turn : (b k : ℕ) (tb tb′ tb″ : List ℕ) (m m′ m″ n n′ n″ : ℕ) → Walked p v gone co g (upFrom b k) tb tb′ m m′ n n′ → Walked p v gone co g ((b + k) ∷ []) tb′ tb″ m′ m″ n′ n″
+      → Walked p v gone co g (upFrom b (k + 1)) tb tb″ m m″ n n″
   walked-turn b k tb tb′ tb″ m m′ m″ n n′ n″ a c =
-      subst (λ (x : List ℕ). Walked p v gone g x tb tb″ m m″ n n″) (sym (ap (upFrom b) (add-one k) ∙ upFrom-snoc b k))
+      subst (λ (x : List ℕ). Walked p v gone co g x tb tb″ m m″ n n″) (sym (ap (upFrom b) (add-one k) ∙ upFrom-snoc b k))
       (walked-join (upFrom b k) ((b + k) ∷ []) tb tb′ tb″ m m′ m″ n n′ n″ a c)
 
   -- all of them
-  pub walked-all : (tb tb′ : List ℕ) (m m′ n′ : ℕ) → Walked p v gone g (below (p .S)) tb tb′ m m′ 0 n′
-      → Tells p v gone tb tb′ (segmentCands p gone sg) × (m′ ≡ max m (greatestStamp (segmentCands p gone sg))) × (n′ ≡ length (counted p gone sg))
+  pub walked-all : (tb tb′ : List ℕ) (m m′ n′ : ℕ) → Walked p v gone co g (below (p .S)) tb tb′ m m′ 0 n′
+      → Tells p v gone co tb tb′ (segmentCands p gone sg) × (m′ ≡ max m (greatestStamp (segmentCands p gone sg))) × (n′ ≡ length (counted p gone sg))
   unfolding segmentCands counted walkCands stripeCands
   walked-all tb tb′ m m′ n′ a = (a .tells, a .most, a .count ∙ zero-add (length (keep (counts p gone sg) (below (p .S)))))
 
 -- ---- the segments
 
-pub record Toured (p : Params) (v : View) (gone : ℕ) (gs : List ℕ) (tb tb′ : List ℕ) (m m′ : ℕ) : Type 0 where
-  pub tells : Tells p v gone tb tb′ (tourCands p v gone gs)
-  pub most : m′ ≡ max m (greatestStamp (tourCands p v gone gs))
+-- the segments below n: their rows of the compact table, their candidates in the address table, and the greatest stamp of these
+pub record Toured (p : Params) (v : View) (gone n : ℕ) (co tb : List ℕ) (m : ℕ) : Type 0 where
+  pub long : length co ≡ compactLen p
+  pub shown : (g : ℕ) → g < n → Shows p v gone g co
+  pub table : tb ≡ addressTable p (tourCands p v gone (below n))
+  pub most : m ≡ greatestStamp (tourCands p v gone (below n))
 
-tour-append : (p : Params) (v : View) (gone : ℕ) (gs hs : List ℕ) → tourCands p v gone (gs ++ hs) ≡ tourCands p v gone gs ++ tourCands p v gone hs
+tour-next : (p : Params) (v : View) (gone g : ℕ) (l : List Cand) → flat (λ y. segmentCands p gone (segmentOf p v gone y)) (keep (remains p v gone) (g ∷ [])) ≡ l
+    → tourCands p v gone (below (g + 1)) ≡ tourCands p v gone (below g) ++ l
 unfolding tourCands
-tour-append p v gone gs hs =
-    ap (flat (λ g. segmentCands p gone (segmentOf p v gone g))) (keep-append (remains p v gone) gs hs)
-    ∙ flat-append (λ g. segmentCands p gone (segmentOf p v gone g)) (keep (remains p v gone) gs) (keep (remains p v gone) hs)
+tour-next p v gone g l e =
+    ap (λ (x : List ℕ). flat (λ y. segmentCands p gone (segmentOf p v gone y)) (keep (remains p v gone) x)) (below-snoc g)
+    ∙ ap (flat (λ y. segmentCands p gone (segmentOf p v gone y))) (keep-append (remains p v gone) (below g) (g ∷ []))
+    ∙ flat-append (λ y. segmentCands p gone (segmentOf p v gone y)) (keep (remains p v gone) (below g)) (keep (remains p v gone) (g ∷ []))
+    ∙ ap (λ (x : List Cand). flat (λ y. segmentCands p gone (segmentOf p v gone y)) (keep (remains p v gone) (below g)) ++ x) e
 
-tour-hit : (p : Params) (v : View) (gone g : ℕ) → remains p v gone g ≡ true → tourCands p v gone (g ∷ []) ≡ segmentCands p gone (segmentOf p v gone g)
-unfolding tourCands flat
-tour-hit p v gone g e =
-    ap (flat (λ g. segmentCands p gone (segmentOf p v gone g))) (keep-hit (remains p v gone) g [] e ∙ ap (λ (l : List ℕ). g ∷ l) (keep-none (remains p v gone)))
-    ∙ append-nil (segmentCands p gone (segmentOf p v gone g))
+tour-hit : (p : Params) (v : View) (gone g : ℕ) → remains p v gone g ≡ true
+    → tourCands p v gone (below (g + 1)) ≡ tourCands p v gone (below g) ++ segmentCands p gone (segmentOf p v gone g)
+unfolding flat
+tour-hit p v gone g e = tour-next p v gone g (segmentCands p gone (segmentOf p v gone g))
+    (ap (flat (λ y. segmentCands p gone (segmentOf p v gone y))) (keep-hit (remains p v gone) g [] e ∙ ap (λ (l : List ℕ). g ∷ l) (keep-none (remains p v gone)))
+    ∙ append-nil (segmentCands p gone (segmentOf p v gone g)))
 
-tour-miss : (p : Params) (v : View) (gone g : ℕ) → remains p v gone g ≡ false → tourCands p v gone (g ∷ []) ≡ []
-unfolding tourCands flat
-tour-miss p v gone g e = ap (flat (λ g. segmentCands p gone (segmentOf p v gone g))) (keep-miss (remains p v gone) g [] e ∙ keep-none (remains p v gone))
+tour-miss : (p : Params) (v : View) (gone g : ℕ) → remains p v gone g ≡ false → tourCands p v gone (below (g + 1)) ≡ tourCands p v gone (below g)
+unfolding flat
+tour-miss p v gone g e =
+    tour-next p v gone g [] (ap (flat (λ y. segmentCands p gone (segmentOf p v gone y))) (keep-miss (remains p v gone) g [] e ∙ keep-none (remains p v gone)))
+    ∙ append-nil (tourCands p v gone (below g))
 
 tour-none : (p : Params) (v : View) (gone : ℕ) → tourCands p v gone (below 0) ≡ []
 unfolding tourCands flat keep below upFrom
 tour-none p v gone = refl
 
+-- a candidate of the segments below n is of one of them
+tour-in : (p : Params) (v : View) (gone n : ℕ) (c : Cand) → n ≤ p .Z → In c (tourCands p v gone (below n)) → (k : CandAt p v gone c) × (k .of < n)
+unfolding tourCands segmentCands counted dataDrives
+tour-in p v gone n c h m =
+    let (g, i, j) = flat-in (λ g. flat (λ s. map (candOf p gone (segmentOf p v gone g) s) (map (dataDrive p s) (below (dataCount p)))) (keep (counts p gone (segmentOf p v gone g)) (below (p .S))))
+    (keep (remains p v gone) (below n)) c m in
+    let (a, b) = keep-in (remains p v gone) (below n) g i in
+    let (s, x, y) = flat-in (λ s. map (candOf p gone (segmentOf p v gone g) s) (map (dataDrive p s) (below (dataCount p)))) (keep (counts p gone (segmentOf p v gone g)) (below (p .S))) c j in
+    let (u, w) = keep-in (counts p gone (segmentOf p v gone g)) (below (p .S)) s x in
+    let (d, t, e) = map-in (candOf p gone (segmentOf p v gone g) s) (map (dataDrive p s) (below (dataCount p))) c y in
+    let (q, o, f) = map-in (dataDrive p s) (below (dataCount p)) d t in
+    let low = below-in n g a in (
+      record {
+        of = g;
+        stripe = s;
+        position = q;
+        remains = in-remaining p v gone g (omega arith) b;
+        stripe-low = below-in (p .S) s u;
+        it-counts = w;
+        position-low = below-in (dataCount p) q o;
+        it-is = e ∙ ap (candOf p gone (segmentOf p v gone g) s) f;
+      },
+      low,
+    )
+
 module _ (p : Params) (v : View) (gone : ℕ) where
-  pub toured-none : (tb : List ℕ) (m : ℕ) → Toured p v gone (below 0) tb tb m m
-  toured-none tb m = record {
-    tells = tells-none p v gone tb (tourCands p v gone (below 0)) (tour-none p v gone);
-    most = most-none m ∙ ap (λ (x : List Cand). max m (greatestStamp x)) (sym (tour-none p v gone));
+  pub toured-none : (co tb : List ℕ) → length co ≡ compactLen p → tb ≡ replicate (addressesLen p) 255 → Toured p v gone 0 co tb 0
+  toured-none co tb l e = record {
+    long = l;
+    shown = λ g h. absurd (let bad : ⊥ = omega arith in bad);
+    table = nothing-told p v gone co tb e .table ∙ ap (addressTable p) (sym (tour-none p v gone));
+    most = none! ∙ ap greatestStamp (sym (tour-none p v gone));
   }
+    where
+      none! : 0 ≡ greatestStamp []
+      none! = unfold greatestStamp greatest in refl
 
-  pub toured-hit : (g : ℕ) (tb tb′ : List ℕ) (m m′ n′ : ℕ) → remains p v gone g ≡ true → Walked p v gone g (below (p .S)) tb tb′ m m′ 0 n′ → Toured p v gone (g ∷ []) tb tb′ m m′
-  toured-hit g tb tb′ m m′ n′ e a =
-      let w = walked-all p v gone g tb tb′ m m′ n′ a in
-      record {
-        tells = subst (λ (x : List Cand). Tells p v gone tb tb′ x) (sym (tour-hit p v gone g e)) (w .0);
-        most = w .1 ∙ ap (λ (x : List Cand). max m (greatestStamp x)) (sym (tour-hit p v gone g e));
+  module _ (g : ℕ) (hg : g < p .Z) (co co′ tb : List ℕ) (m : ℕ) (t : Toured p v gone g co tb m) (sh : Shows p v gone g co′ × Else p g co co′) where
+    -- the rows of the segments below, and of g
+    shown-next : (y : ℕ) → y < g + 1 → Shows p v gone y co′
+    shown-next y h = go (ℕ-discrete y g)
+      where
+        go : Dec (y ≡ g) → Shows p v gone y co′
+        go (yes e) = subst (λ (n : ℕ). Shows p v gone n co′) (sym e) (sh .0)
+        go (no n) = λ d o hd ho. sh .1 d y o hd (omega arith) ho n ∙ t .shown y (omega arith) d o hd ho
+
+    -- what is told is found again by these
+    pub toured-told : Told p v gone co′ tb (tourCands p v gone (below g))
+    toured-told = record {
+      table = t .table;
+      said = λ c i. let (k, l) = tour-in p v gone g c (omega arith) i in (k, shown-next (k .of) (omega arith));
+    }
+
+    module _ (l : length co′ ≡ length co) where
+      pub toured-miss : remains p v gone g ≡ false → Toured p v gone (g + 1) co′ tb m
+      toured-miss e = record {
+        long = l ∙ t .long;
+        shown = shown-next;
+        table = t .table ∙ ap (addressTable p) (sym (tour-miss p v gone g e));
+        most = t .most ∙ ap greatestStamp (sym (tour-miss p v gone g e));
       }
 
-  pub toured-miss : (g : ℕ) (tb : List ℕ) (m : ℕ) → remains p v gone g ≡ false → Toured p v gone (g ∷ []) tb tb m m
-  toured-miss g tb m e = record {
-    tells = tells-none p v gone tb (tourCands p v gone (g ∷ [])) (tour-miss p v gone g e);
-    most = most-none m ∙ ap (λ (x : List Cand). max m (greatestStamp x)) (sym (tour-miss p v gone g e));
-  }
-
-  pub toured-turn : (g : ℕ) (tb tb′ tb″ : List ℕ) (m m′ m″ : ℕ) → Toured p v gone (below g) tb tb′ m m′ → Toured p v gone (g ∷ []) tb′ tb″ m′ m″
-      → Toured p v gone (below (g + 1)) tb tb″ m m″
-  toured-turn g tb tb′ tb″ m m′ m″ a b =
-      let xs = tourCands p v gone (below g) in
-      let ys = tourCands p v gone (g ∷ []) in
-      let e : tourCands p v gone (below (g + 1)) ≡ xs ++ ys = ap (tourCands p v gone) (below-snoc g) ∙ tour-append p v gone (below g) (g ∷ []) in
-      record {
-        tells = subst (λ (x : List Cand). Tells p v gone tb tb″ x) (sym e) (tells-join p v gone tb tb′ tb″ xs ys (a .tells) (b .tells));
-        most = b .most ∙ ap (λ (x : ℕ). max x (greatestStamp ys)) (a .most) ∙ sym (most-append m xs ys) ∙ ap (λ (x : List Cand). max m (greatestStamp x)) (sym e);
-      }
+      pub toured-hit : (tb′ : List ℕ) (m′ n′ : ℕ) → remains p v gone g ≡ true → Walked p v gone co′ g (below (p .S)) tb tb′ m m′ 0 n′ → Toured p v gone (g + 1) co′ tb′ m′
+      toured-hit tb′ m′ n′ e a =
+          let w = walked-all p v gone co′ g tb tb′ m m′ n′ a in
+          let xs = tourCands p v gone (below g) in
+          let ys = segmentCands p gone (segmentOf p v gone g) in
+          record {
+            long = l ∙ t .long;
+            shown = shown-next;
+            table = w .0 xs toured-told .table ∙ ap (addressTable p) (sym (tour-hit p v gone g e));
+            most = w .1 ∙ ap (λ (x : ℕ). max x (greatestStamp ys)) (t .most ∙ sym (zero-max (greatestStamp xs))) ∙ sym (most-append 0 xs ys)
+                ∙ zero-max (greatestStamp (xs ++ ys)) ∙ ap greatestStamp (sym (tour-hit p v gone g e));
+          }
 
   all-cands : tourCands p v gone (below (p .Z)) ≡ candidates p gone (segments p v gone)
   unfolding tourCands candidates segments
   all-cands = ap (flat (λ g. segmentCands p gone (segmentOf p v gone g))) (sym (remaining-is p v gone)) ∙ sym (flat-map (segmentCands p gone) (segmentOf p v gone) (remaining p v gone))
 
-  -- from a table of never-written addresses
-  pub toured-all : (tb tb′ : List ℕ) (m′ : ℕ) → tb ≡ replicate (addressesLen p) 255 → Toured p v gone (below (p .Z)) tb tb′ 0 m′
-      → (tb′ ≡ addressTable p (candidates p gone (segments p v gone))) × (m′ ≡ greatestStamp (candidates p gone (segments p v gone)))
-  toured-all tb tb′ m′ e a = (
-    a .tells [] (nothing-told p v gone tb e) .table ∙ ap (addressTable p) all-cands,
-    a .most ∙ zero-max (greatestStamp (tourCands p v gone (below (p .Z)))) ∙ ap greatestStamp all-cands,
+  -- all segments
+  pub toured-all : (co tb : List ℕ) (m : ℕ) → 0 < p .S → 0 < p .Z → Toured p v gone (p .Z) co tb m
+      → (tb ≡ addressTable p (candidates p gone (segments p v gone))) × (co ≡ compactTable p (segments p v gone)) × (m ≡ greatestStamp (candidates p gone (segments p v gone)))
+  toured-all co tb m hs hz t = (
+    t .table ∙ ap (addressTable p) all-cands,
+    grid-ext p (λ d z. compactRow p (rowAt p v gone d z)) (compact-row-long p v gone) co (t .long) hs hz (λ d z o hd h ho. t .shown z h d o hd ho) ∙ sym (compact-is p v gone),
+    t .most ∙ ap greatestStamp all-cands,
   )

@@ -14,6 +14,7 @@ ghost use Rattle.spec.specs.Segments.{remaining, segmentOf, segments, counted, 
 ghost use Rattle.recover_groups.specs.Groups.{groupLen, recsFault, segmentIn, Reads};
 ghost use Rattle.recover_addresses.specs.Lies.{Ground};
 ghost use Rattle.recover_addresses.specs.Told.{Known, Tells};
+ghost use Rattle.recover_compact.specs.Compacts.{Shows};
 ghost use Rattle.disk_rank.specs.Ranked.{ranked};
 ghost use Rattle.recover_segments.specs.Remains.{Keeps, Serials};
 ghost use Rattle.law_drives.specs.Members.{In};
@@ -102,10 +103,10 @@ fn load_stripe(
 ) -> Stamp
     requires { ⌜ Ground p (now image) (now pointers) (w .gone) (now compact) ⌝ }
     requires { ⌜ Serials p (viewOf p (now image) (now pointers)) (w .gone) (now serials) ⌝ }
-    requires { ⌜ Standing p (now image) (now pointers) w (now at) k ⌝ }
-    requires { ⌜ Known p (viewOf p (now image) (now pointers)) (w .gone) (now addresses) ⌝ }
+    requires { ⌜ Standing p (now image) (now pointers) w (now compact) (now at) k ⌝ }
+    requires { ⌜ Known p (viewOf p (now image) (now pointers)) (w .gone) (now compact) (now addresses) ⌝ }
     ensures { λ _. ⌜
-        Tells p (viewOf p (now (image .entry)) (now (pointers .entry))) (w .gone) (now (addresses .entry)) (now (addresses .exit))
+        Tells p (viewOf p (now (image .entry)) (now (pointers .entry))) (w .gone) (now (compact .entry)) (now (addresses .entry)) (now (addresses .exit))
         (stripeCands p (w .gone) (segmentIn p (now (image .entry)) (now (pointers .entry)) w) (w .base + k)) ⌝ }
     ensures { λ r. ⌜ r .0 ≡ max (stamp .0) (greatestStamp (stripeCands p (w .gone) (segmentIn p (now (image .entry)) (now (pointers .entry)) w) (w .base + k))) ⌝ }
 {
@@ -141,10 +142,10 @@ fn load_if(
 ) -> Loaded
     requires { ⌜ Ground p (now image) (now pointers) (w .gone) (now compact) ⌝ }
     requires { ⌜ Serials p (viewOf p (now image) (now pointers)) (w .gone) (now serials) ⌝ }
-    requires { ⌜ Indexing p (now image) (now pointers) w (now at) k × (t .counted ≤ w .base + k) ⌝ }
-    requires { ⌜ Known p (viewOf p (now image) (now pointers)) (w .gone) (now addresses) ⌝ }
+    requires { ⌜ Indexing p (now image) (now pointers) w (now compact) (now at) k × (t .counted ≤ w .base + k) ⌝ }
+    requires { ⌜ Known p (viewOf p (now image) (now pointers)) (w .gone) (now compact) (now addresses) ⌝ }
     ensures { λ r. ⌜
-        Walked p (viewOf p (now (image .entry)) (now (pointers .entry))) (w .gone) (w .seg) ((w .base + k) ∷ []) (now (addresses .entry))
+        Walked p (viewOf p (now (image .entry)) (now (pointers .entry))) (w .gone) (now (compact .entry)) (w .seg) ((w .base + k) ∷ []) (now (addresses .entry))
         (now (addresses .exit)) (t .stamp .0) (r .stamp .0) (t .counted) (r .counted) ⌝ }
 {
     if !recover_groups::counts(p, w.gone, at, k) {
@@ -245,10 +246,11 @@ fn load_group(
         × (w .base % p .G ≡ 0)
         × (w .full ≡ sealedIn p (viewOf p (now image) (now pointers)) (w .gone) (w .seg))
         × In (w .seg) (remaining p (viewOf p (now image) (now pointers)) (w .gone))
+        × Shows p (viewOf p (now image) (now pointers)) (w .gone) (w .seg) (now compact)
         × (t .counted ≤ w .base) ⌝ }
-    requires { ⌜ Known p (viewOf p (now image) (now pointers)) (w .gone) (now addresses) ⌝ }
+    requires { ⌜ Known p (viewOf p (now image) (now pointers)) (w .gone) (now compact) (now addresses) ⌝ }
     ensures { λ r. ⌜
-        Walked p (viewOf p (now (image .entry)) (now (pointers .entry))) (w .gone) (w .seg) (upFrom (w .base) (groupLen p (w .base)))
+        Walked p (viewOf p (now (image .entry)) (now (pointers .entry))) (w .gone) (now (compact .entry)) (w .seg) (upFrom (w .base) (groupLen p (w .base)))
         (now (addresses .entry)) (now (addresses .exit)) (t .stamp .0) (r .stamp .0) (t .counted) (r .counted) ⌝ }
 {
     index_group(p, pointers, compact, w, at);
@@ -273,7 +275,7 @@ fn load_group(
     next
 }
 
-// All groups of a remaining segment.
+// All groups of a remaining segment; at is room for the index of one.
 fn load_groups(
     p: Params,
     image: &[u8],
@@ -283,18 +285,18 @@ fn load_groups(
     gone: u8,
     serials: &[u64],
     seg: usize,
+    at: &mut [u16],
     stamp: Stamp,
 ) -> Loaded
     requires { ⌜ Ground p (now image) (now pointers) gone (now compact) ⌝ }
     requires { ⌜ Serials p (viewOf p (now image) (now pointers)) gone (now serials) ⌝ }
-    requires { ⌜ In seg (remaining p (viewOf p (now image) (now pointers)) gone) ⌝ }
-    requires { ⌜ Known p (viewOf p (now image) (now pointers)) gone (now addresses) ⌝ }
+    requires { ⌜ In seg (remaining p (viewOf p (now image) (now pointers)) gone) × Shows p (viewOf p (now image) (now pointers)) gone seg (now compact) ⌝ }
+    requires { ⌜ Known p (viewOf p (now image) (now pointers)) gone (now compact) (now addresses) × (length (now at) ≡ 2048) ⌝ }
     ensures { λ r. ⌜
-        Walked p (viewOf p (now (image .entry)) (now (pointers .entry))) gone seg (below (p .S)) (now (addresses .entry)) (now (addresses .exit))
+        Walked p (viewOf p (now (image .entry)) (now (pointers .entry))) gone (now (compact .entry)) seg (below (p .S)) (now (addresses .entry)) (now (addresses .exit))
         (stamp .0) (r .stamp .0) 0 (r .counted) ⌝ }
 {
     let full = disk_zones::is_sealed(p, pointers, gone, seg);
-    let mut at = [0u16; 2048];
     let mut t = Loaded { stamp, counted: 0 };
     let mut base = 0;
     while base < p.S {
@@ -304,43 +306,35 @@ fn load_groups(
             full,
             base,
         };
-        t = load_group(
-            p,
-            image,
-            pointers,
-            addresses,
-            compact,
-            w,
-            serials,
-            &mut at,
-            t,
-        );
+        t = load_group(p, image, pointers, addresses, compact, w, serials, at, t);
         base += p.G;
     }
     t
 }
 
-// One segment, if it remains; opened is the number of the open one.
+// One segment: its rows of the compact table, then, if it remains, its records, which are in the cache by then; opened is the number of the open one.
 fn load_segment(
     p: Params,
     image: &[u8],
     pointers: &[u8],
     addresses: &mut [u8],
-    compact: &[u8],
+    compact: &mut [u8],
     gone: u8,
     serials: &[u64],
     kept: bool,
     opened: usize,
     g: usize,
+    at: &mut [u16],
     h: Head,
 ) -> Head
     requires { ⌜ Ground p (now image) (now pointers) gone (now compact) ⌝ }
     requires { ⌜ Serials p (viewOf p (now image) (now pointers)) gone (now serials) ⌝ }
     requires { ⌜ (g < p .Z) × (kept ≡ remains p (viewOf p (now image) (now pointers)) gone g) ⌝ }
-    requires { ⌜ Known p (viewOf p (now image) (now pointers)) gone (now addresses) ⌝ }
-    ensures { λ r. ⌜ Toured p (viewOf p (now (image .entry)) (now (pointers .entry))) gone (g ∷ []) (now (addresses .entry)) (now (addresses .exit)) (h .stamp .0) (r .stamp .0) ⌝ }
+    requires { ⌜ Toured p (viewOf p (now image) (now pointers)) gone g (now compact) (now addresses) (h .stamp .0) × (length (now at) ≡ 2048) ⌝ }
+    ensures { λ r. ⌜ Toured p (viewOf p (now (image .entry)) (now (pointers .entry))) gone (g + 1) (now (compact .exit)) (now (addresses .exit)) (r .stamp .0) ⌝ }
     ensures { λ r. ⌜ r .next ≡ cond (kept && eqb g opened) (length (counted p gone (segmentOf p (viewOf p (now (image .entry)) (now (pointers .entry))) gone g))) (h .next) ⌝ }
 {
+    recover_compact::rows(p, image, pointers, compact, gone, kept, g);
     if !kept {
         return h;
     }
@@ -354,6 +348,7 @@ fn load_segment(
         gone,
         serials,
         g,
+        at,
         most,
     );
     let stamp = t.stamp;
@@ -369,23 +364,24 @@ fn load_segment(
     }
 }
 
-// All remaining segments.
+// All segments, from an address table that is clear, and a compact table, whatever it held; at is room for the index of a group.
 fn load_segments(
     p: Params,
     image: &[u8],
     pointers: &[u8],
     addresses: &mut [u8],
-    compact: &[u8],
+    compact: &mut [u8],
     gone: u8,
     serials: &[u64],
     kept: &[bool],
     opened: usize,
+    at: &mut [u16],
 ) -> Head
     requires { ⌜ Ground p (now image) (now pointers) gone (now compact) ⌝ }
     requires { ⌜ Serials p (viewOf p (now image) (now pointers)) gone (now serials) ⌝ }
     requires { ⌜ Keeps p (viewOf p (now image) (now pointers)) gone (now kept) ⌝ }
-    requires { ⌜ Known p (viewOf p (now image) (now pointers)) gone (now addresses) ⌝ }
-    ensures { λ r. ⌜ Toured p (viewOf p (now (image .entry)) (now (pointers .entry))) gone (below (p .Z)) (now (addresses .entry)) (now (addresses .exit)) 0 (r .stamp .0) ⌝ }
+    requires { ⌜ (now addresses ≡ replicate (addressesLen p) 255) × (length (now at) ≡ 2048) ⌝ }
+    ensures { λ r. ⌜ Toured p (viewOf p (now (image .entry)) (now (pointers .entry))) gone (p .Z) (now (compact .exit)) (now (addresses .exit)) (r .stamp .0) ⌝ }
     ensures { λ r. ⌜
         (r .next ≤ p .S)
         × (opened < p .Z
@@ -409,6 +405,7 @@ fn load_segments(
             kept[g],
             opened,
             g,
+            at,
             h,
         );
         g += 1;
@@ -452,8 +449,8 @@ fn load_tables(
         → remains p (viewOf p (now (image .entry)) (now (pointers .entry))) gone opened ≡ true
         → r .next ≡ length (counted p gone (segmentOf p (viewOf p (now (image .entry)) (now (pointers .entry))) gone opened))) ⌝ }
 {
-    recover_compact::compacts(p, image, pointers, compact, gone, kept);
     clear_table(addresses);
+    let mut at = [0u16; 2048];
     load_segments(
         p,
         image,
@@ -464,6 +461,7 @@ fn load_tables(
         serials,
         kept,
         opened,
+        &mut at,
     )
 }
 

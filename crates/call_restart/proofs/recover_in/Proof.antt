@@ -1,24 +1,25 @@
--- Refused, cut or done: the laws of the three ends (Ends) say what is left, by what look, settle and reload say.
+-- Refused, cut or done: the laws of the three ends (Ends) say what is left, by what look, settle and load say; the arrays that load reads are those of settle.
 use Rattle.mem_calls.specs.Left.{checked}
 use Rattle.spec.specs.Drives.{Disk, mkDisk}
 use Rattle.spec.specs.Memory.{mkMemory}
 use Rattle.call_restart.specs.Ends.{ends-refused, ends-cut, ends-done}
 use borrow.Author.Needs.{needs}
 use mathlib.Core.Path.{ap, _∙_}
-use native.Mathlib.Omega.{arith}
 use Rattle.call_restart.proofs.recover_in.Statement.{statement}
 use Rattle.call_restart.proofs.recover_in.Tie as tie
 
 look-requires : tie.Need-look-requires
 look-requires c κs =
-    let q = c .before .before .before .before .before .before .before .before .before .before .before .before .pre in
+    let pre = c .before .before .before .before .before .before .before .before .before .before .before .before .pre in
+    let q = pre in
     (q .0, (q .1 .0, q .1 .1 .1 .1))
 
 settle-requires : tie.Need-settle-requires
 settle-requires c κs =
     let c1 = c .before .before .before .before .before .before .before .before .before .before .before .before .before .before .before .before in
-    let q = c1 .before .before .before .before .before .before .before .pre in
+    let pre = c1 .before .before .before .before .before .before .before .pre in
     let look = c .before .before .before .before .before .before .before .before .before .before .look in
+    let q = pre in
     let l = look .ensures in
     (q .0, (q .1 .0, (q .1 .1 .0, (l .1, l .0))))
 
@@ -27,41 +28,48 @@ enum-known-c c = search needs
 
 same-length : tie.Need-same-length
 same-length c =
-    let settle = c .before .before .before .before .before .before .before .settle in
+    let settle = c .before .before .before .before .before .before .before .before .before .before .before .settle in
     settle .kept .1 .0
 
 same-length-2 : tie.Need-same-length-2
 same-length-2 c =
-    let settle = c .before .before .before .before .before .before .before .settle in
+    let settle = c .before .before .before .before .before .before .before .before .before .before .before .settle in
     settle .kept .1 .1 .0
 
 same-length-3 : tie.Need-same-length-3
 same-length-3 c =
     let c1 = c .before .before .before .before .before .before .before .before .before .before .before .before .before .before .before .before in
-    c1 .before .before .look .kept .1 .1 .1 .1 .0
+    let settle = c .before .before .before .before .before .before .before .before .before .before .before .settle in
+    let look = c1 .before .before .before .before .before .before .look in
+    settle .kept .1 .1 .1 .1 .1 .0 ∙ look .kept .1 .1 .1 .1 .0
 
 same-length-4 : tie.Need-same-length-4
 same-length-4 c =
     let c1 = c .before .before .before .before .before .before .before .before .before .before .before .before .before .before .before .before in
-    c1 .before .before .look .kept .1 .1 .1 .1 .1 .0
+    let look = c1 .before .before .before .before .before .before .look in
+    look .kept .1 .1 .1 .1 .1 .0
 
 same-length-5 : tie.Need-same-length-5
 same-length-5 c =
     let c1 = c .before .before .before .before .before .before .before .before .before .before .before .before .before .before .before .before in
-    c1 .before .before .look .kept .1 .1 .1 .1 .1 .1 .0
+    let settle = c .before .before .before .before .before .before .before .before .before .before .before .settle in
+    let look = c1 .before .before .before .before .before .before .look in
+    settle .kept .1 .1 .1 .1 .0 ∙ look .kept .1 .1 .1 .1 .1 .1 .0
 
 returns : tie.Need-returns
 returns c =
     let c1 = c .before .before .before .before .before .before .before .before .before .before .before .before .before .before .before .before in
-    let e = c1 .before .before .before .before .before .before .before .before .before .before .before .before .before .before .before in
-    let t = c .before .before .before .before .before .before .before .settle in
-    let a = e .args in
-    let q = e .pre in
+    let c2 = c1 .before .before .before .before .before .before .before .before .before .before .before .before .before .before .before .before in
+    let args = c2 .before .before .before .args in
+    let settle = c .before .before .before .before .before .before .before .before .before .before .before .settle in
+    let c = c .before .c in
+    let a = args in
+    let t = settle in
+    let o = c in
     let p = a .p in
     let k : Disk = mkDisk (a .image .now) (a .pointers .now) in
     let k′ : Disk = mkDisk (t .last .1 .0) (t .last .1 .1 .0) in
-    λ fl. ends-refused p k (mkMemory (a .state) (a .addresses .now) (a .compact .now) fl) (a .gone) (a .count) (t .result) k′ (t .ensures)
-    (c .before .c .given .0 .0) (c .before .c .given .1)
+    λ fl. ends-refused p k (mkMemory (a .state) (a .addresses .now) (a .compact .now) fl) (a .gone) (a .count) (t .result) k′ (t .ensures .0) (o .given .0 .0) (o .given .1)
 
 enum-told : tie.Need-enum-told
 enum-told c = search needs
@@ -71,12 +79,14 @@ cut-requires c κs = search needs
 
 same-length-6 : tie.Need-same-length-6
 same-length-6 c =
-    let settle = c .before .before .before .before .before .before .before .before .before .before .before .before .before .before .settle in
+    let c1 = c .before .before .before .before .before .before .before .before .before .before .before .before .before .before .before .before in
+    let settle = c1 .before .before .settle in
     settle .kept .1 .0
 
 same-length-7 : tie.Need-same-length-7
 same-length-7 c =
-    let settle = c .before .before .before .before .before .before .before .before .before .before .before .before .before .before .settle in
+    let c1 = c .before .before .before .before .before .before .before .before .before .before .before .before .before .before .before .before in
+    let settle = c1 .before .before .settle in
     settle .kept .1 .1 .0
 
 same-length-8 : tie.Need-same-length-8
@@ -92,106 +102,121 @@ same-length-9 c =
 same-length-10 : tie.Need-same-length-10
 same-length-10 c =
     let c1 = c .before .before .before .before .before .before .before .before .before .before .before .before .before .before .before .before in
-    c1 .before .before .before .before .before .before .before .before .before .look .kept .1 .1 .1 .1 .0
+    let settle = c1 .before .before .settle in
+    let look = c1 .before .before .before .before .before .before .before .before .before .before .before .before .before .look in
+    settle .kept .1 .1 .1 .1 .1 .0 ∙ look .kept .1 .1 .1 .1 .0
 
 same-length-11 : tie.Need-same-length-11
 same-length-11 c =
     let c1 = c .before .before .before .before .before .before .before .before .before .before .before .before .before .before .before .before in
-    c1 .before .before .before .before .before .before .before .before .before .look .kept .1 .1 .1 .1 .1 .0
+    let look = c1 .before .before .before .before .before .before .before .before .before .before .before .before .before .look in
+    look .kept .1 .1 .1 .1 .1 .0
 
 same-length-12 : tie.Need-same-length-12
 same-length-12 c =
     let c1 = c .before .before .before .before .before .before .before .before .before .before .before .before .before .before .before .before in
-    c1 .before .before .before .before .before .before .before .before .before .look .kept .1 .1 .1 .1 .1 .1 .0
+    let settle = c1 .before .before .settle in
+    let look = c1 .before .before .before .before .before .before .before .before .before .before .before .before .before .look in
+    settle .kept .1 .1 .1 .1 .0 ∙ look .kept .1 .1 .1 .1 .1 .1 .0
 
 returns-2 : tie.Need-returns-2
 returns-2 c =
     let c1 = c .before .before .before .before .before .before .before .before .before .before .before .before .before .before .before .before in
     let c2 = c1 .before .before .before .before .before .before .before .before .before .before .before .before .before .before .before .before in
-    let e = c2 .before .before .before .before .before .before in
-    let x = c .before .before .before .before .cut in
-    let if1 = c .before .before .before .before .before .before .before .if1 in
+    let args = c2 .before .before .before .before .before .before .before .before .before .before .args in
+    let pre = c2 .before .before .before .before .before .before .before .before .before .before .pre in
+    let settle = c1 .before .before .settle in
+    let cut = c .before .before .before .before .cut in
     let enum-told = c .before .before .before .before .before .before .before .before .enum-told in
-    let t = c .before .before .before .before .before .before .before .before .before .before .before .before .before .before .settle in
-    let a = e .args in
-    let q = e .pre in
+    let if1 = c .before .before .before .before .before .before .before .if1 in
+    let a = args in
+    let q = pre in
+    let t = settle in
+    let x = cut in
     let p = a .p in
     let k : Disk = mkDisk (a .image .now) (a .pointers .now) in
     let k′ : Disk = mkDisk (t .last .1 .0) (t .last .1 .1 .0) in
-    λ fl. ends-cut p k (mkMemory (a .state) (a .addresses .now) (a .compact .now) fl) (a .gone) (a .count) (t .result) k′ (t .ensures)
+    λ fl. ends-cut p k (mkMemory (a .state) (a .addresses .now) (a .compact .now) fl) (a .gone) (a .count) (t .result) k′ (t .ensures .0)
     (enum-told .given .1) (if1 .taken) (x .result) (x .last .0) (x .last .1 .0)
     (q .1 .1 .1 .0 .0) (q .1 .1 .1 .0 .1) (x .ensures .0 .0) (x .ensures .0 .1) (x .ensures .1 .0) (x .ensures .1 .1)
 
-reload-requires : tie.Need-reload-requires
-reload-requires c κs =
+load-requires : tie.Need-load-requires
+load-requires c κs =
     let c1 = c .before .before .before .before .before .before .before .before .before .before .before .before .before .before .before .before in
     let c2 = c1 .before .before .before .before .before .before .before .before .before .before .before .before .before .before .before .before in
-    let q = c2 .before .before .before .before .before .before .pre in
-    let l = c1 .before .before .before .before .before .before .before .before .before .look in
-    let if1 = c .before .before .before .before .before .before .before .if1 in
-    let enum-told = c .before .before .before .before .before .before .before .before .enum-told in
-    let settle = c .before .before .before .before .before .before .before .before .before .before .before .before .before .before .settle in
+    let pre = c2 .before .before .before .before .before .before .before .before .before .pre in
+    let settle = c1 .before .settle in
+    let enum-told = c .before .before .before .before .before .before .before .enum-told in
+    let if1 = c .before .before .before .before .before .before .if1 in
+    let q = pre in
     let t = settle .ensures in
     let n = ap checked (enum-told .given .1) in
     let i = if1 .left in
-    (q .0, (t .whole-is n i, (q .1 .1 .1 .0, (t .good n i, (l .ensures .0 .0, omega (arith, l .kept .1 .1 .1 .1 .1 .0, q .1 .1 .1 .1 .1), l .ensures .1 .0)))))
+    let f = t .1 n i in
+    (q .0, (t .0 .whole-is n i, (q .1 .1 .1 .0, (t .0 .good n i, (f .1, f .0)))))
 
 same-length-13 : tie.Need-same-length-13
 same-length-13 c =
     let c1 = c .before .before .before .before .before .before .before .before .before .before .before .before .before .before .before .before in
-    c1 .before .before .before .before .before .before .before .before .before .settle .kept .1 .0
+    let settle = c1 .before .before .before .before .before .before .settle in
+    settle .kept .1 .0
 
 same-length-14 : tie.Need-same-length-14
 same-length-14 c =
     let c1 = c .before .before .before .before .before .before .before .before .before .before .before .before .before .before .before .before in
-    c1 .before .before .before .before .before .before .before .before .before .settle .kept .1 .1 .0
+    let settle = c1 .before .before .before .before .before .before .settle in
+    settle .kept .1 .1 .0
 
 same-length-15 : tie.Need-same-length-15
 same-length-15 c =
-    let reload = c .before .before .before .before .before .before .before .before .before .before .reload in
-    reload .kept .1 .1 .1 .0
+    let load = c .before .before .before .before .load in
+    load .kept .1 .1 .1 .0
 
 same-length-16 : tie.Need-same-length-16
 same-length-16 c =
-    let reload = c .before .before .before .before .before .before .before .before .before .before .reload in
-    reload .kept .1 .1 .1 .1 .0
+    let load = c .before .before .before .before .load in
+    load .kept .1 .1 .1 .1 .0
 
 same-length-17 : tie.Need-same-length-17
 same-length-17 c =
     let c1 = c .before .before .before .before .before .before .before .before .before .before .before .before .before .before .before .before in
     let c2 = c1 .before .before .before .before .before .before .before .before .before .before .before .before .before .before .before .before in
-    let reload = c .before .before .before .before .before .before .before .before .before .before .reload in
-    reload .kept .1 .1 .1 .1 .1 .1 .0 ∙ c2 .before .before .before .before .look .kept .1 .1 .1 .1 .0
+    let settle = c1 .before .before .before .before .before .before .settle in
+    let look = c2 .before .look in
+    settle .kept .1 .1 .1 .1 .1 .0 ∙ look .kept .1 .1 .1 .1 .0
 
 same-length-18 : tie.Need-same-length-18
 same-length-18 c =
     let c1 = c .before .before .before .before .before .before .before .before .before .before .before .before .before .before .before .before in
     let c2 = c1 .before .before .before .before .before .before .before .before .before .before .before .before .before .before .before .before in
-    let reload = c .before .before .before .before .before .before .before .before .before .before .reload in
-    reload .kept .1 .1 .1 .1 .1 .1 .1 .0 ∙ c2 .before .before .before .before .look .kept .1 .1 .1 .1 .1 .0
+    let look = c2 .before .look in
+    look .kept .1 .1 .1 .1 .1 .0
 
 same-length-19 : tie.Need-same-length-19
 same-length-19 c =
     let c1 = c .before .before .before .before .before .before .before .before .before .before .before .before .before .before .before .before in
     let c2 = c1 .before .before .before .before .before .before .before .before .before .before .before .before .before .before .before .before in
-    let reload = c .before .before .before .before .before .before .before .before .before .before .reload in
-    reload .kept .1 .1 .1 .1 .1 .1 .1 .1 .0 ∙ c2 .before .before .before .before .look .kept .1 .1 .1 .1 .1 .1 .0
+    let settle = c1 .before .before .before .before .before .before .settle in
+    let look = c2 .before .look in
+    settle .kept .1 .1 .1 .1 .0 ∙ look .kept .1 .1 .1 .1 .1 .1 .0
 
 returns-3 : tie.Need-returns-3
 returns-3 c =
     let c1 = c .before .before .before .before .before .before .before .before .before .before .before .before .before .before .before .before in
     let c2 = c1 .before .before .before .before .before .before .before .before .before .before .before .before .before .before .before .before in
-    let c3 = c2 .before .before .before .before .before .before .before .before .before .before .before .before .before .before .before .before in
-    let e = c3 .before in
-    let x = c .before .before .before .before .before .before .before .before .before .before .reload in
-    let a = e .args in
-    let q = e .pre in
+    let args = c2 .before .before .before .before .before .before .before .before .before .before .before .before .before .before .args in
+    let settle = c1 .before .before .before .before .before .before .settle in
+    let load = c .before .before .before .before .load in
+    let enum-told = c .before .before .before .before .before .before .before .before .before .before .before .before .enum-told in
+    let if1 = c .before .before .before .before .before .before .before .before .before .before .before .if1 in
+    let a = args in
+    let t = settle in
+    let x = load in
     let p = a .p in
     let k : Disk = mkDisk (a .image .now) (a .pointers .now) in
-    let t = c1 .before .before .before .before .before .before .before .before .before .settle in
     let k′ : Disk = mkDisk (t .last .1 .0) (t .last .1 .1 .0) in
-    λ fl. ends-done p k (mkMemory (a .state) (a .addresses .now) (a .compact .now) fl) (a .gone) (a .count) (t .result) k′ (t .ensures)
-    (c1 .before .before .before .enum-told .given .1) (c1 .before .before .if1 .left) (x .result) (x .last .1 .1 .1 .0) (x .last .1 .1 .1 .1 .0) (x .ensures)
+    λ fl. ends-done p k (mkMemory (a .state) (a .addresses .now) (a .compact .now) fl) (a .gone) (a .count) (t .result) k′ (t .ensures .0)
+    (enum-told .given .1) (if1 .left) (x .result) (x .last .1 .1 .1 .0) (x .last .1 .1 .1 .1 .0) (x .ensures)
 
 pub recover-in-spec : {M : Type 1} → statement M
 recover-in-spec =
@@ -216,7 +241,7 @@ recover-in-spec =
     same-length-11
     same-length-12
     returns-2
-    reload-requires
+    load-requires
     same-length-13
     same-length-14
     same-length-15

@@ -33,7 +33,7 @@ sub-offset c =
     let q = c .before .before .before .before .before .before .before .pre in
     let v : View = viewOf (a .p) (a .image .now) (a .pointers .now) in
     let (h, k, e, x) = q .1 .1 in
-    let l : 1 ≤ placeBlock (a .p) (a .place .0) = subst (λ (y : ℕ). 1 ≤ placeBlock (a .p) y) e (block-low (a .p) (ranged (a .p) (q .0 .in-range)) v (a .gone) h k) in
+    let l : 1 ≤ placeBlock (a .p) (a .place .0) = subst (λ (y : ℕ). 1 ≤ placeBlock (a .p) y) e (block-low (a .p) (ranged (a .p) (q .0 .in-range)) v (a .gone) h (k .0)) in
     omega (arith, c .place-block .ensures .0, l)
 
 stamp-at-requires : tie.Need-stamp-at-requires
@@ -45,11 +45,11 @@ stamp-at-requires c κs =
     let (h, k, e, x) = q .1 .1 in (
       q .0,
       (
-        k .stripe,
-        lies-same (a .p) v (a .gone) (placeDrive (a .p) (a .place .0)) (placeZone (a .p) (a .place .0)) (placeBlock (a .p) (a .place .0) - 1)
-            (k .stripe) (place-drive .result) (c .before .place-zone .result) (c .place-block .result - 1)
+        k .0 .stripe,
+        lies-same (a .p) v (a .gone) (a .compact .now) (placeDrive (a .p) (a .place .0)) (placeZone (a .p) (a .place .0)) (placeBlock (a .p) (a .place .0) - 1)
+            (k .0 .stripe) (place-drive .result) (c .before .place-zone .result) (c .place-block .result - 1)
             (place-drive .ensures .0) (c .before .place-zone .ensures .0) (ap (λ (y : ℕ). y - 1) (c .place-block .ensures .0))
-            (place-lies (a .p) (ranged (a .p) (q .0 .in-range)) v (a .gone) h k (a .place .0) e),
+            (place-lies (a .p) (ranged (a .p) (q .0 .in-range)) v (a .gone) h (k .0) (a .compact .now) (k .1) (a .place .0) e),
       ),
     )
 
@@ -83,11 +83,11 @@ returns c =
     let ed = place-drive .ensures .0 in
     let eo : place-block .result - 1 ≡ placeBlock p (a .place .0) - 1 = ap (λ (y : ℕ). y - 1) (place-block .ensures .0) in
     λ h k e x.
-    let l : Lies p v (a .gone) (place-drive .result) g (place-block .result - 1) (k .stripe) =
-    lies-same p v (a .gone) (placeDrive p (a .place .0)) (placeZone p (a .place .0)) (placeBlock p (a .place .0) - 1) (k .stripe) (place-drive .result) g (place-block .result - 1)
-    ed eg eo (place-lies p r v (a .gone) h k (a .place .0) e) in
-    it-is-found p r v (a .gone) h k (a .place .0) (a .address .0) (c .before .stamp-at .result .0) (getD (a .serials .now) g 0) (place-drive .result) (place-block .result - 1) e x ed eo
-    (c .before .stamp-at .ensures (k .stripe) l ∙ ap₂ (λ (y z : ℕ). recOf p (a .gone) (segmentOf p v (a .gone) y) (k .stripe) z .stamp) eg ed)
+    let l : Lies p v (a .gone) (a .compact .now) (place-drive .result) g (place-block .result - 1) (k .0 .stripe) =
+    lies-same p v (a .gone) (a .compact .now) (placeDrive p (a .place .0)) (placeZone p (a .place .0)) (placeBlock p (a .place .0) - 1) (k .0 .stripe) (place-drive .result) g (place-block .result - 1)
+    ed eg eo (place-lies p r v (a .gone) h (k .0) (a .compact .now) (k .1) (a .place .0) e) in
+    it-is-found p r v (a .gone) h (k .0) (a .place .0) (a .address .0) (c .before .stamp-at .result .0) (getD (a .serials .now) g 0) (place-drive .result) (place-block .result - 1) e x ed eo
+    (c .before .stamp-at .ensures (k .0 .stripe) l ∙ ap₂ (λ (y z : ℕ). recOf p (a .gone) (segmentOf p v (a .gone) y) (k .0 .stripe) z .stamp) eg ed)
     (q .1 .0 .1 g (place-zone .ensures .1) ∙ ap (serialOf p v (a .gone)) eg)
 
 pub cand-at-spec : {M : Type 1} → statement M

@@ -15,14 +15,14 @@ returns c =
     let a = c .before .before .before .before .before .before .before .before .before .args in
     let q = c .before .before .before .before .before .before .before .before .before .pre in
     let v : View = viewOf (a .p) (a .image .now) (a .pointers .now) in
-    λ cs t. told-high (a .p) (ranged (a .p) (q .0 .in-range)) v (a .gone) (a .addresses .now) cs t (ranked (a .c)) (q .1 .1 .0) (c .if1 .taken)
+    λ cs t. told-high (a .p) (ranged (a .p) (q .0 .in-range)) v (a .gone) (a .compact .now) (a .addresses .now) cs t (ranked (a .c)) (q .1 .1 .0) (c .if1 .taken)
 
 place-at-requires : tie.Need-place-at-requires
 place-at-requires c κs =
     let a = c .before .before .before .before .before .before .before .before .before .before .args in
     let q = c .before .before .before .before .before .before .before .before .before .before .pre in
     let v : View = viewOf (a .p) (a .image .now) (a .pointers .now) in
-    told-fits (a .p) v (a .gone) (a .addresses .now) (q .1 .1 .1 .0) (q .1 .1 .1 .1) (a .c .address .0) (c .before .if1 .left)
+    told-fits (a .p) v (a .gone) (a .compact .now) (a .addresses .now) (q .1 .1 .1 .0) (q .1 .1 .1 .1) (a .c .address .0) (c .before .if1 .left)
 
 set-place-requires : tie.Need-set-place-requires
 set-place-requires c κs =
@@ -30,7 +30,7 @@ set-place-requires c κs =
     let q = c .before .before .before .before .before .before .before .before .before .before .before .before .before .before .pre in
     let if1 = c .before .before .before .before .before .if1 in
     let v : View = viewOf (a .p) (a .image .now) (a .pointers .now) in
-    told-fits (a .p) v (a .gone) (a .addresses .now) (q .1 .1 .1 .0) (q .1 .1 .1 .1) (a .c .address .0) (if1 .left)
+    told-fits (a .p) v (a .gone) (a .compact .now) (a .addresses .now) (q .1 .1 .1 .0) (q .1 .1 .1 .1) (a .c .address .0) (if1 .left)
 
 same-length : tie.Need-same-length
 same-length c = search needs
@@ -44,8 +44,8 @@ returns-2 c =
     let place-at = c .before .before .before .before .before .before .place-at in
     let if1 = c .before .before .before .before .before .before .before .before .if1 in
     let v : View = viewOf (a .p) (a .image .now) (a .pointers .now) in
-    λ cs t. subst (λ (x : List ℕ). Told (a .p) v (a .gone) x (cs ++ (ranked (a .c) ∷ []))) (sym (set-place .ensures))
-    (told-fresh (a .p) (ranged (a .p) (q .0 .in-range)) v (a .gone) (a .addresses .now) cs t (ranked (a .c)) (q .1 .1 .0) (if1 .left) (sym (place-at .ensures) ∙ if2 .taken))
+    λ cs t. subst (λ (x : List ℕ). Told (a .p) v (a .gone) (a .compact .now) x (cs ++ (ranked (a .c) ∷ []))) (sym (set-place .ensures))
+    (told-fresh (a .p) (ranged (a .p) (q .0 .in-range)) v (a .gone) (a .compact .now) (a .addresses .now) cs t (ranked (a .c)) (q .1 .1 .0) (if1 .left) (sym (place-at .ensures) ∙ if2 .taken))
 
 cand-at-requires : tie.Need-cand-at-requires
 cand-at-requires c κs =
@@ -58,8 +58,9 @@ cand-at-requires c κs =
       q .0,
       (
         q .1 .0,
-        subst (λ (x : ℕ). Placed (a .p) v (a .gone) (a .c .address .0) x) (sym e)
-            (placed (a .p) (ranged (a .p) (q .0 .in-range)) v (a .gone) (a .addresses .now) (q .1 .1 .1 .0) (q .1 .1 .1 .1) (a .c .address .0) (if1 .left) (λ x. c .if2 .left (e ∙ x))),
+        subst (λ (x : ℕ). Placed (a .p) v (a .gone) (a .compact .now) (a .c .address .0) x) (sym e)
+            (placed (a .p) (ranged (a .p) (q .0 .in-range)) v (a .gone) (a .compact .now) (a .addresses .now) (q .1 .1 .1 .0) (q .1 .1 .1 .1) (a .c .address .0) (if1 .left)
+            (λ x. c .if2 .left (e ∙ x))),
       ),
     )
 
@@ -72,7 +73,7 @@ set-place-requires-2 c κs =
     let q = c .before .before .before .before .before .before .before .before .before .before .before .before .before .before .before .before .before .pre in
     let if1 = c .before .before .before .before .before .before .before .before .if1 in
     let v : View = viewOf (a .p) (a .image .now) (a .pointers .now) in
-    told-fits (a .p) v (a .gone) (a .addresses .now) (q .1 .1 .1 .0) (q .1 .1 .1 .1) (a .c .address .0) (if1 .left)
+    told-fits (a .p) v (a .gone) (a .compact .now) (a .addresses .now) (q .1 .1 .1 .0) (q .1 .1 .1 .1) (a .c .address .0) (if1 .left)
 
 same-length-2 : tie.Need-same-length-2
 same-length-2 c = search needs
@@ -90,8 +91,9 @@ returns-3 c =
     let if1 = c .before .before .before .before .before .before .before .before .before .before .before .if1 in
     let v : View = viewOf (a .p) (a .image .now) (a .pointers .now) in
     let e = place-at .ensures in
-    λ cs t. subst (λ (x : List ℕ). Told (a .p) v (a .gone) x (cs ++ (ranked (a .c) ∷ []))) (sym (set-place2 .ensures))
-    (told-won (a .p) (ranged (a .p) (q .0 .in-range)) v (a .gone) (a .addresses .now) cs t (ranked (a .c)) (q .1 .1 .0) (if1 .left) (λ x. if2 .left (e ∙ x)) (ranked (cand-at .result))
+    λ cs t. subst (λ (x : List ℕ). Told (a .p) v (a .gone) (a .compact .now) x (cs ++ (ranked (a .c) ∷ []))) (sym (set-place2 .ensures))
+    (told-won (a .p) (ranged (a .p) (q .0 .in-range)) v (a .gone) (a .compact .now) (a .addresses .now) cs t (ranked (a .c)) (q .1 .1 .0) (if1 .left) (λ x. if2 .left (e ∙ x))
+    (ranked (cand-at .result))
     (λ h k y z. cand-at .ensures h k (y ∙ sym e) z) (sym (beats .ensures) ∙ if3 .taken))
 
 same-length-3 : tie.Need-same-length-3
@@ -107,7 +109,8 @@ returns-4 c =
     let if1 = c .before .before .before .before .before .before .before .if1 in
     let v : View = viewOf (a .p) (a .image .now) (a .pointers .now) in
     let e = place-at .ensures in
-    λ cs t. told-lost (a .p) (ranged (a .p) (q .0 .in-range)) v (a .gone) (a .addresses .now) cs t (ranked (a .c)) (q .1 .1 .0) (if1 .left) (λ x. if2 .left (e ∙ x)) (ranked (cand-at .result))
+    λ cs t. told-lost (a .p) (ranged (a .p) (q .0 .in-range)) v (a .gone) (a .compact .now) (a .addresses .now) cs t (ranked (a .c)) (q .1 .1 .0) (if1 .left) (λ x. if2 .left (e ∙ x))
+    (ranked (cand-at .result))
     (λ h k y z. cand-at .ensures h k (y ∙ sym e) z) (sym (c .before .beats .ensures) ∙ c .if3 .left)
 
 pub offer-spec : {M : Type 1} → statement M

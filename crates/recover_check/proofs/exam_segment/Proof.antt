@@ -19,8 +19,10 @@ use Rattle.recover_check.proofs.exam_segment.Tie as tie
 
 shared-slice-read-if1 : tie.Need-shared-slice-read-if1
 shared-slice-read-if1 c =
-    let a = c .before .before .before .before .before .args in
-    let h = c .before .before .before .before .before .pre in
+    let args = c .before .before .before .before .before .before .args in
+    let pre = c .before .before .before .before .before .before .pre in
+    let a = args in
+    let h = pre in
     let p = a .p in
     let v = viewOf p (a .image .now) (a .pointers .now) in
     let m = h .1 .1 .1 .1 in
@@ -30,14 +32,17 @@ shared-slice-read-if1 c =
 
 returns : tie.Need-returns
 returns c =
-    let a = c .before .before .before .before .before .before .args in
-    let h = c .before .before .before .before .before .before .pre in
+    let args = c .before .before .before .before .before .before .before .args in
+    let pre = c .before .before .before .before .before .before .before .pre in
+    let if1 = c .if1 in
+    let a = args in
+    let h = pre in
     let p = a .p in
     let v = viewOf p (a .image .now) (a .pointers .now) in
     let m = h .1 .1 .1 .1 in
     let y = faulty p v (a .gone) (a .g) in
     let x = segmentOf p v (a .gone) (a .g) in
-    let f : getD (a .kept .now) (a .g) false ≡ false = not-true (getD (a .kept .now) (a .g) false) (c .if1 .taken) in
+    let f : getD (a .kept .now) (a .g) false ≡ false = not-true (getD (a .kept .now) (a .g) false) (if1 .taken) in
     let z : y ≡ false = faulty-gone p v (a .gone) (a .g) (sym (h .1 .1 .0 .1 (a .g) (m .0)) ∙ f) in
     ((λ q. absurd (not-both y q z)), (λ _. seen-gone p v (a .gone) (a .kept .now) (a .g) (a .e) (m .2) f))
 
@@ -46,24 +51,31 @@ is-sealed-requires c κs = search needs
 
 segment-fault-requires : tie.Need-segment-fault-requires
 segment-fault-requires c κs =
-    let a = c .before .before .before .before .before .before .before .args in
-    let h = c .before .before .before .before .before .before .before .pre in
+    let args = c .before .before .before .before .before .before .before .before .args in
+    let pre = c .before .before .before .before .before .before .before .before .pre in
+    let is-sealed = c .is-sealed in
+    let a = args in
+    let h = pre in
     let p = a .p in
     let v = viewOf p (a .image .now) (a .pointers .now) in
     let m = h .1 .1 .1 .1 in
     let y = faulty p v (a .gone) (a .g) in
     let x = segmentOf p v (a .gone) (a .g) in
-    (h .0, (h .1 .0, (h .1 .1 .0, (h .1 .1 .1 .0, (m .0, (c .is-sealed .ensures (a .image .now) (h .1 .0 .image-long)), m .1)))))
+    (h .0, (h .1 .0, (h .1 .1 .0, (h .1 .1 .1 .0, (m .0, (is-sealed .ensures (a .image .now) (h .1 .0 .image-long)), m .1)))))
 
 exam-bad-requires : tie.Need-exam-bad-requires
 exam-bad-requires c κs = search needs
 
 returns-2 : tie.Need-returns-2
 returns-2 c =
-    let a = c .before .before .before .before .before .before .before .before .before .before .args in
-    let segment-fault = c .before .before .segment-fault in
+    let args = c .before .before .before .before .before .before .before .before .before .before .before .args in
+    let pre = c .before .before .before .before .before .before .before .before .before .before .before .pre in
     let if1 = c .before .before .before .before .if1 in
-    let h = c .before .before .before .before .before .before .before .before .before .before .pre in
+    let segment-fault = c .before .before .segment-fault in
+    let if2 = c .before .if2 in
+    let exam-bad = c .exam-bad in
+    let a = args in
+    let h = pre in
     let p = a .p in
     let v = viewOf p (a .image .now) (a .pointers .now) in
     let m = h .1 .1 .1 .1 in
@@ -71,31 +83,44 @@ returns-2 c =
     let x = segmentOf p v (a .gone) (a .g) in
     let f : getD (a .kept .now) (a .g) false ≡ true = not-false (getD (a .kept .now) (a .g) false) (if1 .left) in
     let k = faulty-kept p v (a .gone) (a .g) (sym (h .1 .1 .0 .1 (a .g) (m .0)) ∙ f) in
-    let z : y ≡ true = k ∙ ap (λ (o : Bool). o || (stripeFault p (a .gone) x || addressFault p (a .gone) x)) (sym (segment-fault .ensures) ∙ c .before .if2 .taken) in
-    ((λ _. c .exam-bad .ensures), (λ q. absurd (not-both y z q)))
+    let z : y ≡ true = k ∙ ap (λ (o : Bool). o || (stripeFault p (a .gone) x || addressFault p (a .gone) x)) (sym (segment-fault .ensures) ∙ if2 .taken) in
+    ((λ _. exam-bad .ensures), (λ q. absurd (not-both y z q)))
 
 survey-requires : tie.Need-survey-requires
 survey-requires c κs =
-    let a = c .before .before .before .before .before .before .before .before .before .args in
-    let h = c .before .before .before .before .before .before .before .before .before .pre in
+    let args = c .before .before .before .before .before .before .before .before .before .before .before .args in
+    let pre = c .before .before .before .before .before .before .before .before .before .before .before .pre in
+    let is-sealed = c .before .before .before .is-sealed in
+    let a = args in
+    let h = pre in
     let p = a .p in
     let v = viewOf p (a .image .now) (a .pointers .now) in
     let m = h .1 .1 .1 .1 in
     let y = faulty p v (a .gone) (a .g) in
     let x = segmentOf p v (a .gone) (a .g) in
-    (h .0, (h .1 .0, (m .0, (c .before .before .is-sealed .ensures (a .image .now) (h .1 .0 .image-long)))))
+    (h .0, (h .1 .0, (m .3, m .0, (is-sealed .ensures (a .image .now) (h .1 .0 .image-long)))))
 
 exam-bad-requires-2 : tie.Need-exam-bad-requires-2
 exam-bad-requires-2 c κs = search needs
 
+same-length : tie.Need-same-length
+same-length c =
+    let survey = c .before .before .before .before .survey in
+    survey .kept .1 .1 .1 .1 .1 .1 .0
+
 returns-3 : tie.Need-returns-3
 returns-3 c =
-    let a = c .before .before .before .before .before .before .before .before .before .before .before .before .args in
-    let survey = c .before .before .survey in
-    let if2 = c .before .before .before .if2 in
-    let segment-fault = c .before .before .before .before .segment-fault in
-    let if1 = c .before .before .before .before .before .before .if1 in
-    let h = c .before .before .before .before .before .before .before .before .before .before .before .before .pre in
+    let c1 = c .before .before .before .before .before .before .before .before .before .before .before .before .before .before .before .before in
+    let args = c1 .args in
+    let pre = c1 .pre in
+    let if1 = c .before .before .before .before .before .before .before .before .before .if1 in
+    let segment-fault = c .before .before .before .before .before .before .before .segment-fault in
+    let if2 = c .before .before .before .before .before .before .if2 in
+    let survey = c .before .before .before .before .survey in
+    let if3 = c .before .if3 in
+    let exam-bad2 = c .exam-bad2 in
+    let a = args in
+    let h = pre in
     let p = a .p in
     let v = viewOf p (a .image .now) (a .pointers .now) in
     let m = h .1 .1 .1 .1 in
@@ -107,20 +132,24 @@ returns-3 c =
     k
     ∙ ap (λ (o : Bool). o || (stripeFault p (a .gone) x || addressFault p (a .gone) x)) (sym (segment-fault .ensures) ∙ if2 .left)
     ∙ sym (survey .ensures .bad-is)
-    ∙ c .before .if3 .taken in
-    ((λ _. c .exam-bad2 .ensures), (λ q. absurd (not-both y z q)))
+    ∙ if3 .taken in
+    ((λ _. exam-bad2 .ensures), (λ q. absurd (not-both y z q)))
 
 exam-good-requires : tie.Need-exam-good-requires
 exam-good-requires c κs =
-    let a = c .before .before .before .before .before .before .before .before .before .before .before .args in
-    let h = c .before .before .before .before .before .before .before .before .before .before .before .pre in
+    let args = c .before .before .before .before .before .before .before .before .before .before .before .before .before .before .before .args in
+    let pre = c .before .before .before .before .before .before .before .before .before .before .before .before .before .before .before .pre in
+    let survey = c .before .before .before .survey in
+    let if3 = c .if3 in
+    let a = args in
+    let h = pre in
     let p = a .p in
     let v = viewOf p (a .image .now) (a .pointers .now) in
     let m = h .1 .1 .1 .1 in
     let y = faulty p v (a .gone) (a .g) in
     let x = segmentOf p v (a .gone) (a .g) in
-    let u = c .before .survey in
-    let d = c .if3 .left in
+    let u = survey in
+    let d = if3 .left in
     let w = seen-fits p v (a .gone) (a .kept .now) (a .g) (a .e) (m .2) in
     let r = ranged p (h .0) .stripes-high in (
       (
@@ -136,15 +165,26 @@ exam-good-requires c κs =
       ),
     )
 
+same-length-2 : tie.Need-same-length-2
+same-length-2 c =
+    let survey = c .before .before .before .before .survey in
+    survey .kept .1 .1 .1 .1 .1 .1 .0
+
 returns-4 : tie.Need-returns-4
 returns-4 c =
-    let a = c .before .before .before .before .before .before .before .before .before .before .before .before .args in
-    let u = c .before .before .survey in
-    let if2 = c .before .before .before .if2 in
-    let segment-fault = c .before .before .before .before .segment-fault in
-    let is-sealed = c .before .before .before .before .before .is-sealed in
-    let if1 = c .before .before .before .before .before .before .if1 in
-    let h = c .before .before .before .before .before .before .before .before .before .before .before .before .pre in
+    let c1 = c .before .before .before .before .before .before .before .before .before .before .before .before .before .before .before .before in
+    let args = c1 .args in
+    let survey = c .before .before .before .before .survey in
+    let pre = c1 .pre in
+    let if1 = c .before .before .before .before .before .before .before .before .before .if1 in
+    let if3 = c .before .if3 in
+    let segment-fault = c .before .before .before .before .before .before .before .segment-fault in
+    let if2 = c .before .before .before .before .before .before .if2 in
+    let exam-good = c .exam-good in
+    let is-sealed = c .before .before .before .before .before .before .before .before .is-sealed in
+    let a = args in
+    let u = survey in
+    let h = pre in
     let p = a .p in
     let v = viewOf p (a .image .now) (a .pointers .now) in
     let m = h .1 .1 .1 .1 in
@@ -152,10 +192,10 @@ returns-4 c =
     let x = segmentOf p v (a .gone) (a .g) in
     let f : getD (a .kept .now) (a .g) false ≡ true = not-false (getD (a .kept .now) (a .g) false) (if1 .left) in
     let k = faulty-kept p v (a .gone) (a .g) (sym (h .1 .1 .0 .1 (a .g) (m .0)) ∙ f) in
-    let d = c .before .if3 .left in
+    let d = if3 .left in
     let z : y ≡ false = k ∙ ap (λ (o : Bool). o || (stripeFault p (a .gone) x || addressFault p (a .gone) x)) (sym (segment-fault .ensures) ∙ if2 .left) ∙ sym (u .ensures .bad-is) ∙ d in (
       (λ q. absurd (not-both y q z)),
-      (λ _. subst (λ (r : Exam). Seen p v (a .gone) (a .kept .now) (a .g + 1) r) (sym (c .exam-good .ensures))
+      (λ _. subst (λ (r : Exam). Seen p v (a .gone) (a .kept .now) (a .g + 1) r) (sym (exam-good .ensures))
           (seen-added p v (a .gone) (a .kept .now) (a .g) (a .e) (m .2) (is-sealed .result) (u .result) (u .ensures) d f (is-sealed .ensures (a .image .now) (h .1 .0 .image-long)))),
     )
 
@@ -171,6 +211,8 @@ exam-segment-spec =
     returns-2
     survey-requires
     exam-bad-requires-2
+    same-length
     returns-3
     exam-good-requires
+    same-length-2
     returns-4)

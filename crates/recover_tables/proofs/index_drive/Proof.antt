@@ -10,6 +10,7 @@ use Rattle.recover_groups.specs.Bases.{group-len-le}
 use Rattle.recover_groups.specs.Entering.{Entering, entering-start}
 use Rattle.recover_groups.specs.Groups.{groupRecs, segmentIn}
 use Rattle.law_basic.specs.Geometry.{ranged}
+use Rattle.recover_compact.specs.Compacts.{Shows}
 use Rattle.recover_addresses.specs.Lies.{Ground}
 use Rattle.law_drives.specs.Members.{In}
 use Rattle.recover_tables.specs.Index.{entered, all-entered}
@@ -20,6 +21,7 @@ abbrev Inv-loop : tie.InvT-loop
 Inv-loop p pointers compact w drive at₀ n i₀ at i =
     (i ≤ n) × (length at ≡ 2048)
     × ((im : List ℕ) → Ground p im pointers (w .gone) compact → In (w .seg) (remaining p (viewOf p im pointers) (w .gone))
+    → Shows p (viewOf p im pointers) (w .gone) (w .seg) compact
     → Entering p drive (w .base) (groupRecs p (w .base) (recsOn (segmentIn p im pointers w) drive)) at₀ at i)
 
 abbrev μ-loop : tie.MeasureT-loop
@@ -40,7 +42,7 @@ loop-holds c =
     let ps = a .pointers .now in (
       omega arith,
       q .1 .0 .2,
-      λ im G m. entering-start p (a .drive) (w .base) (groupRecs p (w .base) (recsOn (segmentIn p im ps w) (a .drive))) (a .at .now) (q .1 .0 .2) (q .1 .1 .1),
+      λ im G m sh. entering-start p (a .drive) (w .base) (groupRecs p (w .base) (recsOn (segmentIn p im ps w) (a .drive))) (a .at .now) (q .1 .0 .2) (q .1 .1 .1),
     )
 
 mul-j : tie.Need-mul-j Inv-loop μ-loop
@@ -100,11 +102,11 @@ loop-again c =
     let r = ranged p (q .0) in (
       omega (arith, c .before .loop-test .taken),
       length-set (l .at) (256 * a .drive + c .entry-at .result) (l .i + 1) ∙ l .inv .1,
-      λ im G m.
+      λ im G m sh.
           let rs = groupRecs p (w .base) (recsOn (segmentIn p im ps w) (a .drive)) in
           let n : group-stored .result ≡ length rs = group-stored .ensures .0 im (G .whole .image-long) (h .4) in
           subst (λ (x : ℕ). Entering p (a .drive) (w .base) rs (a .at .now) (set (l .at) (256 * a .drive + x) (l .i + 1)) (l .i + 1)) (sym (c .entry-at .ensures .0))
-          (entered p r im ps (w .gone) (a .compact .now) G (w .seg) (w .base) (a .drive) m (h .0) (h .4) (h .2) (h .3) (a .at .now) (l .at) (l .i) (l .inv .2 im G m)
+          (entered p r im ps (w .gone) (a .compact .now) G (w .seg) (w .base) (a .drive) m sh (h .0) (h .4) (h .2) (h .3) (a .at .now) (l .at) (l .i) (l .inv .2 im G m sh)
           (omega (arith, n, c .before .loop-test .taken))),
     )
 
@@ -125,10 +127,10 @@ returns c =
     let w = a .w in
     let ps = a .pointers .now in
     let r = ranged p (q .0) in
-    λ im G m.
+    λ im G m sh.
     let rs = groupRecs p (w .base) (recsOn (segmentIn p im ps w) (a .drive)) in
     let n : group-stored .result ≡ length rs = group-stored .ensures .0 im (G .whole .image-long) (h .4) in
-    all-entered p r im ps (w .gone) (a .compact .now) G (w .seg) (w .base) (a .drive) m (h .0) (h .4) (h .2) (h .3) (a .at .now) (l .at) (l .i) (l .inv .2 im G m)
+    all-entered p r im ps (w .gone) (a .compact .now) G (w .seg) (w .base) (a .drive) m sh (h .0) (h .4) (h .2) (h .3) (a .at .now) (l .at) (l .i) (l .inv .2 im G m sh)
     (omega (arith, n, c .loop-test .left))
 
 pub index-drive-spec : {M : Type 1} → statement M

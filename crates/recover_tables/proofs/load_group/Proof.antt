@@ -1,15 +1,13 @@
 -- Stripe by stripe, by the law walked-turn; the index is that of the group, which the ground of the tables gives (index_group).
-use mathlib.Core.Path.{_≡_, refl, ap, _∙_, subst}
+use mathlib.Core.Path.{_≡_, refl, _∙_, subst}
 use Prim.Native.Nat.{ℕ, _-_, _≤_, _<_}
 use native.Mathlib.Omega.{arith}
 use lib.ListN.{length}
 use Rattle.spec.specs.Drives.{View, viewOf}
 use Rattle.spec.specs.Lists.{upFrom}
-use Rattle.spec.specs.Params.{compactLen}
 use Rattle.recover_groups.specs.Groups.{groupLen, segmentIn, Reads}
 use Rattle.law_basic.specs.Ranges.{length-upFrom}
 use Rattle.law_drives.specs.Segs.{remaining-low}
-use Rattle.law_drives.specs.Tables.{length-compact}
 use Rattle.recover_tables.specs.Walk.{Walked, walkCands, walked-turn, walked-low, walked-start, tells-known}
 use Rattle.recover_tables.proofs.load_group.Statement.{statement}
 use Rattle.recover_tables.proofs.load_group.Tie as tie
@@ -17,7 +15,7 @@ use Rattle.recover_tables.proofs.load_group.Tie as tie
 abbrev Inv-loop : tie.InvT-loop
 Inv-loop p image pointers addresses₀ compact w serials at len next₀ k₀ addresses next k =
     (k ≤ len) × (length addresses ≡ length addresses₀)
-    × Walked p (viewOf p image pointers) (w .gone) (w .seg) (upFrom (w .base) k) addresses₀ addresses (next₀ .stamp .0) (next .stamp .0) (next₀ .counted) (next .counted)
+    × Walked p (viewOf p image pointers) (w .gone) compact (w .seg) (upFrom (w .base) k) addresses₀ addresses (next₀ .stamp .0) (next .stamp .0) (next₀ .counted) (next .counted)
 
 abbrev μ-loop : tie.MeasureT-loop
 μ-loop p image pointers addresses₀ compact w serials at len next₀ k₀ addresses next k = len - k
@@ -28,8 +26,7 @@ index-group-requires c κs =
     let q = c .before .before .before .before .before .before .before .pre in
     let x = q .1 .1 .0 in
     let v : View = viewOf (a .p) (a .image .now) (a .pointers .now) in
-    let n : length (a .compact .now) ≡ compactLen (a .p) = ap length (q .0 .compact) ∙ length-compact (a .p) v (a .w .gone) in
-    (q .0 .in-range, ((q .0 .whole .pointers-long, n, x .0), (remaining-low (a .p) v (a .w .gone) (a .w .seg) (x .4), x .1, x .2)))
+    (q .0 .in-range, ((q .0 .whole .pointers-long, q .0 .compact-long, x .0), (remaining-low (a .p) v (a .w .gone) (a .w .seg) (x .4), x .1, x .2)))
 
 group-len-requires : tie.Need-group-len-requires Inv-loop μ-loop
 group-len-requires c κs =
@@ -39,7 +36,8 @@ group-len-requires c κs =
 loop-holds : tie.Need-loop-holds Inv-loop μ-loop
 loop-holds c =
     let a = c .before .before .before .before .before .before .before .before .before .before .before .args in
-    (omega arith, refl, walked-start (a .p) (viewOf (a .p) (a .image .now) (a .pointers .now)) (a .w .gone) (a .w .seg) (a .w .base) (a .addresses .now) (a .t .stamp .0) (a .t .counted))
+    let v : View = viewOf (a .p) (a .image .now) (a .pointers .now) in
+    (omega arith, refl, walked-start (a .p) v (a .w .gone) (a .compact .now) (a .w .seg) (a .w .base) (a .addresses .now) (a .t .stamp .0) (a .t .counted))
 
 load-if-requires : tie.Need-load-if-requires Inv-loop μ-loop
 load-if-requires c κs =
@@ -52,7 +50,7 @@ load-if-requires c κs =
     let x = q .1 .1 .0 in
     let v : View = viewOf (a .p) (a .image .now) (a .pointers .now) in
     let rd : Reads (a .p) (a .image .now) (a .pointers .now) (a .w) (i .last .1 .1 .1 .1 .0) =
-    record { long = q .0 .whole .pointers-long; full-right = x .3; indexed = i .ensures (a .image .now) (q .0) (x .4) } in (
+    record { long = q .0 .whole .pointers-long; full-right = x .3; indexed = i .ensures (a .image .now) (q .0) (x .4) (x .5) } in (
       q .0,
       (
         q .1 .0,
@@ -64,16 +62,18 @@ load-if-requires c κs =
               base-low = x .1;
               stripe-in = subst (λ (n : ℕ). l .k < n) (group-len .ensures .0) (loop-test .taken);
               remains = x .4;
+              shown = x .5;
             },
             (
                 let w = a .w in
                 let t = a .t in
                 let y = l .next in
-                let low = walked-low (a .p) v (w .gone) (w .seg) (upFrom (w .base) (l .k)) (a .addresses .now) (l .addresses) (t .stamp .0) (y .stamp .0) (t .counted) (y .counted) (l .inv .2) in
-                omega (arith, low, length-upFrom (w .base) (l .k), x .5)
+                let low = walked-low (a .p) v (w .gone) (a .compact .now) (w .seg) (upFrom (w .base) (l .k)) (a .addresses .now) (l .addresses)
+                (t .stamp .0) (y .stamp .0) (t .counted) (y .counted) (l .inv .2) in
+                omega (arith, low, length-upFrom (w .base) (l .k), x .6)
                 ),
           ),
-          tells-known (a .p) v (a .w .gone) (a .addresses .now) (l .addresses)
+          tells-known (a .p) v (a .w .gone) (a .compact .now) (a .addresses .now) (l .addresses)
               (walkCands (a .p) (a .w .gone) (segmentIn (a .p) (a .image .now) (a .pointers .now) (a .w)) (upFrom (a .w .base) (l .k))) (l .inv .2 .tells) (q .1 .1 .1),
         ),
       ),
@@ -96,7 +96,7 @@ loop-again c =
     let v : View = viewOf (a .p) (a .image .now) (a .pointers .now) in (
       omega (arith, loop-test .taken),
       f .kept .1 .1 .1 .0 ∙ l .inv .1,
-      walked-turn (a .p) v (w .gone) (w .seg) (w .base) (l .k) (a .addresses .now) (l .addresses) (f .last .1 .1 .1 .0)
+      walked-turn (a .p) v (w .gone) (a .compact .now) (w .seg) (w .base) (l .k) (a .addresses .now) (l .addresses) (f .last .1 .1 .1 .0)
           (a .t .stamp .0) (l .next .stamp .0) (r .stamp .0) (a .t .counted) (l .next .counted) (r .counted) (l .inv .2) (f .ensures),
     )
 
@@ -117,7 +117,7 @@ returns c =
     let w = a .w in
     let t = a .t in
     let y = l .next in
-    subst (λ (x : ℕ). Walked (a .p) v (w .gone) (w .seg) (upFrom (w .base) x) (a .addresses .now) (l .addresses) (t .stamp .0) (y .stamp .0) (t .counted) (y .counted)) e (l .inv .2)
+    subst (λ (x : ℕ). Walked (a .p) v (w .gone) (a .compact .now) (w .seg) (upFrom (w .base) x) (a .addresses .now) (l .addresses) (t .stamp .0) (y .stamp .0) (t .counted) (y .counted)) e (l .inv .2)
 
 pub load-group-spec : {M : Type 1} → statement M
 load-group-spec =

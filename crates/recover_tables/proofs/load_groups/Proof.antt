@@ -14,105 +14,143 @@ use Rattle.law_basic.specs.Geometry.{Ranged, ranged, base-next}
 use Rattle.law_basic.specs.Ranges.{length-upFrom, upFrom-end, below-start}
 use Rattle.recover_addresses.specs.Told.{Known}
 use Rattle.law_drives.specs.Segs.{remaining-low}
+use Rattle.recover_tables.specs.Ready.{lastBase}
 use Rattle.recover_tables.specs.Walk.{Walked, walkCands, walked-none, walked-join, walked-low, tells-known}
 use Rattle.recover_tables.proofs.load_groups.Statement.{statement}
 use Rattle.recover_tables.proofs.load_groups.Tie as tie
 
 abbrev Inv-loop : tie.InvT-loop
-Inv-loop p image pointers addresses₀ compact gone serials seg full at₀ t₀ base₀ addresses at t base =
-    (length addresses ≡ length addresses₀) × (length at ≡ 2048) × (base % p .G ≡ 0) × (base ≤ 65791) × (t .counted ≤ base) × Known p (viewOf p image pointers) gone addresses
-    × ((tb : List ℕ) (m n : ℕ) → Walked p (viewOf p image pointers) gone seg (upFrom base (p .S - base)) addresses tb (t .stamp .0) m (t .counted) n
-    → Walked p (viewOf p image pointers) gone seg (below (p .S)) addresses₀ tb (t₀ .stamp .0) m (t₀ .counted) n)
+Inv-loop p image pointers addresses₀ compact gone serials seg at₀ full t₀ base₀ addresses at t base =
+    (length addresses ≡ length addresses₀) × (length at ≡ length at₀) × (base % p .G ≡ 0) × (base ≤ lastBase) × (t .counted ≤ base)
+    × Known p (viewOf p image pointers) gone compact addresses
+    × ((tb : List ℕ) (m n : ℕ) → Walked p (viewOf p image pointers) gone compact seg (upFrom base (p .S - base)) addresses tb (t .stamp .0) m (t .counted) n
+    → Walked p (viewOf p image pointers) gone compact seg (below (p .S)) addresses₀ tb (t₀ .stamp .0) m (t₀ .counted) n)
 
 abbrev μ-loop : tie.MeasureT-loop
-μ-loop p image pointers addresses₀ compact gone serials seg full at₀ t₀ base₀ addresses at t base = p .S - base
+μ-loop p image pointers addresses₀ compact gone serials seg at₀ full t₀ base₀ addresses at t base = p .S - base
 
 is-sealed-requires : tie.Need-is-sealed-requires Inv-loop μ-loop
 is-sealed-requires c κs =
-    let a = c .before .before .before .before .before .args in
-    let q = c .before .before .before .before .before .pre in
-    (q .0 .in-range, (q .0 .whole .pointers-long, remaining-low (a .p) (viewOf (a .p) (a .image .now) (a .pointers .now)) (a .gone) (a .seg) (q .1 .1 .0)))
+    let args = c .before .before .before .before .before .before .args in
+    let pre = c .before .before .before .before .before .before .pre in
+    let a = args in
+    let q = pre in
+    (q .0 .in-range, (q .0 .whole .pointers-long, remaining-low (a .p) (viewOf (a .p) (a .image .now) (a .pointers .now)) (a .gone) (a .seg) (q .1 .1 .0 .0)))
 
 loop-holds : tie.Need-loop-holds Inv-loop μ-loop
 loop-holds c =
-    let a = c .before .before .before .before .before .before .args in
-    let q = c .before .before .before .before .before .before .pre in
+    let args = c .before .before .before .before .before .before .before .args in
+    let pre = c .before .before .before .before .before .before .before .pre in
+    let a = args in
+    let q = pre in
     let v : View = viewOf (a .p) (a .image .now) (a .pointers .now) in (
       refl,
       refl,
       zero-mod (a .p .G),
       omega arith,
       omega arith,
-      q .1 .1 .1,
-      λ tb m n w. subst (λ (x : List ℕ). Walked (a .p) v (a .gone) (a .seg) x (a .addresses .now) tb (a .stamp .0) m 0 n) (sym (below-start (a .p .S))) w,
+      q .1 .1 .1 .0,
+      λ tb m n w. subst (λ (x : List ℕ). Walked (a .p) v (a .gone) (a .compact .now) (a .seg) x (a .addresses .now) tb (a .stamp .0) m 0 n) (sym (below-start (a .p .S))) w,
     )
-
-slice-aggregate-load-group : tie.Need-slice-aggregate-load-group Inv-loop μ-loop
-slice-aggregate-load-group c = omega arith
 
 load-group-requires : tie.Need-load-group-requires Inv-loop μ-loop
 load-group-requires c κs =
-    let a = c .before .before .before .before .before .before .before .before .before .before .before .args in
-    let q = c .before .before .before .before .before .before .before .before .before .before .before .pre in
-    let l = c .before .before .before .before .loop in
+    let args = c .before .before .before .before .before .before .before .before .before .before .before .before .args in
+    let pre = c .before .before .before .before .before .before .before .before .before .before .before .before .pre in
+    let loop = c .before .before .before .before .loop in
     let if1 = c .before .before .if1 in
     let is-sealed = c .before .before .before .before .before .is-sealed in
-    (q .0, (q .1 .0, ((l .inv .1, if1 .taken, l .inv .2, is-sealed .ensures (a .image .now) (q .0 .whole .image-long), q .1 .1 .0, l .inv .4), l .inv .5)))
+    let a = args in
+    let q = pre in
+    let l = loop in (
+      q .0,
+      (
+        q .1 .0,
+        (
+          (
+            l .inv .1 ∙ q .1 .1 .1 .1,
+            if1 .taken,
+            l .inv .2,
+            is-sealed .ensures (a .image .now) (q .0 .whole .image-long),
+            q .1 .1 .0 .0,
+            q .1 .1 .0 .1,
+            l .inv .4,
+          ),
+          l .inv .5,
+        ),
+      ),
+    )
 
 add-base : tie.Need-add-base Inv-loop μ-loop
 add-base c =
-    let loop = c .before .before .before .before .before .before .before .before .before .loop in
-    let entry = c .before .before .before .before .before .before .before .before .before .before .before .before .before .before .before .before in
-    let args = entry .args in
-    let pre = entry .pre in
+    let c1 = c .before .before .before .before .before .before .before .before .before .before .before .before .before .before .before .before in
+    let loop = c .before .before .before .before .before .before .before .before .before .before .loop in
+    let args = c1 .before .before .args in
+    let pre = c1 .before .before .pre in
     omega (arith, loop .inv .3, ranged (args .p) (pre .0 .in-range) .group-high)
 
 loop-less : tie.Need-loop-less Inv-loop μ-loop
 loop-less c =
-    let if1 = c .before .before .before .before .before .before .before .if1 in
-    let entry = c .before .before .before .before .before .before .before .before .before .before .before .before .before .before .before .before in
-    let args = entry .args in
-    let pre = entry .pre in
+    let c1 = c .before .before .before .before .before .before .before .before .before .before .before .before .before .before .before .before in
+    let if1 = c .before .before .before .before .before .before .before .before .if1 in
+    let args = c1 .before .before .args in
+    let pre = c1 .before .before .pre in
     omega (arith, if1 .taken, ranged (args .p) (pre .0 .in-range) .group-low)
 
 loop-again : tie.Need-loop-again Inv-loop μ-loop
 loop-again c =
-    let a = c .before .before .before .before .before .before .before .before .before .before .before .before .before .before .before .before .args in
-    let q = c .before .before .before .before .before .before .before .before .before .before .before .before .before .before .before .before .pre in
-    let l = c .before .before .before .before .before .before .before .before .before .loop in
-    let load-group = c .before .before .before .before .load-group in
-    let if1 = c .before .before .before .before .before .before .before .if1 in
+    let c1 = c .before .before .before .before .before .before .before .before .before .before .before .before .before .before .before .before in
+    let args = c1 .before .before .args in
+    let pre = c1 .before .before .pre in
+    let loop = c .before .before .before .before .before .before .before .before .before .before .loop in
+    let load-group = c .before .before .before .before .before .load-group in
+    let if1 = c .before .before .before .before .before .before .before .before .if1 in
+    let a = args in
+    let q = pre in
+    let l = loop in
+    let x = load-group in
+    let i = if1 .taken in
     let r : Ranged (a .p) = ranged (a .p) (q .0 .in-range) in
     let v : View = viewOf (a .p) (a .image .now) (a .pointers .now) in
     let gs : List ℕ = upFrom (l .base) (groupLen (a .p) (l .base)) in
-    let w = load-group .ensures in
-    let tb = load-group .last .1 .1 .1 .0 in
-    let n = walked-low (a .p) v (a .gone) (a .seg) gs (l .addresses) tb (l .t .stamp .0) (load-group .result .stamp .0) (l .t .counted) (load-group .result .counted) w in (
-      load-group .kept .1 .1 .1 .0 ∙ l .inv .0,
-      load-group .kept .1 .1 .1 .1 .1 .1 .1 .0 ∙ l .inv .1,
+    let w = x .ensures in
+    let tb = x .last .1 .1 .1 .0 in
+    let n = walked-low (a .p) v (a .gone) (a .compact .now) (a .seg) gs (l .addresses) tb (l .t .stamp .0) (x .result .stamp .0) (l .t .counted) (x .result .counted) w in (
+      x .kept .1 .1 .1 .0 ∙ l .inv .0,
+      x .kept .1 .1 .1 .1 .1 .1 .1 .0 ∙ l .inv .1,
       base-next (l .base) (a .p .G) (l .inv .2),
-      omega (arith, if1 .taken, r .stripes-high, r .group-high),
+      omega (arith, i, r .stripes-high, r .group-high),
       omega (arith, n, length-upFrom (l .base) (groupLen (a .p) (l .base)), group-len-le (a .p) (l .base), l .inv .4),
-      tells-known (a .p) v (a .gone) (l .addresses) tb (walkCands (a .p) (a .gone) (segmentOf (a .p) v (a .gone) (a .seg)) gs) (w .tells) (l .inv .5),
-      λ tb″ m″ n″ x. l .inv .6 tb″ m″ n″ (subst
-          (λ (y : List ℕ). Walked (a .p) v (a .gone) (a .seg) y (l .addresses) tb″ (l .t .stamp .0) m″ (l .t .counted) n″)
-          (sym (stripes-step (a .p) (l .base) (if1 .taken)))
-          (walked-join (a .p) v (a .gone) (a .seg) gs (upFrom (l .base + a .p .G) (a .p .S - (l .base + a .p .G))) (l .addresses) tb tb″
-          (l .t .stamp .0) (load-group .result .stamp .0) m″ (l .t .counted) (load-group .result .counted) n″ w x)),
+      tells-known (a .p) v (a .gone) (a .compact .now) (l .addresses) tb (walkCands (a .p) (a .gone) (segmentOf (a .p) v (a .gone) (a .seg)) gs) (w .tells) (l .inv .5),
+      λ tb″ m″ n″ y. l .inv .6 tb″ m″ n″ (subst
+          (λ (z : List ℕ). Walked (a .p) v (a .gone) (a .compact .now) (a .seg) z (l .addresses) tb″ (l .t .stamp .0) m″ (l .t .counted) n″)
+          (sym (stripes-step (a .p) (l .base) i))
+          (walked-join (a .p) v (a .gone) (a .compact .now) (a .seg) gs (upFrom (l .base + a .p .G) (a .p .S - (l .base + a .p .G))) (l .addresses) tb tb″
+          (l .t .stamp .0) (x .result .stamp .0) m″ (l .t .counted) (x .result .counted) n″ w y)),
     )
 
 same-length : tie.Need-same-length Inv-loop μ-loop
-same-length c = c .before .before .loop .inv .0
+same-length c =
+    let loop = c .before .before .loop in
+    loop .inv .0
+
+same-length-2 : tie.Need-same-length-2 Inv-loop μ-loop
+same-length-2 c =
+    let loop = c .before .before .loop in
+    loop .inv .1
 
 returns : tie.Need-returns Inv-loop μ-loop
 returns c =
-    let a = c .before .before .before .before .before .before .before .before .before .args in
-    let l = c .before .before .loop in
+    let args = c .before .before .before .before .before .before .before .before .before .before .args in
+    let loop = c .before .before .loop in
+    let if1 = c .if1 in
+    let a = args in
+    let l = loop in
     let v : View = viewOf (a .p) (a .image .now) (a .pointers .now) in
     l .inv .6 (l .addresses) (l .t .stamp .0) (l .t .counted)
-    (subst (λ (y : List ℕ). Walked (a .p) v (a .gone) (a .seg) y (l .addresses) (l .addresses) (l .t .stamp .0) (l .t .stamp .0) (l .t .counted)
-    (l .t .counted)) (sym (upFrom-end (l .base) (a .p .S) (omega (arith, c .if1 .left))))
-    (walked-none (a .p) v (a .gone) (a .seg) (l .addresses) (l .t .stamp .0) (l .t .counted)))
+    (subst (λ (y : List ℕ). Walked (a .p) v (a .gone) (a .compact .now) (a .seg) y (l .addresses) (l .addresses) (l .t .stamp .0) (l .t .stamp .0) (l .t .counted)
+    (l .t .counted)) (sym (upFrom-end (l .base) (a .p .S) (omega (arith, if1 .left))))
+    (walked-none (a .p) v (a .gone) (a .compact .now) (a .seg) (l .addresses) (l .t .stamp .0) (l .t .counted)))
 
 pub load-groups-spec : {M : Type 1} → statement M
 load-groups-spec =
@@ -122,10 +160,10 @@ load-groups-spec =
     μ-loop
     is-sealed-requires
     loop-holds
-    slice-aggregate-load-group
     load-group-requires
     add-base
     loop-less
     loop-again
     same-length
+    same-length-2
     returns)

@@ -5,52 +5,61 @@ use Prim.Native.Nat.{ℕ, _-_, _≤_, _<_}
 use native.Mathlib.Omega.{arith}
 use lib.ListN.{length, getD}
 use Rattle.spec.specs.Drives.{View, viewOf}
-use Rattle.spec.specs.Lists.{below}
 use Rattle.spec.specs.Segments.{segmentOf, counted}
 use Rattle.law_basic.specs.Geometry.{ranged}
 use Rattle.law_drives.specs.Rebuilding.{counted-low}
 use Rattle.law_drives.specs.Tables.{remains}
 use Rattle.recover_tables.specs.Ready.{kept-is, next-turn, next-now}
-use Rattle.recover_tables.specs.Walk.{Toured, tourCands, toured-none, toured-turn, tells-known}
+use Rattle.recover_tables.specs.Walk.{Toured, toured-none}
 use Rattle.recover_tables.proofs.load_segments.Statement.{statement}
 use Rattle.recover_tables.proofs.load_segments.Tie as tie
 
 abbrev Inv-loop : tie.InvT-loop
-Inv-loop p image pointers addresses₀ compact gone serials kept opened h₀ g₀ addresses h g =
-    (g ≤ p .Z) × (length addresses ≡ length addresses₀) × Toured p (viewOf p image pointers) gone (below g) addresses₀ addresses 0 (h .stamp .0) × (h .next ≤ p .S)
+Inv-loop p image pointers addresses₀ compact₀ gone serials kept opened at₀ h₀ g₀ addresses compact at h g =
+    (g ≤ p .Z) × (length addresses ≡ length addresses₀) × (length compact ≡ length compact₀) × (length at ≡ length at₀)
+    × Toured p (viewOf p image pointers) gone g compact addresses (h .stamp .0) × (h .next ≤ p .S)
     × (opened < g → remains p (viewOf p image pointers) gone opened ≡ true → h .next ≡ length (counted p gone (segmentOf p (viewOf p image pointers) gone opened)))
 
 abbrev μ-loop : tie.MeasureT-loop
-μ-loop p image pointers addresses₀ compact gone serials kept opened h₀ g₀ addresses h g = p .Z - g
+μ-loop p image pointers addresses₀ compact₀ gone serials kept opened at₀ h₀ g₀ addresses compact at h g = p .Z - g
 
 loop-holds : tie.Need-loop-holds Inv-loop μ-loop
 loop-holds c =
-    let a = c .before .before .before .before .before .before .args in
-    (omega arith, refl, toured-none (a .p) (viewOf (a .p) (a .image .now) (a .pointers .now)) (a .gone) (a .addresses .now) 0, omega arith, λ l. absurd (let q : ⊥ = omega arith in q))
+    let args = c .before .before .before .before .before .before .before .args in
+    let pre = c .before .before .before .before .before .before .before .pre in
+    let a = args in
+    let q = pre in (
+      omega arith,
+      refl,
+      refl,
+      refl,
+      toured-none (a .p) (viewOf (a .p) (a .image .now) (a .pointers .now)) (a .gone) (a .compact .now) (a .addresses .now) (q .0 .compact-long) (q .1 .1 .1 .0),
+      omega arith,
+      λ l. absurd (let z : ⊥ = omega arith in z),
+    )
 
 shared-slice-read-load-segment : tie.Need-shared-slice-read-load-segment Inv-loop μ-loop
 shared-slice-read-load-segment c =
-    let if1 = c .before .before .if1 in
-    let entry = c .before .before .before .before .before .before .before .before .before .before .before in
-    let args = entry .args in
-    let pre = entry .pre in
-    omega (arith, if1 .taken, pre .1 .1 .0 .0, ranged (args .p) (pre .0 .in-range) .zones-high)
+    let args = c .before .before .before .before .before .before .before .before .before .before .before .before .before .args in
+    let pre = c .before .before .before .before .before .before .before .before .before .before .before .before .before .pre in
+    let if1 = c .before .before .before .if1 in
+    let a = args in
+    let q = pre in
+    omega (arith, if1 .taken, q .1 .1 .0 .0, ranged (a .p) (q .0 .in-range) .zones-high)
 
 load-segment-requires : tie.Need-load-segment-requires Inv-loop μ-loop
 load-segment-requires c κs =
-    let a = c .before .before .before .before .before .before .before .before .before .before .before .args in
-    let q = c .before .before .before .before .before .before .before .before .before .before .before .pre in
-    let l = c .before .before .before .before .loop in
-    let if1 = c .before .before .if1 in
+    let args = c .before .before .before .before .before .before .before .before .before .before .before .before .before .before .args in
+    let pre = c .before .before .before .before .before .before .before .before .before .before .before .before .before .before .pre in
+    let loop = c .before .before .before .before .before .before .loop in
+    let if1 = c .before .before .before .before .if1 in
+    let a = args in
+    let q = pre in
+    let l = loop in
+    let i = if1 .taken in
     let v : View = viewOf (a .p) (a .image .now) (a .pointers .now) in (
-      q .0,
-      (
-        q .1 .0,
-        (
-          (if1 .taken, kept-is (a .p) v (a .gone) (l .g) (getD (a .kept .now) (l .g) false) (q .1 .1 .0 .1 (l .g) (if1 .taken))),
-          tells-known (a .p) v (a .gone) (a .addresses .now) (l .addresses) (tourCands (a .p) v (a .gone) (below (l .g))) (l .inv .2 .tells) (q .1 .1 .1),
-        ),
-      ),
+      record { in-range = q .0 .in-range; whole = q .0 .whole; clean = q .0 .clean; compact-long = l .inv .2 ∙ q .0 .compact-long },
+      (q .1 .0, ((i, kept-is (a .p) v (a .gone) (l .g) (getD (a .kept .now) (l .g) false) (q .1 .1 .0 .1 (l .g) i)), (l .inv .4, l .inv .3 ∙ q .1 .1 .1 .1))),
     )
 
 add-g : tie.Need-add-g Inv-loop μ-loop
@@ -61,35 +70,58 @@ loop-less c = omega arith
 
 loop-again : tie.Need-loop-again Inv-loop μ-loop
 loop-again c =
-    let a = c .before .before .before .before .before .before .before .before .before .before .before .before .before .before .args in
-    let q = c .before .before .before .before .before .before .before .before .before .before .before .before .before .before .pre in
-    let l = c .before .before .before .before .before .before .before .loop in
-    let load-segment = c .before .before .load-segment in
-    let if1 = c .before .before .before .before .before .if1 in
+    let c1 = c .before .before .before .before .before .before .before .before .before .before .before .before .before .before .before .before in
+    let args = c1 .before .before .before .before .before .args in
+    let pre = c1 .before .before .before .before .before .pre in
+    let loop = c .before .before .before .before .before .before .before .before .before .before .before .before .before .loop in
+    let load-segment = c .before .before .before .before .before .before .load-segment in
+    let if1 = c .before .before .before .before .before .before .before .before .before .before .before .if1 in
+    let a = args in
+    let q = pre in
+    let l = loop in
+    let x = load-segment in
+    let i = if1 .taken in
     let v : View = viewOf (a .p) (a .image .now) (a .pointers .now) in
     let b : Bool = getD (a .kept .now) (l .g) false in
-    let eb : b ≡ remains (a .p) v (a .gone) (l .g) = kept-is (a .p) v (a .gone) (l .g) b (q .1 .1 .0 .1 (l .g) (if1 .taken)) in
-    let f : ℕ → ℕ = λ x. length (counted (a .p) (a .gone) (segmentOf (a .p) v (a .gone) x)) in
-    let r = load-segment .result in
-    let e = load-segment .ensures in (
-      omega (arith, if1 .taken),
-      load-segment .kept .1 .1 .1 .0 ∙ l .inv .1,
-      toured-turn (a .p) v (a .gone) (l .g) (a .addresses .now) (l .addresses) (load-segment .last .1 .1 .1 .0) 0 (l .h .stamp .0) (r .stamp .0) (l .inv .2) (e .0),
-      next-turn (a .p .S) (a .opened) (l .g) (f (l .g)) (l .h .next) (r .next) b (e .1) (l .inv .3) (counted-low (a .p) (a .gone) (segmentOf (a .p) v (a .gone) (l .g))),
-      λ x y. next-now (a .opened) (l .g) (l .h .next) (r .next) f b (e .1) (λ z. l .inv .4 z y) (λ z. eb ∙ ap (remains (a .p) v (a .gone)) z ∙ y) x,
+    let eb : b ≡ remains (a .p) v (a .gone) (l .g) = kept-is (a .p) v (a .gone) (l .g) b (q .1 .1 .0 .1 (l .g) i) in
+    let f : ℕ → ℕ = λ n. length (counted (a .p) (a .gone) (segmentOf (a .p) v (a .gone) n)) in
+    let r = x .result in
+    let e = x .ensures in (
+      omega (arith, i),
+      x .kept .1 .1 .1 .0 ∙ l .inv .1,
+      x .kept .1 .1 .1 .1 .0 ∙ l .inv .2,
+      x .kept .1 .1 .1 .1 .1 .1 .1 .1 .1 .1 .0 ∙ l .inv .3,
+      e .0,
+      next-turn (a .p .S) (a .opened) (l .g) (f (l .g)) (l .h .next) (r .next) b (e .1) (l .inv .5) (counted-low (a .p) (a .gone) (segmentOf (a .p) v (a .gone) (l .g))),
+      λ u y. next-now (a .opened) (l .g) (l .h .next) (r .next) f b (e .1) (λ z. l .inv .6 z y) (λ z. eb ∙ ap (remains (a .p) v (a .gone)) z ∙ y) u,
     )
 
 same-length : tie.Need-same-length Inv-loop μ-loop
-same-length c = c .before .before .loop .inv .1
+same-length c =
+    let loop = c .before .before .loop in
+    loop .inv .1
+
+same-length-2 : tie.Need-same-length-2 Inv-loop μ-loop
+same-length-2 c =
+    let loop = c .before .before .loop in
+    loop .inv .2
+
+same-length-3 : tie.Need-same-length-3 Inv-loop μ-loop
+same-length-3 c =
+    let loop = c .before .before .loop in
+    loop .inv .3
 
 returns : tie.Need-returns Inv-loop μ-loop
 returns c =
-    let a = c .before .before .before .before .before .before .before .before .before .args in
-    let l = c .before .before .loop in
+    let args = c .before .before .before .before .before .before .before .before .before .before .args in
+    let loop = c .before .before .loop in
+    let if1 = c .if1 in
+    let a = args in
+    let l = loop in
     let v : View = viewOf (a .p) (a .image .now) (a .pointers .now) in
-    let e : l .g ≡ a .p .Z = omega (arith, c .if1 .left, l .inv .0) in (
-      subst (λ (x : ℕ). Toured (a .p) v (a .gone) (below x) (a .addresses .now) (l .addresses) 0 (l .h .stamp .0)) e (l .inv .2),
-      (l .inv .3, λ x y. l .inv .4 (subst (λ (n : ℕ). a .opened < n) (sym e) x) y),
+    let e : l .g ≡ a .p .Z = omega (arith, if1 .left, l .inv .0) in (
+      subst (λ (n : ℕ). Toured (a .p) v (a .gone) n (l .compact) (l .addresses) (l .h .stamp .0)) e (l .inv .4),
+      (l .inv .5, λ x y. l .inv .6 (subst (λ (n : ℕ). a .opened < n) (sym e) x) y),
     )
 
 pub load-segments-spec : {M : Type 1} → statement M
@@ -105,4 +137,6 @@ load-segments-spec =
     loop-less
     loop-again
     same-length
+    same-length-2
+    same-length-3
     returns)

@@ -22,7 +22,7 @@ use Rattle.recover_tables.proofs.load_stripe.Tie as tie
 abbrev Inv-loop : tie.InvT-loop
 Inv-loop p image pointers addresses₀ compact w serials at k seg serial s n most₀ i₀ addresses most i =
     (i ≤ n) × (length addresses ≡ length addresses₀)
-    × Tells p (viewOf p image pointers) (w .gone) addresses₀ addresses (firstCands p (w .gone) (segmentIn p image pointers w) (w .base + k) i)
+    × Tells p (viewOf p image pointers) (w .gone) compact addresses₀ addresses (firstCands p (w .gone) (segmentIn p image pointers w) (w .base + k) i)
     × (most .0 ≡ max (most₀ .0) (greatestStamp (firstCands p (w .gone) (segmentIn p image pointers w) (w .base + k) i)))
 
 abbrev μ-loop : tie.MeasureT-loop
@@ -32,13 +32,13 @@ mul-t20 : tie.Need-mul-t20 Inv-loop μ-loop
 mul-t20 c =
     let a = c .before .before .before .before .before .before .args in
     let pre = c .before .before .before .before .before .before .pre in
-    omega (arith, standing-low (a .p) (a .image .now) (a .pointers .now) (a .w) (a .at .now) (a .k) (pre .1 .1 .0), ranged (a .p) (pre .0 .in-range) .zones-high)
+    omega (arith, standing-low (a .p) (a .image .now) (a .pointers .now) (a .w) (a .at .now) (a .k) (a .compact .now) (pre .1 .1 .0), ranged (a .p) (pre .0 .in-range) .zones-high)
 
 shared-slice-read-t22 : tie.Need-shared-slice-read-t22 Inv-loop μ-loop
 shared-slice-read-t22 c =
     let a = c .before .before .before .before .before .before .before .args in
     let pre = c .before .before .before .before .before .before .before .pre in
-    omega (arith, standing-low (a .p) (a .image .now) (a .pointers .now) (a .w) (a .at .now) (a .k) (pre .1 .1 .0), ranged (a .p) (pre .0 .in-range) .zones-high, pre .1 .0 .0)
+    omega (arith, standing-low (a .p) (a .image .now) (a .pointers .now) (a .w) (a .at .now) (a .k) (a .compact .now) (pre .1 .1 .0), ranged (a .p) (pre .0 .in-range) .zones-high, pre .1 .0 .0)
 
 add-s : tie.Need-add-s Inv-loop μ-loop
 add-s c =
@@ -60,7 +60,7 @@ loop-holds c =
     let e = first-none (a .p) (a .w .gone) g (a .w .base + a .k) in (
       omega arith,
       refl,
-      tells-none (a .p) v (a .w .gone) (a .addresses .now) (firstCands (a .p) (a .w .gone) g (a .w .base + a .k) 0) e,
+      tells-none (a .p) v (a .w .gone) (a .compact .now) (a .addresses .now) (firstCands (a .p) (a .w .gone) g (a .w .base + a .k) 0) e,
       most-none (a .stamp .0) ∙ ap (λ (x : List Cand). max (a .stamp .0) (greatestStamp x)) (sym e),
     )
 
@@ -79,7 +79,7 @@ cand-of-requires c κs =
         (
           q .0 .whole .image-long,
           st .index .long,
-          standing-low (a .p) (a .image .now) (a .pointers .now) (a .w) (a .at .now) (a .k) st,
+          standing-low (a .p) (a .image .now) (a .pointers .now) (a .w) (a .at .now) (a .k) (a .compact .now) st,
           st .index .base-low,
           c .data-drive .ensures .1,
           st .index .stripe-in,
@@ -101,7 +101,7 @@ offer-requires c κs =
     let v : View = viewOf (a .p) (a .image .now) (a .pointers .now) in
     let s = a .w .base + a .k in
     let g : Segment = segmentIn (a .p) (a .image .now) (a .pointers .now) (a .w) in
-    let hz = standing-low (a .p) (a .image .now) (a .pointers .now) (a .w) (a .at .now) (a .k) st in
+    let hz = standing-low (a .p) (a .image .now) (a .pointers .now) (a .w) (a .at .now) (a .k) (a .compact .now) st in
     let es = serial-there (a .p) v (a .w .gone) (a .w .seg) (getD (a .serials .now) (a .w .seg) 0) (q .1 .0 .1 (a .w .seg) hz) in
     let ec : ranked (cand-of .result) ≡ candOf (a .p) (a .w .gone) g s (dataDrive (a .p) s (l .i)) =
     cand-of .ensures (a .pointers .now) (st .index .reads) es ∙ ap (candOf (a .p) (a .w .gone) g s) (data-drive .ensures .0) in (
@@ -109,9 +109,10 @@ offer-requires c κs =
       (
         q .1 .0,
         (
-          cand-there (a .p) v (a .w .gone) (a .w .seg) s (l .i) (ranked (cand-of .result)) (standing-counted (a .p) (a .image .now) (a .pointers .now) (a .w) (a .at .now) (a .k) st)
+          cand-there (a .p) v (a .w .gone) (a .compact .now) (a .w .seg) s (l .i) (ranked (cand-of .result))
+              (standing-counted (a .p) (a .image .now) (a .pointers .now) (a .w) (a .at .now) (a .k) (a .compact .now) st)
               (subst (λ (x : ℕ). l .i < x) (data-count .ensures .0) (loop-test .taken)) ec,
-          tells-known (a .p) v (a .w .gone) (a .addresses .now) (l .addresses) (firstCands (a .p) (a .w .gone) g s (l .i)) (l .inv .2) (q .1 .1 .1),
+          tells-known (a .p) v (a .w .gone) (a .compact .now) (a .addresses .now) (l .addresses) (firstCands (a .p) (a .w .gone) g s (l .i)) (l .inv .2) (q .1 .1 .1),
         ),
       ),
     )
@@ -138,12 +139,12 @@ loop-again c =
     let v : View = viewOf (a .p) (a .image .now) (a .pointers .now) in
     let s = a .w .base + a .k in
     let g : Segment = segmentIn (a .p) (a .image .now) (a .pointers .now) (a .w) in
-    let hz = standing-low (a .p) (a .image .now) (a .pointers .now) (a .w) (a .at .now) (a .k) st in
+    let hz = standing-low (a .p) (a .image .now) (a .pointers .now) (a .w) (a .at .now) (a .k) (a .compact .now) st in
     let es = serial-there (a .p) v (a .w .gone) (a .w .seg) (getD (a .serials .now) (a .w .seg) 0) (q .1 .0 .1 (a .w .seg) hz) in
     let ec : ranked (cand-of .result) ≡ candOf (a .p) (a .w .gone) g s (dataDrive (a .p) s (l .i)) =
     cand-of .ensures (a .pointers .now) (st .index .reads) es ∙ ap (candOf (a .p) (a .w .gone) g s) (data-drive .ensures .0) in
     let t =
-    stripe-turn (a .p) v (a .w .gone) (a .w .seg) s (l .i) (a .addresses .now) (l .addresses) (offer .last .1 .1 .1 .0) (a .stamp .0) (l .most .0)
+    stripe-turn (a .p) v (a .w .gone) (a .compact .now) (a .w .seg) s (l .i) (a .addresses .now) (l .addresses) (offer .last .1 .1 .1 .0) (a .stamp .0) (l .most .0)
     (c .greater .result .0) (ranked (cand-of .result)) ec (l .inv .2) (l .inv .3) (offer .ensures) (c .greater .ensures) in
     (omega (arith, loop-test .taken), offer .kept .1 .1 .1 .0 ∙ l .inv .1, t .0, t .1)
 
@@ -158,8 +159,10 @@ returns c =
     let g : Segment = segmentIn (a .p) (a .image .now) (a .pointers .now) (a .w) in
     let s = a .w .base + a .k in
     let e : l .i ≡ dataCount (a .p) = omega (arith, c .loop-test .left, c .before .before .data-count .ensures .0, l .inv .0) in
-    let f : firstCands (a .p) (a .w .gone) g s (l .i) ≡ stripeCands (a .p) (a .w .gone) g s = ap (firstCands (a .p) (a .w .gone) g s) e ∙ first-all (a .p) (a .w .gone) g s in
-    (subst (λ (x : List Cand). Tells (a .p) v (a .w .gone) (a .addresses .now) (l .addresses) x) f (l .inv .2), l .inv .3 ∙ ap (λ (x : List Cand). max (a .stamp .0) (greatestStamp x)) f)
+    let f : firstCands (a .p) (a .w .gone) g s (l .i) ≡ stripeCands (a .p) (a .w .gone) g s = ap (firstCands (a .p) (a .w .gone) g s) e ∙ first-all (a .p) (a .w .gone) g s in (
+      subst (λ (x : List Cand). Tells (a .p) v (a .w .gone) (a .compact .now) (a .addresses .now) (l .addresses) x) f (l .inv .2),
+      l .inv .3 ∙ ap (λ (x : List Cand). max (a .stamp .0) (greatestStamp x)) f,
+    )
 
 pub load-stripe-spec : {M : Type 1} → statement M
 load-stripe-spec =

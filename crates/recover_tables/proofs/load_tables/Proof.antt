@@ -1,34 +1,28 @@
--- `load_tables`: the compact table is as said, the cleared address table is that of no record, and the tour of all segments tells the rest. Assumes nothing.
+-- `load_tables`: the cleared address table is that of no record, and the tour of all segments tells the rest, and the compact table with it. Assumes nothing.
 use borrow.Author.Needs.{needs}
-use mathlib.Core.Path.{_≡_, ap, _∙_}
-use mathlib.Core.List.{[]}
+use mathlib.Core.Path.{refl, ap, _∙_}
 use Prim.Native.Nat.{ℕ}
+use native.Mathlib.Omega.{arith}
 use lib.ListN.{replicate}
-use Rattle.spec.specs.Drives.{View, viewOf}
-use Rattle.spec.specs.Params.{addressesLen}
-use Rattle.recover_addresses.specs.Told.{nothing-told}
+use Rattle.spec.specs.Drives.{viewOf}
+use Rattle.law_basic.specs.Geometry.{ranged}
 use Rattle.recover_tables.specs.Walk.{toured-all}
 use Rattle.recover_tables.proofs.load_tables.Statement.{statement}
 use Rattle.recover_tables.proofs.load_tables.Tie as tie
 
-compacts-requires : tie.Need-compacts-requires
-compacts-requires c κs =
-    let q = c .before .before .before .before .before .before .before .pre in
-    (q .0, (q .1 .0, (q .1 .1 .0 .1, q .1 .1 .1 .1 .1)))
-
 clear-table-requires : tie.Need-clear-table-requires
 clear-table-requires c κs = search needs
 
+slice-aggregate-load-segments : tie.Need-slice-aggregate-load-segments
+slice-aggregate-load-segments c = omega arith
+
 load-segments-requires : tie.Need-load-segments-requires
 load-segments-requires c κs =
-    let a = c .before .before .before .before .before .before .before .before .before .before .before .before .before .before .before .before .args in
-    let q = c .before .before .before .before .before .before .before .before .before .before .before .before .before .before .before .before .pre in
-    let clear-table = c .before .before .before .before .clear-table in
-    let compacts = c .before .before .before .before .before .before .before .before .compacts in
-    let v : View = viewOf (a .p) (a .image .now) (a .pointers .now) in
-    let e : clear-table .last .0 ≡ replicate (addressesLen (a .p)) 255 = clear-table .ensures ∙ ap (λ (n : ℕ). replicate {A = ℕ} n 255) (q .1 .1 .0 .0) in (
-      record { in-range = q .0; whole = q .1 .0; clean = q .1 .1 .1 .0; compact = compacts .ensures },
-      (q .1 .1 .1 .1 .0, (q .1 .1 .1 .1 .1, ([], nothing-told (a .p) v (a .gone) (clear-table .last .0) e))),
+    let pre = c .before .before .before .before .before .before .before .before .before .before .before .before .before .pre in
+    let clear-table = c .before .before .before .before .before .clear-table in
+    let q = pre in (
+      record { in-range = q .0; whole = q .1 .0; clean = q .1 .1 .1 .0; compact-long = q .1 .1 .0 .1 },
+      (q .1 .1 .1 .1 .0, (q .1 .1 .1 .1 .1, (clear-table .ensures ∙ ap (λ (n : ℕ). replicate {A = ℕ} n 255) (q .1 .1 .0 .0), refl))),
     )
 
 same-length : tie.Need-same-length
@@ -39,22 +33,23 @@ same-length-2 c = search needs
 
 returns : tie.Need-returns
 returns c =
-    let a = c .before .before .before .before .before .before .before .before .before .before .before .before .before .before .before .before .before .before .before .args in
-    let q = c .before .before .before .before .before .before .before .before .before .before .before .before .before .before .before .before .before .before .before .pre in
-    let load-segments = c .before .before .load-segments in
-    let clear-table = c .before .before .before .before .before .before .before .clear-table in
-    let compacts = c .before .before .before .before .before .before .before .before .before .before .before .compacts in
-    let v : View = viewOf (a .p) (a .image .now) (a .pointers .now) in
-    let e : clear-table .last .0 ≡ replicate (addressesLen (a .p)) 255 = clear-table .ensures ∙ ap (λ (n : ℕ). replicate {A = ℕ} n 255) (q .1 .1 .0 .0) in
-    let t = toured-all (a .p) v (a .gone) (clear-table .last .0) (load-segments .last .1 .1 .1 .0) (load-segments .result .stamp .0) e (load-segments .ensures .0) in
-    (record { addresses = t .0; compact = compacts .ensures; most = t .1 }, load-segments .ensures .1)
+    let c1 = c .before .before .before .before .before .before .before .before .before .before .before .before .before .before .before .before in
+    let args = c1 .before .before .before .args in
+    let pre = c1 .before .before .before .pre in
+    let load-segments = c .before .before .before .before .before .load-segments in
+    let a = args in
+    let r = ranged (a .p) (pre .0) in
+    let x = load-segments in
+    let (t, u, m) = toured-all (a .p) (viewOf (a .p) (a .image .now) (a .pointers .now)) (a .gone) (x .last .1 .1 .1 .1 .0) (x .last .1 .1 .1 .0) (x .result .stamp .0)
+    (omega (arith, r .stripes-low)) (omega (arith, r .zones-low)) (x .ensures .0) in
+    (record { addresses = t; compact = u; most = m }, x .ensures .1)
 
 pub load-tables-spec : {M : Type 1} → statement M
 load-tables-spec =
     tie.close
     (tie.spec
-    compacts-requires
     clear-table-requires
+    slice-aggregate-load-segments
     load-segments-requires
     same-length
     same-length-2

@@ -1,4 +1,4 @@
--- `survey_groups`: the tally is of the stripes below base and, unless bad, no group there has a fault; one turn adds a group, at S all are in. Assumes nothing.
+-- `survey`: the tally is of the stripes below base and, unless bad, no group there has a fault; one turn adds a group, at S all are in. Assumes nothing.
 use mathlib.Core.Path.{_≡_, sym, _∙_, subst}
 use mathlib.Core.Bool.{false}
 use Prim.Native.Nat.{ℕ, _+_, _-_, _%_, min, _≤_, _<_}
@@ -11,8 +11,8 @@ use Rattle.law_basic.specs.Geometry.{ranged, base-next}
 use Rattle.recover_groups.specs.Groups.{groupLen, groupFault, recsFault, basesFrom}
 use Rattle.recover_survey.specs.Stripes.{Tallied, tallied-none, surveyed, group-next, groups-left, groups-start, groups-ended}
 use native.Mathlib.Nat.{zero-mod, zero-min}
-use Rattle.recover_survey.proofs.survey_groups.Statement.{statement}
-use Rattle.recover_survey.proofs.survey_groups.Tie as tie
+use Rattle.recover_survey.proofs.survey.Statement.{statement}
+use Rattle.recover_survey.proofs.survey.Tie as tie
 
 abbrev Inv-loop : tie.InvT-loop
 Inv-loop p image pointers gone seg full at₀ t₀ base₀ at t base =
@@ -122,8 +122,8 @@ returns c =
     surveyed p (a .gone) g (l .t) (subst (λ (x : ℕ). Tallied p (a .gone) g x (l .t)) m (l .inv .6))
     (groups-ended p (a .gone) g (l .base) (l .t .bad) (r .group-low) k (l .inv .5))
 
-pub survey-groups-spec : {M : Type 1} → statement M
-survey-groups-spec =
+pub survey-spec : {M : Type 1} → statement M
+survey-spec =
     tie.close
     (tie.spec
     Inv-loop
