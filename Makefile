@@ -1,7 +1,10 @@
-# make            the archive target/c/libsorgizhed.a (proves the crates that it is made of, and compiles them) and the example host target/c/box
+# make            the archive target/c/libsorgizhed.a (proves the crates that it is made of, and compiles them), the helper target/c/libsorgizhed_host.a,
+#                 the example host target/c/box and, where nbdkit's header is installed, the plugin target/c/sorgizhed.so
 # make demo       builds the archive and the example host and shows the engine at work
 # make test       all tests (the same as .ci/run)
-# make install    header, archive and pkg-config file under PREFIX (DESTDIR is put before it)
+# make install    headers, archives and pkg-config file under PREFIX (DESTDIR is put before it)
+# make uninstall  takes them away
+# make clean      removes what was made of C; make distclean the proofs too
 PREFIX ?= /usr/local
 DESTDIR ?=
 VERSION = $(shell sed -n 's/^\#define SORGIZHED_VERSION "\(.*\)"/\1/p' include/sorgizhed.h)
@@ -13,7 +16,16 @@ CFLAGS ?= -O2 -g
 STRICT = -std=c99 -Wall -Wextra -Wpedantic -Werror -Iinclude
 SANE = -fsanitize=address,undefined -fno-sanitize-recover=all
 
-all: $(OUT)/libsorgizhed.a $(OUT)/box
+HELPER = array run words files
+PROGRAM = main filing soak check
+HOST_HEADERS = $(wildcard host/*.h) include/sorgizhed.h include/sorgizhed_host.h
+ARCHIVES = $(OUT)/libsorgizhed_host.a $(OUT)/libsorgizhed.a
+SANE_ARCHIVES = $(OUT)/sane/libsorgizhed_host.a $(OUT)/libsorgizhed.a
+INSTALLED = include/sorgizhed.h include/sorgizhed_host.h lib/libsorgizhed.a lib/libsorgizhed_host.a lib/pkgconfig/sorgizhed.pc
+# the prefix as one word of the shell, and with a backslash before each blank as pkg-config reads it
+PLACE = "$(DESTDIR)$(PREFIX)"
+
+all: $(ARCHIVES) $(OUT)/box $(if $(wildcard /usr/include/nbdkit-plugin.h),$(OUT)/sorgizhed.so)
 
 kit:
 	@rt version >/dev/null 2>&1 || { echo "rt, the command of the Rattle kit, is not there: this text is proved and compiled with $$(cat kit.txt)" >&2; exit 1; }
@@ -26,18 +38,40 @@ $(OUT)/libsorgizhed.a: crates.txt $(shell find crates -type f -not -path '*/wron
 	test "$$(cat $(OUT)/status)" = 0 || { tail -40 $(OUT)/staticlib.log; exit 1; }
 	@cp target/staticlib/libapi_c.a $@
 
-# the example host
-$(OUT)/box: host/main.c host/run.c host/run.h host/array.c host/array.h include/sorgizhed.h $(OUT)/libsorgizhed.a
-	$(CC) $(CFLAGS) $(STRICT) host/main.c host/run.c host/array.c $(OUT)/libsorgizhed.a -o $@
+# the helper between calls and drives, and the example host over it
+$(OUT)/host/%.o: host/%.c $(HOST_HEADERS)
+	@mkdir -p $(OUT)/host
+	$(CC) $(CFLAGS) $(STRICT) -fPIC -c $< -o $@
 
-# tests/c/NAME.c with the archive, and the same with the sanitizers
-$(OUT)/%: tests/c/%.c include/sorgizhed.h $(OUT)/libsorgizhed.a
-	$(CC) $(CFLAGS) $(STRICT) $< $(OUT)/libsorgizhed.a -o $@
+$(OUT)/libsorgizhed_host.a: $(HELPER:%=$(OUT)/host/%.o)
+	$(AR) rcs $@ $^
 
-$(OUT)/%-sane: tests/c/%.c include/sorgizhed.h $(OUT)/libsorgizhed.a
-	$(CC) -O1 -g $(SANE) $(STRICT) $< $(OUT)/libsorgizhed.a -o $@
+$(OUT)/box: $(PROGRAM:%=$(OUT)/host/%.o) $(ARCHIVES)
+	$(CC) $(CFLAGS) $^ -o $@
 
-$(OUT)/order $(OUT)/order-sane: host/run.c host/run.h host/array.c host/array.h
+# the same with the sanitizers
+$(OUT)/sane/%.o: host/%.c $(HOST_HEADERS)
+	@mkdir -p $(OUT)/sane
+	$(CC) -O1 -g $(SANE) $(STRICT) -c $< -o $@
+
+$(OUT)/sane/libsorgizhed_host.a: $(HELPER:%=$(OUT)/sane/%.o)
+	$(AR) rcs $@ $^
+
+$(OUT)/box-sane: $(PROGRAM:%=$(OUT)/sane/%.o) $(SANE_ARCHIVES)
+	$(CC) $(SANE) $^ -o $@
+
+# an nbdkit plugin over it
+$(OUT)/sorgizhed.so: host/nbd.c $(HOST_HEADERS) $(ARCHIVES)
+	$(CC) $(CFLAGS) $(STRICT) -fPIC -shared $< $(ARCHIVES) -o $@
+
+# tests/c/NAME.c with the archives, and the same with the sanitizers
+$(OUT)/%: tests/c/%.c $(ARCHIVES)
+	$(CC) $(CFLAGS) $(STRICT) $< $(ARCHIVES) -o $@
+
+$(OUT)/%-sane: tests/c/%.c $(SANE_ARCHIVES)
+	$(CC) -O1 -g $(SANE) $(STRICT) $< $(SANE_ARCHIVES) -o $@
+
+$(OUT)/order $(OUT)/order-sane $(OUT)/helper $(OUT)/helper-sane $(OUT)/power $(OUT)/power-sane: tests/c/ram.h host/array.c host/files.c $(HOST_HEADERS)
 
 demo: $(OUT)/box
 	host/demo $(OUT)/box
@@ -45,10 +79,20 @@ demo: $(OUT)/box
 test:
 	.ci/run
 
-install: $(OUT)/libsorgizhed.a
-	install -d $(DESTDIR)$(PREFIX)/include $(DESTDIR)$(PREFIX)/lib/pkgconfig
-	install -m 644 include/sorgizhed.h $(DESTDIR)$(PREFIX)/include/sorgizhed.h
-	install -m 644 $(OUT)/libsorgizhed.a $(DESTDIR)$(PREFIX)/lib/libsorgizhed.a
-	sed -e 's|@PREFIX@|$(PREFIX)|' -e 's|@VERSION@|$(VERSION)|' sorgizhed.pc.in >$(DESTDIR)$(PREFIX)/lib/pkgconfig/sorgizhed.pc
+install: $(ARCHIVES)
+	install -d $(PLACE)/include $(PLACE)/lib/pkgconfig
+	install -m 644 include/sorgizhed.h include/sorgizhed_host.h $(PLACE)/include
+	install -m 644 $(ARCHIVES) $(PLACE)/lib
+	sed -e "s|@PREFIX@|$$(printf '%s' "$(PREFIX)" | sed -e 's/ /\\\\ /g')|" -e 's|@VERSION@|$(VERSION)|' sorgizhed.pc.in >$(PLACE)/lib/pkgconfig/sorgizhed.pc
 
-.PHONY: all demo test install kit
+uninstall:
+	for f in $(INSTALLED); do rm -f $(PLACE)/$$f; done
+
+clean:
+	rm -rf $(OUT)/host $(OUT)/sane $(OUT)/libsorgizhed_host.a $(OUT)/sorgizhed.so $(OUT)/box $(OUT)/box-sane
+	for f in tests/c/*.c; do p=$(OUT)/$$(basename "$$f" .c); rm -f "$$p" "$$p-sane"; done
+
+distclean:
+	rm -rf target
+
+.PHONY: all demo test install uninstall clean distclean kit

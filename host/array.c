@@ -1,405 +1,428 @@
-#define _XOPEN_SOURCE 700
-#include "array.h"
+/* The calls on an array, and their stores on its drives: the order and the flushes of sorgizhed.h's tables are here and nowhere else in the host. */
+#include "sorgizhed_host.h"
 
-#include <errno.h>
-#include <fcntl.h>
-#include <inttypes.h>
-#include <stdio.h>
 #include <stdlib.h>
 #include <string.h>
-#include <sys/stat.h>
-#include <time.h>
-#include <unistd.h>
 
-/* ---- numbers and places */
+#include "bytes.h"
+#include "flights.h"
+#include "layout.h"
 
-uint64_t number_at(const uint8_t *p, size_t width) {
-    uint64_t n = 0;
-    for (size_t i = 0; i < width; i++) n = n << 8 | p[i];
-    return n;
-}
+/* Which stores a flush goes before; a test takes them out one by one. */
+enum { HEADERS = 1, CHUNKS = 2, FOOTERS = 4, RESETS = 8, WORDS = 16 };
+#ifndef BARRIER
+#define BARRIER(why) ((why) != 0)
+#endif
 
-void put_number(uint8_t *p, size_t width, uint64_t n) {
-    for (size_t i = width; i-- > 0; n >>= 8) p[i] = (uint8_t)n;
-}
+static const size_t NEVER_LATE = SIZE_MAX, MANY = SIZE_MAX;
 
-size_t array_capacity(const array *a) { return a->box.image_length / (a->box.n * a->box.z * (a->box.b + 20)); }
+/* ---- places */
 
-static size_t unit(const array *a) { return a->box.b + 20; }
+size_t sorgizhed_array_capacity(const sorgizhed_array *a) { return a->box.image_length / (a->box.n * a->box.z * (a->box.b + SPARE)); }
 
 /* a block with its spare, in the image in memory */
-static uint8_t *unit_at(const array *a, size_t drive, size_t zone, size_t block) {
-    return a->box.image + ((drive * a->box.z + zone) * array_capacity(a) + block) * unit(a);
+static uint8_t *unit_at(const sorgizhed_array *a, size_t drive, size_t zone, size_t block) {
+    return a->box.image + ((drive * a->box.z + zone) * sorgizhed_array_capacity(a) + block) * (a->box.b + SPARE);
 }
 
-uint32_t array_pointer(const array *a, size_t drive, size_t zone) {
-    return (uint32_t)number_at(a->box.pointers + 4 * (drive * a->box.z + zone), 4);
+static size_t pointer_at(const sorgizhed_array *a, size_t drive, size_t zone) { return 4 * (drive * a->box.z + zone); }
+
+uint32_t sorgizhed_array_pointer(const sorgizhed_array *a, size_t drive, size_t zone) {
+    return (uint32_t)number_at(a->box.pointers + pointer_at(a, drive, zone), 4);
 }
 
-static uint32_t file_pointer(const array *a, size_t drive, size_t zone) {
-    return (uint32_t)number_at(a->on_file + 4 * (drive * a->box.z + zone), 4);
-}
+/* the write pointer as the drive has it: behind that of the image while a call's stores are carried out */
+static uint32_t on_drive(const sorgizhed_array *a, size_t drive, size_t zone) { return (uint32_t)number_at(a->on_drives + pointer_at(a, drive, zone), 4); }
 
-size_t array_empty_zones(const array *a) {
+size_t sorgizhed_array_empty_zones(const sorgizhed_array *a) {
     size_t n = 0;
     for (size_t z = 0; z < a->box.z; z++) {
         size_t d = 0;
-        while (d < a->box.n && array_pointer(a, d, z) == 0) d++;
+        while (d < a->box.n && sorgizhed_array_pointer(a, d, z) == 0) d++;
         n += d == a->box.n;
     }
     return n;
 }
 
-/* A drive's file: its write pointers, then from a page's begin on its part of the image. */
-static off_t image_offset(const array *a) { return (off_t)((4 * a->box.z + 4095) / 4096 * 4096); }
+/* ---- flushes, and what may be told behind them */
 
-static off_t drive_length(const array *a) { return image_offset(a) + (off_t)(a->box.image_length / a->box.n); }
+static int complete(const sorgizhed_array *a, const sorgizhed_flight *f) { return f->used && f->landed == all_drives(a); }
 
-/* ---- files */
-
-static int path(char *out, size_t room, const char *folder, const char *name) {
-    int n = snprintf(out, room, "%s/%s", folder, name);
-    if (n < 0 || (size_t)n >= room) { fprintf(stderr, "%s: the name is too long\n", folder); return 0; }
-    return 1;
+/* all stores are durable: the writes of complete stripes are acknowledged for good */
+static void all_durable(sorgizhed_array *a) {
+    a->ordered = a->completed = 0, a->late = NEVER_LATE;
+    for (size_t i = 0; i < SORGIZHED_FLIGHTS; i++) {
+        sorgizhed_flight *f = &a->flights[i];
+        if (!complete(a, f)) continue;
+        a->acknowledged += f->writes;
+        for (size_t k = 0; k < f->writes && a->told != NULL; k++) a->told(a->told_who, f->address[k], f->tag[k]);
+        f->used = 0;
+    }
 }
 
-static int drive_path(char *out, size_t room, const char *folder, size_t drive) {
-    char name[32];
-    snprintf(name, sizeof name, "drive%zu", drive);
-    return path(out, room, folder, name);
-}
-
-static int complain(const char *file) {
-    fprintf(stderr, "%s: %s\n", file, strerror(errno));
+static int fails(sorgizhed_array *a, size_t drive) {
+    a->over = 1, a->failed = drive;
     return 0;
 }
 
-/* the whole of a write; a drive that cannot be written ends the run */
-static void put_bytes(const array *a, size_t drive, const uint8_t *p, size_t n, off_t at) {
-    while (n > 0) {
-        ssize_t k = pwrite(a->drives[drive], p, n, at);
-        if (k < 0 && errno == EINTR) continue;
-        if (k <= 0) {
-            fprintf(stderr, "drive %zu cannot be written (%s); the run is over, what was acknowledged stands\n", drive, strerror(errno));
-            exit(3);
-        }
-        p += k, n -= (size_t)k, at += k;
-    }
-}
-
-static int get_bytes(int file, uint8_t *p, size_t n, off_t at) {
-    while (n > 0) {
-        ssize_t k = pread(file, p, n, at);
-        if (k < 0 && errno == EINTR) continue;
-        if (k <= 0) return 0;
-        p += k, n -= (size_t)k, at += k;
-    }
+static int flush_drive(sorgizhed_array *a, size_t drive) {
+    if (a->dirty[drive] == 0) return 1;
+    if (a->drives.flush(a->drives.who, drive) != 0) return fails(a, drive);
+    a->dirty[drive] = 0, a->flushes++;
     return 1;
 }
 
-/* a small file, complete or not there at all */
-static int write_file(const char *folder, const char *name, const char *text) {
-    char new[4096], old[4096], draft[64];
-    snprintf(draft, sizeof draft, "%s.new", name);
-    if (!path(new, sizeof new, folder, draft) || !path(old, sizeof old, folder, name)) return 0;
-    FILE *f = fopen(new, "w");
-    if (f == NULL) return complain(new);
-    int ok = fputs(text, f) >= 0;
-    ok = fclose(f) == 0 && ok;
-    if (!ok || rename(new, old) != 0) return complain(old);
+static int flush_all(sorgizhed_array *a) {
+    for (size_t d = 0; d < a->box.n; d++)
+        if (!flush_drive(a, d)) return 0;
+    all_durable(a);
     return 1;
 }
 
-/* ---- the stores of a call, one at a time: a block and its spare, then the pointer that covers them, in one write */
-
-static void rest(array *a) {
-    static time_t shown;
-    a->written++;
-    if (a->slow > 0) {
-        struct timespec t = {a->slow / 1000000, (long)(a->slow % 1000000) * 1000};
-        nanosleep(&t, NULL);
-    }
-    if (a->work != NULL && time(NULL) != shown) {
-        if (shown != 0) fprintf(stderr, "%s: %" PRIu64 " stores\n", a->work, a->written);
-        shown = time(NULL);
-    }
+/* what the host is told next is durable */
+static int before_words(sorgizhed_array *a) {
+    if (BARRIER(WORDS)) return flush_all(a);
+    all_durable(a);
+    return 1;
 }
 
-static void set_pointer(array *a, size_t drive, size_t zone, uint32_t n) {
-    size_t at = 4 * (drive * a->box.z + zone);
-    put_number(a->on_file + at, 4, n);
-    put_bytes(a, drive, a->on_file + at, 4, (off_t)(4 * zone));
-    rest(a);
+/* A store behind all before it: those in other zones are durable. In its own zone the drive keeps the order. */
+static int in_turn(sorgizhed_array *a, int why, size_t drive, size_t zone) {
+    int own = a->dirty[drive] == zone + 1;
+    for (size_t d = 0; BARRIER(why) && d < a->box.n; d++)
+        if (!(d == drive && own) && !flush_drive(a, d)) return 0;
+    if (BARRIER(why) && !own) all_durable(a);
+    a->ordered = 1;
+    return 1;
 }
 
-static void store_put(array *a, size_t drive, size_t zone) {
-    uint32_t block = file_pointer(a, drive, zone);
-    const uint8_t *p = unit_at(a, drive, zone, block);
-    put_bytes(a, drive, p, unit(a), image_offset(a) + (off_t)(p - unit_at(a, drive, 0, 0)));
-    set_pointer(a, drive, zone, block + 1);
+/* ---- stores */
+
+static void stored(sorgizhed_array *a, size_t drive, size_t zone, uint32_t pointer) {
+    put_number(a->on_drives + pointer_at(a, drive, zone), 4, pointer);
+    a->dirty[drive] = a->dirty[drive] == 0 || a->dirty[drive] == zone + 1 ? zone + 1 : MANY;
+    a->stores++, a->done += a->all > 0;
+    if (a->stored != NULL) a->stored(a->stored_who, a->work, a->done, a->all);
 }
 
-/* all blocks of a zone that the engine stored and the file does not have */
-static void store_puts(array *a, size_t drive, size_t zone) {
-    while (file_pointer(a, drive, zone) < array_pointer(a, drive, zone)) store_put(a, drive, zone);
+static int put(sorgizhed_array *a, size_t drive, size_t zone) {
+    uint32_t block = on_drive(a, drive, zone);
+    if (a->drives.put(a->drives.who, drive, zone, block, unit_at(a, drive, zone, block)) != 0) return fails(a, drive);
+    stored(a, drive, zone, block + 1);
+    return 1;
 }
 
-static void store_reset(array *a, size_t drive, size_t zone) {
-    if (file_pointer(a, drive, zone) != 0) set_pointer(a, drive, zone, 0);
+static int due(const sorgizhed_array *a, size_t drive, size_t zone) { return on_drive(a, drive, zone) < sorgizhed_array_pointer(a, drive, zone); }
+
+static int put_in_turn(sorgizhed_array *a, size_t drive, size_t zone) {
+    while (due(a, drive, zone))
+        if (!in_turn(a, on_drive(a, drive, zone) == 0 ? HEADERS : FOOTERS, drive, zone) || !put(a, drive, zone)) return 0;
+    return 1;
 }
 
-/* a write, a landing or a reclaim: headers, chunk, footers or resets, each by zone and drive */
-static void store_plain(array *a) {
+/* a zone that is empty stays as it is */
+static int reset(sorgizhed_array *a, size_t drive, size_t zone) {
+    if (on_drive(a, drive, zone) == 0) return 1;
+    if (a->drives.reset(a->drives.who, drive, zone) != 0) return fails(a, drive);
+    stored(a, drive, zone, 0);
+    return 1;
+}
+
+static int reset_in_turn(sorgizhed_array *a, size_t drive, size_t zone) {
+    return on_drive(a, drive, zone) == 0 || (in_turn(a, RESETS, drive, zone) && reset(a, drive, zone));
+}
+
+/* ---- the order of a call's stores, from the write pointers before and behind it */
+
+/* a write, a landing behind its chunk, a reclaim: headers, footers or resets, by drive */
+static int carry(sorgizhed_array *a) {
+    if (memcmp(a->on_drives, a->box.pointers, a->box.pointers_length) == 0) return 1;
     for (size_t z = 0; z < a->box.z; z++)
         for (size_t d = 0; d < a->box.n; d++) {
-            if (array_pointer(a, d, z) == 0) store_reset(a, d, z);
-            store_puts(a, d, z);
+            if (sorgizhed_array_pointer(a, d, z) == 0 && !reset_in_turn(a, d, z)) return 0;
+            if (!put_in_turn(a, d, z)) return 0;
         }
+    return 1;
 }
 
-/* 01, Restart, 1 and 2: a zone that is empty on some drive, or a copy of a segment that is still there */
-static void find_dropped(array *a) {
-    size_t n = a->box.n, z = a->box.z;
-    for (size_t i = 0; i < z; i++) {
+/* A landing: the chunk comes before any footer. It waits for the flush that its stripe's blocks wait for. */
+static int carry_landing(sorgizhed_array *a, size_t drive, size_t stripe) {
+    size_t zone = 0;
+    while (zone < a->box.z && !due(a, drive, zone)) zone++;
+    if (zone == a->box.z) return 1;
+    if (BARRIER(CHUNKS) && (a->ordered || stripe >= a->late) && !flush_all(a)) return 0;
+    return put(a, drive, zone);
+}
+
+/* 01, Restart, 1 and 2, on the drives that are present: a zone that is empty on one of them, or a copy of a segment that is still there */
+static void find_dropped(sorgizhed_array *a, size_t missing) {
+    size_t zones = a->box.z, lowest = missing == 0;
+    for (size_t z = 0; z < zones; z++) {
         size_t d = 0;
-        while (d < n && array_pointer(a, d, i) != 0) d++;
-        a->dropped[i] = d < n;
+        while (d < a->box.n && (d == missing || sorgizhed_array_pointer(a, d, z) != 0)) d++;
+        a->dropped[z] = d < a->box.n;
+        a->serials[z] = a->dropped[z] ? 0 : number_at(unit_at(a, lowest, z, 0) + SERIAL_AT, 8);
     }
-    for (size_t i = 0; i < z; i++) {
-        uint64_t copied = number_at(unit_at(a, 0, i, 0) + 33, 8);
-        if (a->dropped[i] == 1 || copied == 0) continue;
-        for (size_t k = 0; k < z; k++)
-            if (k != i && a->dropped[k] != 1 && number_at(unit_at(a, 0, k, 0) + 25, 8) == copied) a->dropped[i] = 2;
+    for (size_t z = 0; z < zones; z++) {
+        uint64_t copied = a->dropped[z] ? 0 : number_at(unit_at(a, lowest, z, 0) + COPIED_AT, 8);
+        for (size_t k = 0; k < zones && copied != 0; k++)
+            if (k != z && a->serials[k] == copied) a->dropped[z] = 1;
     }
 }
 
-/* a segment written anew: the headers, then stripe by stripe over the drives */
-static void store_rewritten(array *a, size_t zone) {
+/* how many stores take a zone from one pointer to the other, where it is written anew or not */
+static uint64_t stores_due(const sorgizhed_array *a, size_t drive, size_t zone, int anew) {
+    uint64_t had = on_drive(a, drive, zone), has = sorgizhed_array_pointer(a, drive, zone);
+    return anew || has < had ? (had > 0) + has : has - had;
+}
+
+/* A segment written anew: headers in turn; the chunks, stripe by stripe over the drives, in any order: until the old zones are reset, every restart drops
+ * this segment, whatever it holds. */
+static int carry_rewrite(sorgizhed_array *a, size_t zone) {
+    for (size_t d = 0; d < a->box.n; d++)
+        if (due(a, d, zone) && (!in_turn(a, HEADERS, d, zone) || !put(a, d, zone))) return 0;
+    if (BARRIER(CHUNKS) && !flush_all(a)) return 0;
     for (int more = 1; more;) {
         more = 0;
         for (size_t d = 0; d < a->box.n; d++)
-            if (file_pointer(a, d, zone) < array_pointer(a, d, zone)) store_put(a, d, zone), more = 1;
+            if (due(a, d, zone)) { if (!put(a, d, zone)) return 0; more = 1; }
     }
+    return 1;
 }
 
-/* a restart: resets of dropped segments; missing footers, or a rewrite and then the resets of the old zones */
-static void store_restart(array *a) {
+/* A restart: resets of dropped segments; footers, or a rewrite and then the resets of the old zones. */
+static int carry_restart(sorgizhed_array *a) {
     size_t n = a->box.n, zones = a->box.z;
     for (size_t z = 0; z < zones; z++)
+        for (size_t d = 0; d < n; d++) a->all += stores_due(a, d, z, a->dropped[z]);
+    for (size_t z = 0; z < zones; z++)
         for (size_t d = 0; d < n; d++)
-            if (a->dropped[z]) store_reset(a, d, z);
+            if (a->dropped[z] && !reset_in_turn(a, d, z)) return 0;
     for (size_t z = 0; z < zones; z++) {
-        if (a->dropped[z]) { store_rewritten(a, z); continue; }
-        for (size_t d = 0; d < n; d++) store_puts(a, d, z);
+        if (a->dropped[z] && !carry_rewrite(a, z)) return 0;
+        for (size_t d = 0; d < n; d++)
+            if (!put_in_turn(a, d, z)) return 0;
     }
     for (size_t z = 0; z < zones; z++)
         for (size_t d = 0; d < n; d++)
-            if (array_pointer(a, d, z) == 0) store_reset(a, d, z);
+            if (sorgizhed_array_pointer(a, d, z) == 0 && !reset_in_turn(a, d, z)) return 0;
+    memset(a->dropped, 0, zones);
+    return 1;
 }
 
-static void store_rebuild(array *a, size_t drive) {
-    for (size_t z = 0; z < a->box.z; z++) store_reset(a, drive, z);
-    for (size_t z = 0; z < a->box.z; z++) store_puts(a, drive, z);
+/* A rebuild: nobody looks at the drive before it is finished, so it needs no turns. */
+static int carry_rebuild(sorgizhed_array *a, size_t drive) {
+    for (size_t z = 0; z < a->box.z; z++) a->all += stores_due(a, drive, z, 1);
+    for (size_t z = 0; z < a->box.z; z++)
+        if (!reset(a, drive, z)) return 0;
+    for (size_t z = 0; z < a->box.z; z++)
+        while (due(a, drive, z))
+            if (!put(a, drive, z)) return 0;
+    return 1;
 }
+
+/* ---- stripes in flight */
+
+static sorgizhed_answer plain(uint64_t kind, uint64_t first) {
+    sorgizhed_answer r = {kind, first, 0, 0};
+    return r;
+}
+
+static sorgizhed_answer failed(const sorgizhed_array *a) { return plain(SORGIZHED_DRIVE_FAILED, a->failed); }
+
+static size_t ones(unsigned mask) {
+    size_t n = 0;
+    for (; mask; mask &= mask - 1) n++;
+    return n;
+}
+
+/* a stripe in flight, a new one if it has just begun */
+static sorgizhed_flight *flight_of(sorgizhed_array *a, size_t stripe) {
+    sorgizhed_flight *idle = NULL;
+    for (size_t i = 0; i < SORGIZHED_FLIGHTS; i++) {
+        sorgizhed_flight *f = &a->flights[i];
+        if (f->used && f->stripe == stripe && !complete(a, f)) return f;
+        if (!f->used && idle == NULL) idle = f;
+    }
+    if (idle == NULL) return before_words(a) ? flight_of(a, stripe) : NULL;
+    memset(idle, 0, sizeof *idle);
+    idle->used = 1, idle->stripe = stripe;
+    return idle;
+}
+
+/* Something was put into a stripe: behind a landing that completed another, it lands once that is durable. */
+static void touched(sorgizhed_array *a, size_t stripe) {
+    if (a->completed && stripe < a->late) a->late = stripe;
+}
+
+/* a block was sent or copied: its chunk waits, and with the last data chunk parity does */
+static sorgizhed_flight *chunk_sent(sorgizhed_array *a, sorgizhed_answer r) {
+    sorgizhed_flight *f = flight_of(a, (size_t)r.second);
+    if (f == NULL) return NULL;
+    f->sent |= 1u << r.third;
+    if (ones(f->sent) == a->box.n - 1) f->sent = all_drives(a);
+    touched(a, f->stripe);
+    return f;
+}
+
+static void chunk_landed(sorgizhed_array *a, size_t drive, size_t stripe) {
+    sorgizhed_flight *f = flight_of(a, stripe);
+    if (f == NULL) return;
+    f->landed |= 1u << drive;
+    a->completed |= complete(a, f);
+}
+
+static uint8_t *kept_block(const sorgizhed_array *a, const sorgizhed_flight *f, size_t k) { return a->blocks + ((size_t)(f - a->flights) * 7 + k) * a->box.b; }
 
 /* ---- the calls */
 
-static int done(sorgizhed_answer r) { return r.kind != SORGIZHED_REFUSED && r.kind != SORGIZHED_BAD_ZONE; }
+int sorgizhed_is_result(sorgizhed_answer r) { return r.kind > SORGIZHED_CUT && r.kind != SORGIZHED_DRIVE_FAILED && r.kind != SORGIZHED_NO_MEMORY; }
 
-sorgizhed_answer array_write(array *a, uint64_t address, const uint8_t *block) {
+sorgizhed_answer sorgizhed_array_write(sorgizhed_array *a, uint64_t address, const uint8_t *block, uint64_t tag) {
+    if (a->over) return failed(a);
     sorgizhed_answer r = sorgizhed_write(SORGIZHED_LENT(&a->box), address, block, a->box.b, SORGIZHED_NO_LIMIT);
-    if (done(r)) store_plain(a);
+    if (!sorgizhed_is_result(r)) return r;
+    if (!carry(a)) return failed(a);
+    sorgizhed_flight *f = chunk_sent(a, r);
+    if (f == NULL) return failed(a);
+    memcpy(kept_block(a, f, f->writes), block, a->box.b);
+    f->address[f->writes] = address, f->tag[f->writes++] = tag, a->writes++;
     return r;
 }
 
-sorgizhed_answer array_land(array *a, size_t drive, size_t stripe) {
+sorgizhed_answer sorgizhed_array_land(sorgizhed_array *a, size_t drive, size_t stripe) {
+    if (a->over) return failed(a);
     sorgizhed_answer r = sorgizhed_land(SORGIZHED_LENT(&a->box), drive, stripe, SORGIZHED_NO_LIMIT);
-    if (!done(r)) return r;
-    for (size_t z = 0; z < a->box.z; z++)
-        if (file_pointer(a, drive, z) < array_pointer(a, drive, z)) { store_put(a, drive, z); break; } /* the chunk comes before any footer */
-    store_plain(a);
+    if (!sorgizhed_is_result(r)) return r;
+    if (!carry_landing(a, drive, stripe)) return failed(a);
+    chunk_landed(a, drive, stripe);
+    return carry(a) ? r : failed(a);
+}
+
+sorgizhed_answer sorgizhed_array_close(sorgizhed_array *a) {
+    if (a->over) return failed(a);
+    sorgizhed_answer r = sorgizhed_close(SORGIZHED_LENT(&a->box));
+    if (!sorgizhed_is_result(r)) return r;
+    sorgizhed_flight *f = flight_of(a, (size_t)r.first);
+    if (f == NULL) return failed(a);
+    f->sent = all_drives(a);
+    touched(a, f->stripe);
     return r;
 }
 
-sorgizhed_answer array_closing(array *a) { return sorgizhed_close(SORGIZHED_LENT(&a->box)); }
-
-sorgizhed_answer array_reclaim(array *a) {
+sorgizhed_answer sorgizhed_array_reclaim(sorgizhed_array *a) {
+    if (a->over) return failed(a);
     sorgizhed_answer r = sorgizhed_reclaim(SORGIZHED_LENT(&a->box), SORGIZHED_NO_LIMIT);
-    if (done(r)) store_plain(a);
-    return r;
+    if (!sorgizhed_is_result(r)) return r;
+    if (!carry(a)) return failed(a);
+    if (r.kind == SORGIZHED_RESET) { a->resets++; return r; }
+    a->copied++;
+    return chunk_sent(a, r) != NULL ? r : failed(a);
 }
 
-sorgizhed_answer array_read(array *a, uint64_t address) { return sorgizhed_read(SORGIZHED_LENT(&a->box), address); }
+/* where a drive has failed, memory is ahead of the drives: it is not read any more */
+sorgizhed_answer sorgizhed_array_read(sorgizhed_array *a, uint64_t address) { return a->over ? failed(a) : sorgizhed_read(SORGIZHED_LENT(&a->box), address); }
 
-sorgizhed_answer array_fill(array *a, uint64_t address, uint8_t *block) {
-    return sorgizhed_fill(SORGIZHED_LENT(&a->box), address, block, a->box.b);
+sorgizhed_answer sorgizhed_array_fill(sorgizhed_array *a, uint64_t address, uint8_t *block) {
+    return a->over ? failed(a) : sorgizhed_fill(SORGIZHED_LENT(&a->box), address, block, a->box.b);
 }
 
-sorgizhed_answer array_restart(array *a, size_t missing) {
-    if (missing == SORGIZHED_NO_DRIVE) find_dropped(a);
+sorgizhed_answer sorgizhed_array_get(sorgizhed_array *a, uint64_t address, uint8_t *block) {
+    const sorgizhed_flight *newest = NULL;
+    size_t at = 0;
+    for (size_t i = 0; i < SORGIZHED_FLIGHTS; i++) {
+        const sorgizhed_flight *f = &a->flights[i];
+        for (size_t k = 0; f->used && k < f->writes; k++)
+            if (f->address[k] == address && (newest == NULL || f->stripe >= newest->stripe)) newest = f, at = k;
+    }
+    sorgizhed_answer filled = {SORGIZHED_FILLED, 0, 0, 0};
+    if (newest == NULL || a->over) return sorgizhed_array_fill(a, address, block);
+    memcpy(block, kept_block(a, newest, at), a->box.b);
+    return filled;
+}
+
+sorgizhed_answer sorgizhed_array_flush(sorgizhed_array *a) {
+    if (a->over || !before_words(a)) return failed(a);
+    return plain(SORGIZHED_DURABLE, a->acknowledged);
+}
+
+/* a long call has carried its stores, or not: it answers once they are durable */
+static sorgizhed_answer finished(sorgizhed_array *a, sorgizhed_answer r, int carried) {
+    int durable = carried && before_words(a);
+    a->work = NULL, a->done = a->all = 0;
+    return durable ? r : failed(a);
+}
+
+sorgizhed_answer sorgizhed_array_restart(sorgizhed_array *a, size_t missing) {
+    if (a->over || !before_words(a)) return failed(a);
+    find_dropped(a, missing);
     sorgizhed_answer r = sorgizhed_restart(SORGIZHED_LENT(&a->box), missing, SORGIZHED_NO_LIMIT);
-    if (done(r) && missing == SORGIZHED_NO_DRIVE) store_restart(a);
-    return r;
+    if (!sorgizhed_is_result(r)) return r;
+    memset(a->flights, 0, sizeof a->flights);
+    a->missing = missing, a->work = "restart";
+    return finished(a, r, missing != SORGIZHED_NO_DRIVE || carry_restart(a));
 }
 
-sorgizhed_answer array_rebuild(array *a, size_t drive) {
+sorgizhed_answer sorgizhed_array_rebuild(sorgizhed_array *a, size_t drive) {
+    if (a->over) return failed(a);
+    if (drive < a->box.n && a->drives.report(a->drives.who, drive, a->on_drives + pointer_at(a, drive, 0)) != 0) { fails(a, drive); return failed(a); }
     sorgizhed_answer r = sorgizhed_rebuild(SORGIZHED_LENT(&a->box), drive, SORGIZHED_NO_LIMIT);
-    if (done(r)) store_rebuild(a, drive);
-    return r;
+    if (!sorgizhed_is_result(r)) return r;
+    a->work = "rebuild";
+    return finished(a, r, carry_rebuild(a, drive));
 }
 
-/* ---- the folder */
+/* ---- opening */
 
-int array_create(const char *folder, const size_t v[6]) {
-    char name[4096], text[160];
-    array a = {0};
-    size_t image = sorgizhed_image_length(v[0], v[1], v[2], v[3], v[4], v[5]);
-    if (image == 0) {
-        fprintf(stderr, "a parameter is outside its range: drives 3 to 8, block a power of two from 64 to 4096, zones 4 to 1024, stripes 1 to 65535, group 1 to 256, "
-                        "addresses 1 to (zones - 3) * stripes * (drives - 1)\n");
-        return 0;
-    }
-    if (mkdir(folder, 0777) != 0) return complain(folder);
-    a.box.n = v[0], a.box.z = v[2], a.box.image_length = image;
-    for (size_t d = 0; d < v[0]; d++) {
-        if (!drive_path(name, sizeof name, folder, d)) return 0;
-        int file = open(name, O_RDWR | O_CREAT | O_EXCL, 0666);
-        if (file < 0 || ftruncate(file, drive_length(&a)) != 0 || close(file) != 0) return complain(name);
-    }
-    snprintf(text, sizeof text, "%zu %zu %zu %zu %zu %zu\n", v[0], v[1], v[2], v[3], v[4], v[5]);
-    return write_file(folder, "box", text);
-}
-
-/* the parameters' file, locked against a second process */
-static int read_parameters(array *a) {
-    char name[4096], text[160] = "", behind;
-    sorgizhed_box *x = &a->box;
-    struct flock all = {.l_type = F_WRLCK, .l_whence = SEEK_SET};
-    if (!path(name, sizeof name, a->folder, "box")) return 0;
-    a->lock = open(name, O_RDWR);
-    if (a->lock < 0) { fprintf(stderr, "%s is no array: %s: %s\n", a->folder, name, strerror(errno)); return 0; }
-    if (fcntl(a->lock, F_SETLK, &all) != 0) { fprintf(stderr, "%s is in use by another process\n", a->folder); return 0; }
-    ssize_t k = pread(a->lock, text, sizeof text - 1, 0);
-    if (k < 0) return complain(name);
-    if (sscanf(text, "%zu %zu %zu %zu %zu %zu %c", &x->n, &x->b, &x->z, &x->s, &x->g, &x->l, &behind) != 6
-        || (x->image_length = sorgizhed_image_length(x->n, x->b, x->z, x->s, x->g, x->l)) == 0) {
-        fprintf(stderr, "%s does not hold the six parameters of an array\n", name);
-        return 0;
-    }
-    return 1;
-}
-
-static int get_memory(array *a) {
-    sorgizhed_box *x = &a->box;
-    x->pointers_length = sorgizhed_pointers_length(x->n, x->b, x->z, x->s, x->g, x->l);
-    x->addresses_length = sorgizhed_addresses_length(x->n, x->b, x->z, x->s, x->g, x->l);
-    x->compact_length = sorgizhed_compact_length(x->n, x->b, x->z, x->s, x->g, x->l);
-    x->inflight_length = sorgizhed_inflight_length(x->n, x->b, x->z, x->s, x->g, x->l);
+/* every length of the box, from its parameters; 0 where one is outside its range */
+static int set_lengths(sorgizhed_box *x) {
+    x->image_length = sorgizhed_image_length(SORGIZHED_PARAMETERS(x));
+    x->pointers_length = sorgizhed_pointers_length(SORGIZHED_PARAMETERS(x));
+    x->addresses_length = sorgizhed_addresses_length(SORGIZHED_PARAMETERS(x));
+    x->compact_length = sorgizhed_compact_length(SORGIZHED_PARAMETERS(x));
+    x->inflight_length = sorgizhed_inflight_length(SORGIZHED_PARAMETERS(x));
     x->state_length = sorgizhed_state_length();
-    x->image = calloc(x->image_length, 1), x->pointers = calloc(x->pointers_length, 1), x->addresses = calloc(x->addresses_length, 1);
-    x->compact = calloc(x->compact_length, 1), x->inflight = calloc(x->inflight_length, 1), x->state = calloc(x->state_length, 1);
-    a->on_file = calloc(x->pointers_length, 1), a->dropped = calloc(x->z, 1);
-    if (!x->image || !x->pointers || !x->addresses || !x->compact || !x->inflight || !x->state || !a->on_file || !a->dropped) {
-        fprintf(stderr, "not enough memory: the array's image alone is %zu bytes\n", x->image_length);
-        return 0;
-    }
-    return 1;
+    return x->image_length != 0;
 }
 
-/* the drive that the file 'missing' names, if there is one */
-static int read_missing(array *a) {
-    char name[4096];
-    if (!path(name, sizeof name, a->folder, "missing")) return 0;
-    FILE *f = fopen(name, "r");
-    if (f == NULL && errno == ENOENT) return 1;
-    if (f == NULL) return complain(name);
-    int ok = fscanf(f, "%zu", &a->missing) == 1 && a->missing < a->box.n;
-    fclose(f);
-    if (!ok) fprintf(stderr, "%s does not name a drive\n", name);
-    return ok;
-}
-
-static int read_drive(array *a, size_t d) {
-    char name[4096];
-    struct stat s;
-    if (!drive_path(name, sizeof name, a->folder, d)) return 0;
-    a->drives[d] = open(name, O_RDWR);
-    if (a->drives[d] < 0) {
-        if (errno != ENOENT) return complain(name);
-        if (a->missing == SORGIZHED_NO_DRIVE) a->missing = d;
-        if (a->missing == d) return 1;
-        fprintf(stderr, "drives %zu and %zu are missing: one at most can be made up for\n", a->missing, d);
-        return 0;
-    }
-    if (a->missing == d) return 1;
-    if (fstat(a->drives[d], &s) != 0) return complain(name);
-    if (s.st_size != drive_length(a)) {
-        fprintf(stderr, "%s has %jd bytes and not %jd: it is no drive of this array (take it away, and 'replace %zu' makes it anew)\n", name, (intmax_t)s.st_size,
-                (intmax_t)drive_length(a), d);
-        return 0;
-    }
-    if (!get_bytes(a->drives[d], a->box.pointers + 4 * d * a->box.z, 4 * a->box.z, 0)) return complain(name);
-    if (!get_bytes(a->drives[d], unit_at(a, d, 0, 0), a->box.image_length / a->box.n, image_offset(a))) return complain(name);
-    return 1;
-}
-
-int array_open(array *a, const char *folder) {
-    memset(a, 0, sizeof *a);
-    a->folder = folder, a->lock = -1, a->missing = SORGIZHED_NO_DRIVE;
-    for (size_t d = 0; d < 8; d++) a->drives[d] = -1;
-    if (!read_parameters(a) || !get_memory(a) || !read_missing(a)) return 0;
-    for (size_t d = 0; d < a->box.n; d++)
-        if (!read_drive(a, d)) return 0;
-    memcpy(a->on_file, a->box.pointers, a->box.pointers_length);
-    return 1;
-}
-
-void array_close(array *a) {
+static int get_memory(sorgizhed_array *a) {
     sorgizhed_box *x = &a->box;
-    for (size_t d = 0; d < 8; d++)
-        if (a->drives[d] >= 0) close(a->drives[d]);
-    if (a->lock >= 0) close(a->lock);
-    free(x->image), free(x->pointers), free(x->addresses), free(x->compact), free(x->inflight), free(x->state), free(a->on_file), free(a->dropped);
+    a->owned = a->drives.image == NULL;
+    x->image = a->owned ? calloc(x->image_length, 1) : a->drives.image;
+    x->pointers = calloc(x->pointers_length, 1), x->addresses = calloc(x->addresses_length, 1), x->compact = calloc(x->compact_length, 1);
+    x->inflight = calloc(x->inflight_length, 1), x->state = calloc(x->state_length, 1);
+    a->on_drives = calloc(x->pointers_length, 1), a->dropped = calloc(x->z, 1), a->serials = calloc(x->z, sizeof *a->serials);
+    a->blocks = calloc(SORGIZHED_FLIGHTS * 7, x->b);
+    return x->image && x->pointers && x->addresses && x->compact && x->inflight && x->state && a->on_drives && a->dropped && a->serials && a->blocks;
 }
 
-/* The mark comes first: from then on nothing of the drive is looked at. */
-int array_lose(const char *folder, size_t drive) {
-    char name[4096], text[32];
-    snprintf(text, sizeof text, "%zu\n", drive);
-    if (!drive_path(name, sizeof name, folder, drive) || !write_file(folder, "missing", text)) return 0;
-    if (unlink(name) != 0 && errno != ENOENT) return complain(name);
+/* a drive's write pointers and, unless the image is given, what lies below them */
+static int read_drive(sorgizhed_array *a, size_t drive) {
+    if (a->drives.report(a->drives.who, drive, a->box.pointers + pointer_at(a, drive, 0)) != 0) return fails(a, drive);
+    for (size_t z = 0; a->owned && z < a->box.z; z++) {
+        size_t n = sorgizhed_array_pointer(a, drive, z), most = sorgizhed_array_capacity(a);
+        if (n > most) n = most; /* a restart will refuse it */
+        if (n > 0 && a->drives.read(a->drives.who, drive, z, 0, n, unit_at(a, drive, z, 0)) != 0) return fails(a, drive);
+    }
     return 1;
 }
 
-int array_blank(array *a, size_t drive) {
-    char name[4096], text[32];
-    snprintf(text, sizeof text, "%zu\n", drive);
-    if (!drive_path(name, sizeof name, a->folder, drive) || !write_file(a->folder, "missing", text)) return 0;
-    if (a->drives[drive] >= 0) close(a->drives[drive]);
-    a->drives[drive] = open(name, O_RDWR | O_CREAT | O_TRUNC, 0666);
-    if (a->drives[drive] < 0 || ftruncate(a->drives[drive], drive_length(a)) != 0) return complain(name);
-    memset(a->box.pointers + 4 * drive * a->box.z, 0, 4 * a->box.z);
-    memset(unit_at(a, drive, 0, 0), 0, a->box.image_length / a->box.n);
-    memcpy(a->on_file, a->box.pointers, a->box.pointers_length);
-    return 1;
+sorgizhed_answer sorgizhed_array_open(sorgizhed_array *a, const sorgizhed_box *parameters, const sorgizhed_drives *drives, size_t missing) {
+    memset(a, 0, sizeof *a);
+    a->box = *parameters, a->drives = *drives, a->missing = missing, a->late = NEVER_LATE;
+    a->box.image = a->box.pointers = a->box.addresses = a->box.compact = a->box.inflight = a->box.state = NULL;
+    if (!set_lengths(&a->box)) return plain(SORGIZHED_REFUSED, SORGIZHED_BAD_PARAMETER);
+    if (!get_memory(a)) return plain(SORGIZHED_NO_MEMORY, a->box.image_length);
+    for (size_t d = 0; d < a->box.n; d++)
+        if (d != missing && !read_drive(a, d)) return failed(a);
+    memcpy(a->on_drives, a->box.pointers, a->box.pointers_length);
+    return plain(SORGIZHED_OPENED, 0);
 }
 
-int array_whole(array *a) {
-    char name[4096];
-    if (!path(name, sizeof name, a->folder, "missing")) return 0;
-    if (unlink(name) != 0 && errno != ENOENT) return complain(name);
-    a->missing = SORGIZHED_NO_DRIVE;
-    return 1;
-}
-
-/* ---- words */
-
-void say_refusal(const char *what, sorgizhed_answer r) {
-    static const char *const words[] = {
-        "an unknown answer", "a number is outside its range", "a buffer has the wrong length", "a drive is missing, so the array is read-only: replace it first",
-        "the address is too high", "there is nothing of that kind to do", "no stamp or serial is left: the array has been written 2^64 times",
-        "stripes in flight must land first", "no zone is left: reclaim first"};
-    if (r.kind == SORGIZHED_BAD_ZONE) fprintf(stderr, "%s refused (9): the drives or tables are damaged in zone %" PRIu64 "\n", what, r.second);
-    else if (r.kind == SORGIZHED_REFUSED && r.first < sizeof words / sizeof *words) fprintf(stderr, "%s refused (%" PRIu64 "): %s\n", what, r.first, words[r.first]);
-    else fprintf(stderr, "%s: unexpected answer %" PRIu64 "\n", what, r.kind);
+void sorgizhed_array_shut(sorgizhed_array *a) {
+    sorgizhed_box *x = &a->box;
+    if (a->owned) free(x->image);
+    free(x->pointers), free(x->addresses), free(x->compact), free(x->inflight), free(x->state);
+    free(a->on_drives), free(a->dropped), free(a->serials), free(a->blocks);
+    memset(a, 0, sizeof *a);
 }

@@ -97,6 +97,35 @@ size_t sorgizhed_state_length(void);
  * does not play power cuts. A store puts one block with its spare at a zone's write pointer and raises the pointer by 1, or sets a pointer to 0.
  * If more are due than count, the call makes just that many and answers SORGIZHED_CUT. */
 
+/* ---- The order of a call's stores: a host carries them to the drives in this order (sorgizhed_host.h has functions that do).
+ *
+ *   write     where it opens a segment: the header of each drive, by drive
+ *   land      the chunk; where it completes the segment: the footers, by drive, then by block
+ *   close     none
+ *   reclaim   a copy that opens a segment: as in a write; a segment that is freed: the reset of each drive's zone, by drive
+ *   read, fill  none
+ *   restart   with a drive missing none. Else
+ *               1  the resets of dropped segments, by segment, then by drive (a zone that is empty already may be passed over);
+ *               2  where all stripes of the unsealed segment count: the footers that are missing, by drive, then by block;
+ *                  or, where it is written anew into another zone: its headers by drive; its chunks, stripe by stripe, each by drive;
+ *                  then the resets of the old zones, by drive
+ *   rebuild   the reset of each zone of the drive, by zone; then by segment: its header, its chunks by rising stripe, its footers
+ *
+ * A drive may hold stores in a volatile cache until it is flushed. It is taken to keep the order within a zone: of what was not flushed, zone by zone, a
+ * first part outlives a power cut. So a host flushes, and waits for the flush:
+ *
+ *   before a header, a footer or a reset   every drive with an earlier store in another zone (so headers, footers and resets of one call come one drive
+ *                                          after the other)
+ *   before a chunk                         every drive, where a header, footer or reset is not durable yet, or where something was put into the chunk's
+ *                                          stripe (a write, copy or closing) after a landing completed another stripe that is not durable yet
+ *   before the chunks of a rewrite         every drive: then its headers are durable; between these chunks nothing
+ *   in a rebuild                           nothing; nobody looks at the drive before it is finished
+ *   before a word to anyone                every drive: before a client is told that a write is acknowledged, before a finished restart is used, and
+ *                                          before a finished rebuild ends the drive's being missing
+ *
+ * With these flushes every state of the drives that can outlive a power cut is one that some list of calls, cut between stores, leaves: chunks that wait
+ * for no flush belong to stripes that were in flight together, and those may land in any order. docs/DECISIONS.md has the reason for each. */
+
 /* Takes the block of b bytes for an address below l. It goes into the in-flight buffer; it is on the drives once its stripe's chunks have
  * landed. Where no segment is open, headers are stored first in the lowest zone that is empty on all drives, one store for each drive.
  * Answers SORGIZHED_SENT with the block's stamp and the stripe and drive that it goes to, SORGIZHED_CUT, or a refusal: 1, 2, 3, 4, 6, 7, 8, 9. */

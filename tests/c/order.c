@@ -1,25 +1,18 @@
-/* The host's files see the engine's stores one at a time and in its order: for random calls on small arrays, the states that the files go through are
- * those that the engine leaves under the store counts 0, 1, 2, .. (an empty zone's reset shows nothing, so equal neighbours count once). */
-#define _XOPEN_SOURCE 700
-#include <fcntl.h>
-#include <stdio.h>
-#include <stdlib.h>
-#include <string.h>
-#include <sys/stat.h>
-#include <unistd.h>
+/* The drives see the engine's stores one at a time and in its order: for random calls on small arrays, the states that the drives go through are those that
+ * the engine leaves under the store counts 0, 1, 2, .. (an empty zone's reset shows nothing, so equal neighbours count once). */
+#include "ram.h"
 
-static ssize_t traced_write(int file, const void *p, size_t n, off_t at);
-#define pwrite traced_write
-#include "../../host/array.c"
-#include "../../host/run.c"
-#undef pwrite
-
-enum { MOST = 4096, LONGEST = 64 * 1024 };
-static array box;
-static uint64_t states[MOST], made[MOST];
+enum { MOST = 4096 };
+static ram drives;
+static sorgizhed_array box;
+static uint64_t states[MOST], made[MOST], seed;
 static size_t seen;
-static uint8_t files[LONGEST], pointers[8 * 16 * 4];   /* what the files hold */
-static int passed, failed;
+static int passed, failed, several[5]; /* calls of each kind that went through more than two states */
+
+static uint64_t chance(uint64_t below) {
+    seed = seed * UINT64_C(6364136223846793005) + UINT64_C(1442695040888963407);
+    return (seed >> 33) % below;
+}
 
 static uint64_t mix(uint64_t h, const uint8_t *p, size_t n) {
     for (size_t i = 0; i < n; i++) h = (h ^ p[i]) * UINT64_C(0x100000001b3);
@@ -27,26 +20,20 @@ static uint64_t mix(uint64_t h, const uint8_t *p, size_t n) {
 }
 
 /* a hash of all that lies below the pointers */
-static uint64_t below(const uint8_t *image, const uint8_t *ptrs) {
-    size_t c = array_capacity(&box), u = box.box.b + 20;
-    uint64_t h = mix(UINT64_C(0xcbf29ce484222325), ptrs, box.box.pointers_length);
-    for (size_t i = 0; i < box.box.n * box.box.z; i++) {
-        size_t n = (size_t)number_at(ptrs + 4 * i, 4);
-        h = mix(h, image + i * c * u, (n < c ? n : c) * u);
+static uint64_t below(const uint8_t *image, const uint8_t *pointers) {
+    uint64_t h = UINT64_C(0xcbf29ce484222325);
+    for (size_t i = 0; i < drives.n * drives.z; i++) {
+        size_t n = (size_t)pointers[4 * i] << 24 | (size_t)pointers[4 * i + 1] << 16 | (size_t)pointers[4 * i + 2] << 8 | pointers[4 * i + 3];
+        h = mix(mix(h, pointers + 4 * i, 4), image + i * drives.c * drives.unit, (n < drives.c ? n : drives.c) * drives.unit);
     }
     return h;
 }
 
-/* a write to a drive's file: in the tests a drive's number is that of its file here */
-static ssize_t traced_write(int file, const void *p, size_t n, off_t at) {
-    size_t d = 0;
-    while (d < box.box.n && box.drives[d] != file) d++;
-    if (at < (off_t)(4 * box.box.z)) {
-        if (n != 4) { failed++; printf("a pointer in a write of %zu bytes\n", n); }
-        memcpy(pointers + 4 * d * box.box.z + at, p, n);
-        if (seen < MOST) states[seen++] = below(files, pointers);
-    } else memcpy(files + d * (box.box.image_length / box.box.n) + (at - image_offset(&box)), p, n);
-    return pwrite(file, p, n, at);
+/* behind each store of the drives */
+static void shown(void) {
+    uint8_t pointers[8 * 16 * 4];
+    for (size_t d = 0; d < drives.n; d++) ram_report(&drives, d, pointers + 4 * d * drives.z);
+    if (seen < MOST) states[seen++] = below(drives.now, pointers);
 }
 
 enum { WRITE, LAND, RECLAIM, RESTART, REBUILD };
@@ -61,11 +48,7 @@ static sorgizhed_answer engine(sorgizhed_box *x, int call, size_t p, size_t q, c
     }
 }
 
-static uint8_t *copy(const uint8_t *p, size_t n) {
-    uint8_t *q = malloc(n);
-    if (q == NULL) exit(2);
-    return memcpy(q, p, n);
-}
+static uint8_t *copy(const uint8_t *p, size_t n) { return memcpy(ram_memory(n), p, n); }
 
 static size_t without_repeats(uint64_t *s, size_t n) {
     size_t k = 0;
@@ -88,51 +71,63 @@ static size_t engine_states(int call, size_t p, size_t q, const uint8_t *block) 
     return without_repeats(made, n);
 }
 
-/* one call of the host, held against the engine's states */
+/* one call of the array, held against the engine's states */
 static sorgizhed_answer check(int call, size_t p, size_t q, const uint8_t *block) {
     size_t n = engine_states(call, p, q, block);
-    memcpy(files, box.box.image, box.box.image_length), memcpy(pointers, box.on_file, box.box.pointers_length);
-    seen = 0, states[seen++] = below(files, pointers);
-    sorgizhed_answer r = call == WRITE ? array_write(&box, p, block) : call == LAND ? array_land(&box, p, q) : call == RECLAIM ? array_reclaim(&box)
-                       : call == RESTART ? array_restart(&box, p) : array_rebuild(&box, p);
+    seen = 0, shown();
+    sorgizhed_answer r = call == WRITE ? sorgizhed_array_write(&box, p, block, 0) : call == LAND ? sorgizhed_array_land(&box, p, q)
+                       : call == RECLAIM ? sorgizhed_array_reclaim(&box) : call == RESTART ? sorgizhed_array_restart(&box, p) : sorgizhed_array_rebuild(&box, p);
     size_t k = without_repeats(states, seen);
+    several[call] += n > 2;
     if (k == n && memcmp(states, made, n * sizeof *made) == 0) passed++;
-    else { failed++; printf("call %d: the files went through %zu states, the engine through %zu\n", call, k, n); }
+    else { failed++; printf("call %d: the drives went through %zu states, the engine through %zu\n", call, k, n); }
     return r;
 }
 
-/* a history: writes, landings in any order, reclaims, power cuts, a lost drive */
-static void history(const char *folder, const size_t v[6], uint64_t seed, int calls) {
-    static uint8_t block[4096];
-    run r;
-    char name[4096];
-    if (!array_create(folder, v) || !array_open(&box, folder)) exit(2);
-    run_begin(&r, &box, seed);
+/* a chunk to land: mostly one that waits */
+static void choose(const sorgizhed_box *v, size_t *drive, size_t *stripe) {
+    *drive = (size_t)chance(v->n), *stripe = (size_t)chance(v->s);
+    for (size_t i = 0; i < SORGIZHED_FLIGHTS && chance(8); i++) {
+        const sorgizhed_flight *f = &box.flights[chance(SORGIZHED_FLIGHTS)];
+        if (f->used && (f->sent & ~f->landed) >> *drive & 1) { *stripe = f->stripe; return; }
+    }
+}
+
+/* a history: writes, landings in any order, reclaims, restarts in the middle, a lost drive */
+static void history(const sorgizhed_box *v, int calls) {
+    uint8_t block[4096];
+    ram_make(&drives, v);
+    sorgizhed_drives d = ram_drives(&drives);
+    if (sorgizhed_array_open(&box, v, &d, SORGIZHED_NO_DRIVE).kind != SORGIZHED_OPENED) exit(2);
+    drives.shown = shown;
     check(RESTART, SORGIZHED_NO_DRIVE, 0, NULL);
     for (int i = 0; i < calls; i++) {
-        uint64_t k = run_random(&r, 40);
-        for (size_t j = 0; j < v[1]; j++) block[j] = (uint8_t)run_random(&r, 256);
-        if (k < 14) check(WRITE, (size_t)run_random(&r, v[5]), 0, block);
-        else if (k < 32) check(LAND, (size_t)run_random(&r, v[0]), (size_t)run_random(&r, v[3]), NULL);
-        else if (k < 34) array_closing(&box);
-        else if (k < 38) check(RECLAIM, 0, 0, NULL);
-        else if (k < 39) check(RESTART, SORGIZHED_NO_DRIVE, 0, NULL);
+        uint64_t k = chance(80);
+        size_t drive, stripe;
+        choose(v, &drive, &stripe);
+        for (size_t j = 0; j < v->b; j++) block[j] = (uint8_t)chance(256);
+        if (k < 24) check(WRITE, (size_t)chance(v->l), 0, block);
+        else if (k < 66) check(LAND, drive, stripe, NULL);
+        else if (k < 70) sorgizhed_array_close(&box);
+        else if (k < 78) check(RECLAIM, 0, 0, NULL);
+        else if (k < 79) check(RESTART, SORGIZHED_NO_DRIVE, 0, NULL);
         else {
-            size_t d = (size_t)run_random(&r, v[0]);
-            array_restart(&box, d);
-            check(REBUILD, d, 0, NULL);
+            size_t lost = (size_t)chance(v->n);
+            check(RESTART, lost, 0, NULL);
+            check(REBUILD, lost, 0, NULL);
             check(RESTART, SORGIZHED_NO_DRIVE, 0, NULL);
         }
     }
-    array_close(&box);
-    for (size_t d = 0; d < v[0]; d++) drive_path(name, sizeof name, folder, d), unlink(name);
-    path(name, sizeof name, folder, "box"), unlink(name), rmdir(folder);
+    sorgizhed_array_shut(&box);
+    ram_free(&drives);
 }
 
-int main(int n, char **words) {
-    static const size_t shapes[4][6] = {{3, 64, 4, 4, 2, 8}, {4, 64, 5, 3, 1, 12}, {3, 64, 6, 7, 4, 30}, {5, 128, 4, 2, 256, 8}};
-    if (n != 2) { fprintf(stderr, "usage: order FOLDER (which must not be there)\n"); return 2; }
-    for (uint64_t seed = 1; seed <= 24; seed++) history(words[1], shapes[seed % 4], seed, 400);
+int main(void) {
+    static const sorgizhed_box shapes[4] = {{.n = 3, .b = 64, .z = 4, .s = 4, .g = 2, .l = 8}, {.n = 4, .b = 64, .z = 5, .s = 3, .g = 1, .l = 12},
+                                            {.n = 3, .b = 64, .z = 6, .s = 7, .g = 4, .l = 30}, {.n = 5, .b = 128, .z = 4, .s = 2, .g = 256, .l = 8}};
+    for (uint64_t k = 1; k <= 60; k++) seed = 2 * k + 1, history(&shapes[k % 4], 800);
+    printf("calls with several stores: %d writes, %d landings, %d reclaims, %d restarts, %d rebuilds\n", several[0], several[1], several[2], several[3], several[4]);
+    for (int i = 0; i < 5; i++) failed += several[i] < 20;
     printf("%d passed, %d failed\n", passed, failed);
     return failed != 0;
 }

@@ -1,0 +1,116 @@
+/* The helper by itself: its words, parameters that are refused, drives whose functions fail, reads of what is in flight, and who is told what. */
+#include "ram.h"
+
+static int passed, failed;
+
+static void expect(int ok, const char *what) {
+    if (ok) passed++;
+    else { failed++; printf("not so: %s\n", what); }
+}
+
+static const sorgizhed_box shape = {.n = 4, .b = 64, .z = 5, .s = 6, .g = 3, .l = 30};
+
+/* ---- words */
+
+static void words(void) {
+    char text[300], cut[300];
+    for (uint64_t kind = 0; kind < 110; kind++) {
+        sorgizhed_answer r = {kind, kind == SORGIZHED_REFUSED ? 5 : UINT64_MAX, 1, 2};
+        expect(sorgizhed_words(r, text, sizeof text) == text && strlen(text) > 4 && strchr(text, '%') == NULL, "an answer has words");
+        for (size_t room = 1; room < 60; room++) {
+            sorgizhed_words(r, cut, room);
+            expect(strlen(cut) < room && strncmp(cut, text, strlen(cut)) == 0, "as many as find room");
+        }
+    }
+    sorgizhed_answer sent = {SORGIZHED_SENT, 18, 2, 1}, bad = {SORGIZHED_BAD_ZONE, 9, 3, 0}, odd = {SORGIZHED_REFUSED, UINT64_MAX, 0, 0};
+    expect(strcmp(sorgizhed_words(sent, text, sizeof text), "sent with stamp 18 in stripe 2 on drive 1") == 0, "sent");
+    expect(strcmp(sorgizhed_words(bad, text, sizeof text), "refused (9): the drives or tables are damaged in zone 3") == 0, "damaged");
+    expect(strcmp(sorgizhed_words(odd, text, sizeof text), "refused by an unknown number") == 0 && *sorgizhed_words(odd, text, 0) == 0, "odd");
+}
+
+/* ---- drives that fail */
+
+static ram memory;
+static size_t bad_drive; /* none of its functions works */
+static uint64_t calls;
+
+static int at(size_t drive) { return calls++, drive == bad_drive ? -1 : 0; }
+static int bad_report(void *who, size_t drive, uint8_t *p) { return at(drive) ? -1 : ram_report(who, drive, p); }
+static int bad_read(void *who, size_t drive, size_t zone, size_t block, size_t n, uint8_t *p) { return at(drive) ? -1 : ram_read(who, drive, zone, block, n, p); }
+static int bad_put(void *who, size_t drive, size_t zone, size_t block, const uint8_t *p) { return at(drive) ? -1 : ram_put(who, drive, zone, block, p); }
+static int bad_reset(void *who, size_t drive, size_t zone) { return at(drive) ? -1 : ram_reset(who, drive, zone); }
+static int bad_flush(void *who, size_t drive) { return at(drive) ? -1 : ram_flush(who, drive); }
+
+static int fails(sorgizhed_answer r) { return r.kind == SORGIZHED_DRIVE_FAILED && r.first == bad_drive; }
+
+static void failing(void) {
+    const sorgizhed_drives good = {&memory, NULL, bad_report, bad_read, bad_put, bad_reset, bad_flush};
+    uint8_t block[64] = {0};
+    sorgizhed_array a;
+    for (size_t drive = 0; drive < shape.n; drive++) {
+        ram_make(&memory, &shape);
+        bad_drive = drive;
+        expect(fails(sorgizhed_array_open(&a, &shape, &good, SORGIZHED_NO_DRIVE)), "a drive that reports nothing");
+        sorgizhed_array_shut(&a);
+        expect(sorgizhed_array_open(&a, &shape, &good, drive).kind == SORGIZHED_OPENED, "a missing drive is not asked");
+        sorgizhed_array_shut(&a);
+        bad_drive = SORGIZHED_NO_DRIVE;
+        expect(sorgizhed_array_open(&a, &shape, &good, SORGIZHED_NO_DRIVE).kind == SORGIZHED_OPENED, "open");
+        expect(sorgizhed_array_restart(&a, SORGIZHED_NO_DRIVE).kind == SORGIZHED_RESTARTED, "restart");
+        bad_drive = drive;
+        sorgizhed_answer r = sorgizhed_array_send(&a, 0, block, 0);
+        expect(fails(r), "a put that fails");
+        uint64_t before = calls;
+        expect(fails(sorgizhed_array_settle(&a)) && fails(sorgizhed_array_restart(&a, drive)) && fails(sorgizhed_array_get(&a, 0, block)), "the run is over");
+        expect(fails(sorgizhed_array_reclaim(&a)) && fails(sorgizhed_array_close(&a)) && fails(sorgizhed_array_rebuild(&a, drive)) && fails(sorgizhed_array_flush(&a)), "for every call");
+        expect(calls == before, "and no drive hears of it");
+        sorgizhed_array_shut(&a);
+        ram_free(&memory);
+    }
+    bad_drive = SORGIZHED_NO_DRIVE;
+}
+
+/* ---- a run */
+
+static uint64_t told[64], flushed_when_told;
+
+static void note(void *who, uint64_t address, uint64_t tag) {
+    const sorgizhed_array *a = who;
+    told[tag]++;
+    flushed_when_told += memory.logged == 0 && a->box.l > address;
+}
+
+static void run(void) {
+    uint8_t block[64] = {0}, back[64];
+    sorgizhed_array a;
+    ram_make(&memory, &shape);
+    sorgizhed_drives d = ram_drives(&memory);
+    sorgizhed_box wrong = shape;
+    wrong.l = 1000;
+    expect(sorgizhed_array_open(&a, &wrong, &d, SORGIZHED_NO_DRIVE).first == SORGIZHED_BAD_PARAMETER, "a parameter out of range");
+    sorgizhed_array_shut(&a);
+    expect(sorgizhed_array_open(&a, &shape, &d, SORGIZHED_NO_DRIVE).kind == SORGIZHED_OPENED && sorgizhed_array_restart(&a, SORGIZHED_NO_DRIVE).kind == SORGIZHED_RESTARTED, "open");
+    a.told = note, a.told_who = &a;
+    for (uint64_t i = 0; i < 60; i++) {
+        block[0] = (uint8_t)i;
+        expect(sorgizhed_array_send(&a, i % 7, block, i).kind == SORGIZHED_SENT, "send");
+        expect(sorgizhed_array_get(&a, i % 7, back).kind == SORGIZHED_FILLED && back[0] == (uint8_t)i, "the newest, landed or not");
+        if (sorgizhed_array_waiting(&a) > 3) sorgizhed_array_land_one(&a, sorgizhed_array_waiting(&a) - 1);
+    }
+    expect(sorgizhed_array_get(&a, 8, back).kind == SORGIZHED_FILLED && back[0] == 0 && sorgizhed_array_get(&a, 30, back).kind == SORGIZHED_REFUSED, "never written, too high");
+    sorgizhed_answer r = sorgizhed_array_settle(&a);
+    expect(r.kind == SORGIZHED_DURABLE && r.first == 60 && a.acknowledged == 60 && flushed_when_told == 60, "all acknowledged, and durable when told");
+    for (uint64_t i = 0; i < 60; i++) expect(told[i] == 1, "each once");
+    expect(a.flushes < 40 * shape.n, "few flushes");
+    expect(sorgizhed_array_restart(&a, 2).kind == SORGIZHED_RESTARTED && sorgizhed_array_send(&a, 0, block, 0).first == SORGIZHED_READ_ONLY, "read-only with a drive missing");
+    sorgizhed_array_shut(&a);
+    ram_free(&memory);
+}
+
+int main(void) {
+    words();
+    failing();
+    run();
+    printf("%d passed, %d failed\n", passed, failed);
+    return failed != 0;
+}
