@@ -366,7 +366,9 @@ fn see_zone(
     requires { ⌜ Whole p (mkDisk (now image) (now pointers)) ⌝ }
     requires { ⌜ (length (now addresses) ≡ addressesLen p) × (drive < p .N) × (g < p .Z) × (seen .live ≤ 65535 * drive) × (length (now bytes) ≡ stateLen) ⌝ }
     ensures { λ r. ⌜ r .live ≤ 65535 * (drive + 1) ⌝ }
-    ensures { λ r. ⌜ Sees p (viewOf p (now (image .entry)) (now (pointers .entry))) (stateOf (now (bytes .entry))) (now (addresses .entry)) g (placeOf p drive g 1) (placeOf p drive g 1 + p .S) seen r ⌝ }
+    ensures { λ r. ⌜
+        Sees p (viewOf p (now (image .entry)) (now (pointers .entry))) (stateOf (now (bytes .entry))) (now (addresses .entry)) g (placeOf p drive g 1)
+        (placeOf p drive g 1 + p .S) seen r ⌝ }
 {
     let at = disk_shape::place_of(p, drive, g, 1).0 as usize;
     let mut found = seen;

@@ -109,7 +109,11 @@ fn exam_segment(
     requires { ⌜ Whole p (mkDisk (now image) (now pointers)) ⌝ }
     requires { ⌜ Keeps p (viewOf p (now image) (now pointers)) gone (now kept) ⌝ }
     requires { ⌜ Serials p (viewOf p (now image) (now pointers)) gone (now serials) ⌝ }
-    requires { ⌜ (g < p .Z) × (many ≡ leb 2 (length (unsealed (segments p (viewOf p (now image) (now pointers)) gone)))) × Seen p (viewOf p (now image) (now pointers)) gone (now kept) g e × (length (now at) ≡ 2048) ⌝ }
+    requires { ⌜
+        (g < p .Z)
+        × (many ≡ leb 2 (length (unsealed (segments p (viewOf p (now image) (now pointers)) gone))))
+        × Seen p (viewOf p (now image) (now pointers)) gone (now kept) g e
+        × (length (now at) ≡ 2048) ⌝ }
     ensures { λ r. ⌜ (faulty p (viewOf p (now (image .entry)) (now (pointers .entry))) gone g ≡ true → r .zone ≡ g) ⌝ }
     ensures { λ r. ⌜
         (faulty p (viewOf p (now (image .entry)) (now (pointers .entry))) gone g ≡ false

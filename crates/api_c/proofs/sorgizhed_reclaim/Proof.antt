@@ -48,7 +48,8 @@ reclaim-requires c κs =
 apply-requires : tie.Need-apply-requires
 apply-requires c κs =
     let if1 = c .before .before .before .before .before .before .before .before .before .before .before .before .before .before .before .before .before .before .before .before .if1 in
-    let state-len = c .before .before .before .before .before .before .before .before .before .before .before .before .before .before .before .before .before .before .before .before .before .state-len in
+    let state-len =
+    c .before .before .before .before .before .before .before .before .before .before .before .before .before .before .before .before .before .before .before .before .before .state-len in
     if1 .left ∙ state-len .ensures
 
 same-length : tie.Need-same-length
@@ -76,7 +77,8 @@ returns-2 c =
     let reclaim′ = c .before .before .before .before .before .before .before .before .before .before .before .before .before .before .reclaim in
     let at = c .before .before .before .before .before .before .before .before .before .before .before .before .before .before .before .before .before in
     let decode = c .before .before .before .before .before .before .before .before .before .before .before .before .before .before .before .before .before .before .before .before .before .decode in
-    let if1 = c .before .before .before .before .before .before .before .before .before .before .before .before .before .before .before .before .before .before .before .before .before .before .before .if1 in
+    let if1 =
+    c .before .before .before .before .before .before .before .before .before .before .before .before .before .before .before .before .before .before .before .before .before .before .before .if1 in
     let a =
     at
     .before .before .before .before .before .before .before .before .before .before .before .before .before .before .args in

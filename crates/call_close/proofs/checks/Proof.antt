@@ -71,7 +71,8 @@ returns-4 c =
     let m : Memory = mkMemory (stateOf (a .bytes .now)) (a .addresses .now) (a .compact .now) (a .inflight .now) in
     let er : inRange (a .p) ≡ true = sym (in-range .ensures) ∙ not-false (in-range .result) (if1 .left) in
     let el : lentOk (a .p) k m ≡ true = sym (lent-ok .ensures (stateOf (a .bytes .now))) ∙ not-false (lent-ok .result) (if2 .left) in
-    let ef : hasFilling (a .p) (stateOf (a .bytes .now)) ≡ false = sym (slot-is (a .p) (stateOf (a .bytes .now)) (a .slot) (pre .0)) ∙ sym (c .before .is-slot .ensures) ∙ not-true (c .before .is-slot .result) (c .if4 .taken) in
+    let st = stateOf (a .bytes .now) in
+    let ef : hasFilling (a .p) st ≡ false = sym (slot-is (a .p) st (a .slot) (pre .0)) ∙ sym (c .before .is-slot .ensures) ∙ not-true (c .before .is-slot .result) (c .if4 .taken) in
     filling-fails (a .p) k m ef ∙ missing-passes (a .p) k m (sym (pre .1) ∙ if3 .left) ∙ lengths-pass (a .p) k m el ∙ range-passes (a .p) k m er
 
 scarce-requires : tie.Need-scarce-requires
@@ -118,7 +119,8 @@ returns-5 c =
     let m : Memory = mkMemory (stateOf (a .bytes .now)) (a .addresses .now) (a .compact .now) (a .inflight .now) in
     let er : inRange (a .p) ≡ true = sym (in-range .ensures) ∙ not-false (in-range .result) (if1 .left) in
     let el : lentOk (a .p) k m ≡ true = sym (lent-ok .ensures (stateOf (a .bytes .now))) ∙ not-false (lent-ok .result) (if2 .left) in
-    let ef : hasFilling (a .p) (stateOf (a .bytes .now)) ≡ true = sym (slot-is (a .p) (stateOf (a .bytes .now)) (a .slot) (pre .0)) ∙ sym (is-slot .ensures) ∙ not-false (is-slot .result) (if4 .left) in
+    let st = stateOf (a .bytes .now) in
+    let ef : hasFilling (a .p) st ≡ true = sym (slot-is (a .p) st (a .slot) (pre .0)) ∙ sym (is-slot .ensures) ∙ not-false (is-slot .result) (if4 .left) in
     let es : scarce (a .p) (viewOf (a .p) (a .image .now) (a .pointers .now)) 1 ≡ true = sym (scarce′ .ensures (a .image .now) (lent-long (a .p) k m el .0)) ∙ c .before .if5 .taken in
     c .scarce-checks .ensures ∙ scarce-last (a .p) k m ef es ∙ missing-passes (a .p) k m (sym (pre .1) ∙ if3 .left) ∙ lengths-pass (a .p) k m el ∙ range-passes (a .p) k m er
 
@@ -146,7 +148,8 @@ returns-6 c =
     let m : Memory = mkMemory (stateOf (a .bytes .now)) (a .addresses .now) (a .compact .now) (a .inflight .now) in
     let er : inRange (a .p) ≡ true = sym (in-range .ensures) ∙ not-false (in-range .result) (if1 .left) in
     let el : lentOk (a .p) k m ≡ true = sym (lent-ok .ensures (stateOf (a .bytes .now))) ∙ not-false (lent-ok .result) (if2 .left) in
-    let ef : hasFilling (a .p) (stateOf (a .bytes .now)) ≡ true = sym (slot-is (a .p) (stateOf (a .bytes .now)) (a .slot) (pre .0)) ∙ sym (is-slot .ensures) ∙ not-false (is-slot .result) (if4 .left) in
+    let st = stateOf (a .bytes .now) in
+    let ef : hasFilling (a .p) st ≡ true = sym (slot-is (a .p) st (a .slot) (pre .0)) ∙ sym (is-slot .ensures) ∙ not-false (is-slot .result) (if4 .left) in
     let es : scarce (a .p) (viewOf (a .p) (a .image .now) (a .pointers .now)) 1 ≡ false = sym (scarce′ .ensures (a .image .now) (lent-long (a .p) k m el .0)) ∙ if5 .left in
     let eo : stateOk (a .p) (stateOf (a .bytes .now)) ≡ false = sym (c .before .state-ok .ensures) ∙ not-true (c .before .state-ok .result) (c .if6 .taken) in
     state-fails (a .p) k m ef es eo ∙ missing-passes (a .p) k m (sym (pre .1) ∙ if3 .left) ∙ lengths-pass (a .p) k m el ∙ range-passes (a .p) k m er
@@ -168,7 +171,8 @@ returns-7 c =
     let m : Memory = mkMemory (stateOf (a .bytes .now)) (a .addresses .now) (a .compact .now) (a .inflight .now) in
     let er : inRange (a .p) ≡ true = sym (in-range .ensures) ∙ not-false (in-range .result) (if1 .left) in
     let el : lentOk (a .p) k m ≡ true = sym (lent-ok .ensures (stateOf (a .bytes .now))) ∙ not-false (lent-ok .result) (if2 .left) in
-    let ef : hasFilling (a .p) (stateOf (a .bytes .now)) ≡ true = sym (slot-is (a .p) (stateOf (a .bytes .now)) (a .slot) (pre .0)) ∙ sym (is-slot .ensures) ∙ not-false (is-slot .result) (if4 .left) in
+    let st = stateOf (a .bytes .now) in
+    let ef : hasFilling (a .p) st ≡ true = sym (slot-is (a .p) st (a .slot) (pre .0)) ∙ sym (is-slot .ensures) ∙ not-false (is-slot .result) (if4 .left) in
     let es : scarce (a .p) (viewOf (a .p) (a .image .now) (a .pointers .now)) 1 ≡ false = sym (scarce′ .ensures (a .image .now) (lent-long (a .p) k m el .0)) ∙ if5 .left in
     let eo : stateOk (a .p) (stateOf (a .bytes .now)) ≡ true = sym (c .before .state-ok .ensures) ∙ not-false (c .before .state-ok .result) (c .if6 .left) in
     state-passes (a .p) k m ef es eo ∙ missing-passes (a .p) k m (sym (pre .1) ∙ if3 .left) ∙ lengths-pass (a .p) k m el ∙ range-passes (a .p) k m er

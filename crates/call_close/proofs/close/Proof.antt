@@ -85,7 +85,7 @@ enum-told : tie.Need-enum-told
 enum-told c = search needs
 
 -- no check holds
-passed : (c : tie.After-enum-told) → refusal (c .before .before .before .before .before .before .before .before .before .before .before .before .args .p) (disk (c .before .before .before .before .before .before .before .before .before .before .before .before)) (memory (c .before .before .before .before .before .before .before .before .before .before .before .before)) ≡ none
+passed : (c : tie.After-enum-told) → refusal (start (c .before .before) .args .p) (disk (start (c .before .before))) (memory (start (c .before .before))) ≡ none
 passed c =
     let at = c .before .before in
     sym (checked-is (at)) ∙ ap checked (c .enum-told .given .1)
@@ -97,7 +97,7 @@ row-at-requires c κs =
     (s .pre .1, slot-low (s .args .p) (s .args .state) (at .filling-slot .result) (slot-of (at)) (ready (s .args .p) (disk s) (memory s) (passed c) .filling))
 
 -- the row is the state's
-row-is : (c : tie.After-row-at) → c .row-at .result ≡ rowOf (c .before .before .before .before .before .before .before .before .before .before .before .before .before .args .state) (c .before .before .before .before .before .filling-slot .result)
+row-is : (c : tie.After-row-at) → c .row-at .result ≡ rowOf (start (c .before .before .before) .args .state) (c .before .before .before .before .before .filling-slot .result)
 row-is c =
     let s = c .before .before .before .before .before .before .before .before .before .before .before .before .before in
     let i = c .before .before .before .before .before .filling-slot .result in

@@ -1,5 +1,4 @@
 -- `scarce_checks`: `left-fails`, `numbers-fail`, `table-fails` close the refusals, `table-passes` the end; what is left the look tells. Assumes nothing.
-use Prim.Native.Nat.{ℕ}
 use Rattle.call_close.specs.Order.{left-fails, numbers-fail, table-fails, table-passes}
 use Rattle.spec.specs.Counts.{neverPlace}
 use Rattle.spec.specs.Drives.{viewOf}

@@ -15,7 +15,7 @@ use Rattle.mem_rows.specs.declared.Change.{Change}
 use Rattle.mem_rows.specs.declared.Front.{Front}
 use borrow.Author.Needs.{needs}
 use lib.Arith.{lt-of-le-ne}
-use mathlib.Core.Path.{_≡_, sym, ap, _∙_, subst}
+use mathlib.Core.Path.{sym, ap, _∙_, subst}
 use native.Mathlib.Omega.{arith}
 use Rattle.call_copy.proofs.send_copy.Statement.{statement}
 use Rattle.call_copy.proofs.send_copy.Tie as tie
@@ -60,10 +60,15 @@ open-requires c κs =
 abbrev after : (c : tie.After-open) → Disk
 after c = mkDisk (c .«open» .last .1 .0) (c .«open» .last .1 .1 .0)
 
+abbrev start : (c : tie.After-open) → tie.Start
+start c =
+    let at = c .before .before .before .before .before .before .before .before .before .before in
+    at
+
 -- and the opening is one of the state
-opened : (c : tie.After-open) → Opening (c .before .before .before .before .before .before .before .before .before .before .args .p) (state (c .before .before .before .before .before .before .before .before .before .before)) (c .before .before .before .before .before .before .before .before .before .before .args .count) (disk (c .before .before .before .before .before .before .before .before .before .before)) (c .«open» .result) (after c)
+opened : (c : tie.After-open) → Opening (start c .args .p) (state (start c)) (start c .args .count) (disk (start c)) (c .«open» .result) (after c)
 opened c =
-    let s = c .before .before .before .before .before .before .before .before .before .before in
+    let s = start c in
     let a = s .args in
     let o = c .«open» in
     opening-front (a .p) (state s) (a .count) (disk s) (o .result) (after c)

@@ -76,6 +76,7 @@ returns-4 c =
     let a = s .args in
     let look = c .before .before .before .look in
     let if3 = c .before .before .before .before .if3 in
+    let gone = sym (s .pre .2) ∙ if3 .left in
     let if2 = c .before .before .before .before .before .if2 in
     let lent-ok = c .before .before .before .before .before .before .lent-ok in
     let if1 = c .before .before .before .before .before .before .before .if1 in
@@ -83,7 +84,7 @@ returns-4 c =
     let k : Disk = mkDisk (a .image .now) (a .pointers .now) in
     let m : Memory = mkMemory (stateOf (a .bytes .now)) (a .addresses .now) (a .compact .now) (a .inflight .now) in
     let v = viewOf (a .p) (a .image .now) (a .pointers .now) in
-    front-passes (a .p) k m (sym (in-range .ensures) ∙ not-false (in-range .result) (if1 .left)) (sym (lent-ok .ensures (stateOf (a .bytes .now))) ∙ not-false (lent-ok .result) (if2 .left)) (sym (s .pre .2) ∙ if3 .left)
+    front-passes (a .p) k m (sym (in-range .ensures) ∙ not-false (in-range .result) (if1 .left)) (sym (lent-ok .ensures (m .state)) ∙ not-false (lent-ok .result) (if2 .left)) gone
     ∙ nobody-fails (a .p) v (stateOf (a .bytes .now)) (a .addresses .now) (victim (a .p) v (a .addresses .now)) (look .ensures .nobody ∙ le-leb (a .p .Z) (look .result .segment) (c .if4 .taken))
 
 choose-copy-requires : tie.Need-choose-copy-requires
@@ -109,6 +110,7 @@ returns-5 c =
     let s = c .before .before .before .before .before .before .before .before .before .before .before .before .before .before .before .before .before .before in
     let a = s .args in
     let if3 = c .before .before .before .before .before .before .before .if3 in
+    let gone = sym (s .pre .2) ∙ if3 .left in
     let if2 = c .before .before .before .before .before .before .before .before .if2 in
     let lent-ok = c .before .before .before .before .before .before .before .before .before .lent-ok in
     let if1 = c .before .before .before .before .before .before .before .before .before .before .if1 in
@@ -116,7 +118,7 @@ returns-5 c =
     let k : Disk = mkDisk (a .image .now) (a .pointers .now) in
     let m : Memory = mkMemory (stateOf (a .bytes .now)) (a .addresses .now) (a .compact .now) (a .inflight .now) in
     let v = viewOf (a .p) (a .image .now) (a .pointers .now) in
-    let f = front-passes (a .p) k m (sym (in-range .ensures) ∙ not-false (in-range .result) (if1 .left)) (sym (lent-ok .ensures (stateOf (a .bytes .now))) ∙ not-false (lent-ok .result) (if2 .left)) (sym (s .pre .2) ∙ if3 .left) in
+    let f = front-passes (a .p) k m (sym (in-range .ensures) ∙ not-false (in-range .result) (if1 .left)) (sym (lent-ok .ensures (m .state)) ∙ not-false (lent-ok .result) (if2 .left)) gone in
     subst (λ (x : Opt Answer). Chose (a .p) v (stateOf (a .bytes .now)) (victim (a .p) v (a .addresses .now)) x (c .choose-copy .result)) (sym f) (c .choose-copy .ensures)
 
 has-fault-requires : tie.Need-has-fault-requires
@@ -141,6 +143,7 @@ returns-6 c =
     let if4 = c .before .before .before .before .if4 in
     let look = c .before .before .before .before .before .before .before .look in
     let if3 = c .before .before .before .before .before .before .before .before .if3 in
+    let gone = sym (s .pre .2) ∙ if3 .left in
     let if2 = c .before .before .before .before .before .before .before .before .before .if2 in
     let lent-ok = c .before .before .before .before .before .before .before .before .before .before .lent-ok in
     let if1 = c .before .before .before .before .before .before .before .before .before .before .before .if1 in
@@ -150,7 +153,7 @@ returns-6 c =
     let v = viewOf (a .p) (a .image .now) (a .pointers .now) in
     let w : Opt Victim = victim (a .p) v (a .addresses .now) in
     let g = look .ensures in
-    front-passes (a .p) k m (sym (in-range .ensures) ∙ not-false (in-range .result) (if1 .left)) (sym (lent-ok .ensures (stateOf (a .bytes .now))) ∙ not-false (lent-ok .result) (if2 .left)) (sym (s .pre .2) ∙ if3 .left)
+    front-passes (a .p) k m (sym (in-range .ensures) ∙ not-false (in-range .result) (if1 .left)) (sym (lent-ok .ensures (m .state)) ∙ not-false (lent-ok .result) (if2 .left)) gone
     ∙ dead-checks (a .p) v (stateOf (a .bytes .now)) (a .addresses .now) w (g .nobody ∙ lt-leb (a .p .Z) (look .result .segment) (omega (arith, if4 .left)))
     (length-nil (victimLive w) (omega (arith, g .live, if5 .left)))
     ∙ c .before .has-fault .ensures [] ∙ ap (λ (x : Bool). cond x (some (BadZone 0)) (firstRefusal (zones [] ∷ []))) (c .if6 .taken)
@@ -163,6 +166,7 @@ returns-7 c =
     let if4 = c .before .before .before .before .if4 in
     let look = c .before .before .before .before .before .before .before .look in
     let if3 = c .before .before .before .before .before .before .before .before .if3 in
+    let gone = sym (s .pre .2) ∙ if3 .left in
     let if2 = c .before .before .before .before .before .before .before .before .before .if2 in
     let lent-ok = c .before .before .before .before .before .before .before .before .before .before .lent-ok in
     let if1 = c .before .before .before .before .before .before .before .before .before .before .before .if1 in
@@ -174,7 +178,7 @@ returns-7 c =
     let g = look .ensures in
     let h : look .result .segment < a .p .Z = omega (arith, if4 .left) in
     let d = length-nil (victimLive w) (omega (arith, g .live, if5 .left)) in (
-      front-passes (a .p) k m (sym (in-range .ensures) ∙ not-false (in-range .result) (if1 .left)) (sym (lent-ok .ensures (stateOf (a .bytes .now))) ∙ not-false (lent-ok .result) (if2 .left)) (sym (s .pre .2) ∙ if3 .left)
+      front-passes (a .p) k m (sym (in-range .ensures) ∙ not-false (in-range .result) (if1 .left)) (sym (lent-ok .ensures (m .state)) ∙ not-false (lent-ok .result) (if2 .left)) gone
           ∙ dead-checks (a .p) v (stateOf (a .bytes .now)) (a .addresses .now) w (g .nobody ∙ lt-leb (a .p .Z) (look .result .segment) h) d
           ∙ c .before .has-fault .ensures [] ∙ ap (λ (x : Bool). cond x (some (BadZone 0)) (firstRefusal (zones [] ∷ []))) (c .if6 .left) ∙ no-zones,
       d,

@@ -56,7 +56,8 @@ returns-2 c =
     let l = pre .1 .1 .1 in
     let k = l .0 in
     let q = c .before .c .given in
-    let e : firstRefusal (copyRules (a .p) v (stateOf (a .bytes .now))) ≡ some (q .0 .0) = sym (copy-rules .ensures (stateOf (a .bytes .now)) (a .image .now) (pre .1 .1 .0 .1) (pre .1 .0 .image-long)) ∙ ap checked (q .1) in
+    let st = stateOf (a .bytes .now) in
+    let e : firstRefusal (copyRules (a .p) v st) ≡ some (q .0 .0) = sym (copy-rules .ensures st (a .image .now) (pre .1 .1 .0 .1) (pre .1 .0 .image-long)) ∙ ap checked (q .1) in
     idle-passes (a .p) v (stateOf (a .bytes .now)) tb (victim (a .p) v tb) (k .nobody ∙ lt-leb (a .p .Z) (a .seen .segment) (l .1))
     (length-some (victimLive (victim (a .p) v tb)) (subst (λ (x : ℕ). 0 < x) (sym (k .live)) (l .2)))
     (k .none-idle ∙ ne-eqb (a .seen .first .0) neverPlace (if1 .left))
@@ -83,7 +84,8 @@ returns-3 c =
     let l = pre .1 .1 .1 in
     let k = l .0 in
     let w : Opt Victim = victim (a .p) v tb in
-    let e : firstRefusal (copyRules (a .p) v (stateOf (a .bytes .now))) ≡ none = sym (copy-rules .ensures (stateOf (a .bytes .now)) (a .image .now) (pre .1 .1 .0 .1) (pre .1 .0 .image-long)) ∙ ap checked (enum-told .given .1) in
+    let st = stateOf (a .bytes .now) in
+    let e : firstRefusal (copyRules (a .p) v st) ≡ none = sym (copy-rules .ensures st (a .image .now) (pre .1 .1 .0 .1) (pre .1 .0 .image-long)) ∙ ap checked (enum-told .given .1) in
     idle-passes (a .p) v (stateOf (a .bytes .now)) tb w (k .nobody ∙ lt-leb (a .p .Z) (a .seen .segment) (l .1)) (length-some (victimLive w) (subst (λ (x : ℕ). 0 < x) (sym (k .live)) (l .2)))
     (k .none-idle ∙ ne-eqb (a .seen .first .0) neverPlace (if1 .left))
     ∙ ap (λ (x : Opt Answer). orNext x (firstRefusal (zones (badZones (a .p) (stateOf (a .bytes .now)) tb w) ∷ []))) e
@@ -103,7 +105,8 @@ returns-4 c =
     let l = pre .1 .1 .1 in
     let k = l .0 in
     let w : Opt Victim = victim (a .p) v tb in
-    let e : firstRefusal (copyRules (a .p) v (stateOf (a .bytes .now))) ≡ none = sym (copy-rules .ensures (stateOf (a .bytes .now)) (a .image .now) (pre .1 .1 .0 .1) (pre .1 .0 .image-long)) ∙ ap checked (enum-told .given .1) in
+    let st = stateOf (a .bytes .now) in
+    let e : firstRefusal (copyRules (a .p) v st) ≡ none = sym (copy-rules .ensures st (a .image .now) (pre .1 .1 .0 .1) (pre .1 .0 .image-long)) ∙ ap checked (enum-told .given .1) in
     idle-passes (a .p) v (stateOf (a .bytes .now)) tb w (k .nobody ∙ lt-leb (a .p .Z) (a .seen .segment) (l .1)) (length-some (victimLive w) (subst (λ (x : ℕ). 0 < x) (sym (k .live)) (l .2)))
     (k .none-idle ∙ ne-eqb (a .seen .first .0) neverPlace (if1 .left))
     ∙ ap (λ (x : Opt Answer). orNext x (firstRefusal (zones (badZones (a .p) (stateOf (a .bytes .now)) tb w) ∷ []))) e
@@ -125,7 +128,8 @@ returns-5 c =
     let w : Opt Victim = victim (a .p) v tb in
     let n = if1 .left in
     let d = length-some (victimLive w) (subst (λ (x : ℕ). 0 < x) (sym (k .live)) (l .2)) in
-    let e : firstRefusal (copyRules (a .p) v (stateOf (a .bytes .now))) ≡ none = sym (copy-rules .ensures (stateOf (a .bytes .now)) (a .image .now) (pre .1 .1 .0 .1) (pre .1 .0 .image-long)) ∙ ap checked (enum-told .given .1) in
+    let st = stateOf (a .bytes .now) in
+    let e : firstRefusal (copyRules (a .p) v st) ≡ none = sym (copy-rules .ensures st (a .image .now) (pre .1 .1 .0 .1) (pre .1 .0 .image-long)) ∙ ap checked (enum-told .given .1) in
     let g = k .found n in (
       idle-passes (a .p) v (stateOf (a .bytes .now)) tb w (k .nobody ∙ lt-leb (a .p .Z) (a .seen .segment) (l .1)) d (k .none-idle ∙ ne-eqb (a .seen .first .0) neverPlace n)
           ∙ ap (λ (x : Opt Answer). orNext x (firstRefusal (zones (badZones (a .p) (stateOf (a .bytes .now)) tb w) ∷ []))) e

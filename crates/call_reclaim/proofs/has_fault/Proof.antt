@@ -25,7 +25,8 @@ returns-2 c =
     let o = c .before .before .before .before in
     let a = o .args in
     let tb = a .addresses .now in
-    let faults = outside-told (a .p) (ranged (a .p) (o .pre .0)) tb (omega (arith, o .pre .1 .0)) (λ i. omega (arith, c .before .before .before .shared-slice-known .given i)) (a .outside) (o .pre .1 .1) in
+    let known = c .before .before .before .shared-slice-known in
+    let faults = outside-told (a .p) (ranged (a .p) (o .pre .0)) tb (omega (arith, o .pre .1 .0)) (λ i. omega (arith, known .given i)) (a .outside) (o .pre .1 .1) in
     λ zs. fault-table (a .p) (stateOf (a .bytes .now)) tb zs (sym (c .before .state-ok .ensures) ∙ not-false (c .before .state-ok .result) (c .if1 .left)) (a .outside) faults
 
 pub has-fault-spec : {M : Type 1} → statement M

@@ -31,7 +31,10 @@ abbrev memory : (c : tie.Start) → State → Memory
 memory c st = mkMemory st (c .args .addresses .now) (c .args .compact .now) (c .args .inflight .now)
 
 -- the aim is the state's
-aimed : (c : tie.After-aim-of) → c .aim-of .result ≡ aimOf (c .before .before .before .before .before .before .before .before .args .p) (c .before .before .before .before .before .before .before .before .args .state)
+aimed :
+    (c : tie.After-aim-of)
+    → c .aim-of .result ≡ aimOf (c .before .before .before .before .before .before .before .before .args .p)
+    (c .before .before .before .before .before .before .before .before .args .state)
 aimed c =
     let a = c .before .before .before .before .before .before .before .before .args in
     c .aim-of .ensures ∙ front-aim (a .p) (a .state) (c .before .front-of .result) (c .before .front-of .ensures)

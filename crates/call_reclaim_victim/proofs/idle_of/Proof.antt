@@ -45,11 +45,12 @@ returns-2 c =
     let p = a .p in
     let v = viewOf p (a .image .now) (a .pointers .now) in
     let tb = a .addresses .now in
+    let st = stateOf (a .bytes .now) in
     let n = places .result in
     let s = places .ensures .0 in
     let h : p .N * p .Z * capacity p ≤ 8 * length (a .marks .now) = omega (arith, s, if1 .left) in
-    waiting-at p v (stateOf (a .bytes .now)) tb (a .g) n (p .N * p .Z * capacity p) (c .idle-zones .result) s
-    (c .idle-zones .ensures tb (λ q x y. pre .1 .1 .1 h q x (omega (arith, y, s))) (waiting-none p v (stateOf (a .bytes .now)) tb (a .g) (record { first = record { 0 = 4294967295 }; odd = false }) refl refl))
+    waiting-at p v st tb (a .g) n (p .N * p .Z * capacity p) (c .idle-zones .result) s
+    (c .idle-zones .ensures tb (λ q x y. pre .1 .1 .1 h q x (omega (arith, y, s))) (waiting-none p v st tb (a .g) (record { first = record { 0 = 4294967295 }; odd = false }) refl refl))
 
 pub idle-of-spec : {M : Type 1} → statement M
 idle-of-spec =

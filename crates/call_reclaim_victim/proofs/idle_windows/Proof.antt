@@ -96,7 +96,8 @@ returns c =
     let places = c .before .before .places in
     let s = places .ensures .0 in
     let f : l .first ≡ places .result = omega (arith, l .inv .0, c .loop-test .left) in
-    waiting-at (a .p) (viewOf (a .p) (a .image .now) (a .pointers .now)) (stateOf (a .bytes .now)) (a .addresses .now) (a .g) (l .first) (a .p .N * a .p .Z * capacity (a .p)) (l .found) (f ∙ s) (l .inv .2)
+    let st = stateOf (a .bytes .now) in
+    waiting-at (a .p) (viewOf (a .p) (a .image .now) (a .pointers .now)) st (a .addresses .now) (a .g) (l .first) (a .p .N * a .p .Z * capacity (a .p)) (l .found) (f ∙ s) (l .inv .2)
 
 pub idle-windows-spec : {M : Type 1} → statement M
 idle-windows-spec =

@@ -57,7 +57,8 @@ returns c =
     let p = a .p in
     let tb = a .addresses .now in
     let w = pre .1 .0 in
-    looked-none p (viewOf p (a .image .now) (a .pointers .now)) tb (stateOf (a .bytes .now)) (fewest′ .result) (fewest′ .ensures .0 (a .image .now) tb (w .image-long) (count-windows .ensures .0)) (c .if1 .taken)
+    let st = stateOf (a .bytes .now) in
+    looked-none p (viewOf p (a .image .now) (a .pointers .now)) tb st (fewest′ .result) (fewest′ .ensures .0 (a .image .now) tb (w .image-long) (count-windows .ensures .0)) (c .if1 .taken)
     (record { segment = fewest′ .result; live = 0; first = record { 0 = 4294967295 }; odd = false; outside = false }) refl refl refl refl
 
 mul-n : tie.Need-mul-n
